@@ -1,0 +1,64 @@
+-- What demand 3 says of a frame and of what arrives of it: the bits in the order sent, those that were changed, and which changes the check
+-- is to catch. Assumes nothing.
+use mathlib.Core.Path.{_≡_}
+use mathlib.Core.Logic.{_⊎_}
+use mathlib.Core.Bool.{Bool, true, false, xor}
+use mathlib.Core.List.{List, [], _∷_, _++_}
+use Prim.Native.Nat.{ℕ, zero, suc, _+_, _/_, _%_, _≤_, _<_}
+use lib.Dec.{T, eqb, ltb}
+use lib.ListN.{length}
+use lib.Pow.{areBytes}
+use Rattle.check_value.specs.Check.{bitsOfByte}
+
+-- "one, two or three bits changed"
+abbrev pub fewBits : ℕ
+fewBits = 3
+
+-- "within one run of sixteen"
+abbrev pub runBits : ℕ
+runBits = 16
+
+-- the lowest bits of a number, "least significant bit first"
+unfoldable pub lowBits : ℕ → ℕ → List Bool
+lowBits zero n = []
+lowBits (suc count) n = eqb (n % 2) 1 ∷ lowBits count (n / 2)
+
+-- "On the wire each byte goes least significant bit first": the bits of a frame in the order sent
+unfoldable pub wire : List ℕ → List Bool
+unfolding lowBits
+wire [] = []
+wire (byte ∷ bytes) = lowBits bitsOfByte byte ++ wire bytes
+
+abbrev pub consIf : Bool → ℕ → List ℕ → List ℕ
+consIf true place places = place ∷ places
+consIf false place places = places
+
+-- the places at which two lists of bits differ, the first bit of each being at the given place
+unfoldable pub differing : ℕ → List Bool → List Bool → List ℕ
+unfolding xor
+differing place [] received = []
+differing place (a ∷ sent) [] = []
+differing place (a ∷ sent) (b ∷ received) = consIf (xor a b) place (differing (suc place) sent received)
+
+-- the places, in the order sent and counted from 0, of the bits that were changed
+unfoldable pub changed : List ℕ → List ℕ → List ℕ
+unfolding wire differing
+changed sent received = differing 0 (wire sent) (wire received)
+
+-- each of the places is one of the sixteen from the first on
+unfoldable pub allWithin : ℕ → List ℕ → Type 0
+allWithin first [] = Unit {0}
+allWithin first (place ∷ places) = (first ≤ place) × (place < first + runBits) × allWithin first places
+
+-- "within one run of sixteen in the order sent"
+unfoldable pub WithinOneRun : List ℕ → Type 0
+unfolding allWithin
+WithinOneRun places = (first : ℕ) × allWithin first places
+
+-- "its length kept, that has one, two or three bits changed, or any number, at least one, within one run of sixteen in the order sent"
+pub record Damaged (sent received : List ℕ) : Type 0 where
+  pub sentBytes : T (areBytes sent)
+  pub receivedBytes : T (areBytes received)
+  pub sameLength : length received ≡ length sent
+  pub atLeastOne : 1 ≤ length (changed sent received)
+  pub fewOrOneRun : (length (changed sent received) ≤ fewBits) ⊎ WithinOneRun (changed sent received)

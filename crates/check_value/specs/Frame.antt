@@ -1,0 +1,44 @@
+-- 01, "The check value": where a frame holds its check, a frame that passes, and the sealing of a reply. Assumes nothing.
+use Prim.Native.Nat.{ℕ, _+_, _-_, _*_, _/_, _%_}
+use mathlib.Core.Bool.{Bool, true, false, _&&_}
+use mathlib.Core.List.{List, []}
+use lib.Dec.{leb, eqb}
+use lib.ListN.{length, take, set}
+use Rattle.words.specs.Words.{byteAt, pickList}
+use Rattle.check_value.specs.Check.{valueOf}
+
+-- "4 to 100 bytes"
+abbrev pub shortest : ℕ
+shortest = 4
+
+abbrev pub longest : ℕ
+longest = 100
+
+-- "the last two, which hold it"
+abbrev pub checkBytes : ℕ
+checkBytes = 2
+
+-- "It covers all bytes but the last two"
+abbrev pub covered : List ℕ → List ℕ
+covered frame = take (length frame - checkBytes) frame
+
+-- ".. which hold it, low byte first"
+abbrev pub held : List ℕ → ℕ
+held frame = byteAt frame (length frame - 1) * 256 + byteAt frame (length frame - checkBytes)
+
+abbrev pub lengthPasses : List ℕ → Bool
+lengthPasses frame = leb shortest (length frame) && leb (length frame) longest
+
+abbrev pub checkAgrees : List ℕ → Bool
+checkAgrees frame = eqb (valueOf (covered frame)) (held frame)
+
+-- "A frame passes if it has 4 to 100 bytes and the value agrees."
+unfoldable pub passes : List ℕ → Bool
+passes frame = lengthPasses frame && checkAgrees frame
+
+-- a buffer whose first bytes are followed by their check, low byte first; a buffer without room for it stays as it is
+unfoldable pub sealed : List ℕ → ℕ → List ℕ
+sealed buffer n =
+    pickList (leb (n + checkBytes) (length buffer))
+    (set (set buffer n (valueOf (take n buffer) % 256)) (n + 1) (valueOf (take n buffer) / 256))
+    buffer

@@ -1,0 +1,91 @@
+// The check value of document 01, as a running state that takes one byte after another.
+ghost use mathlib.Core.Path.{_≡_};
+ghost use denote.Ref.{now};
+ghost use Rattle.check_value.specs.Check.{startState, bitsOfByte, shiftedTimes, taken, valueOf, checkAt};
+ghost use Rattle.check_value.specs.Frame.{passes, sealed};
+
+mod table;
+
+// The running state.
+pub struct Check {
+    pub state: u16,
+}
+
+// What eight shifts make of a state that is below 256. The one function that knows the table.
+fn eight_shifts(low: u8) -> u16
+    ensures { λ r. ⌜ r ≡ shiftedTimes bitsOfByte low ⌝ }
+{
+    let shifted = &table::SHIFTED;
+    shifted[low as usize]
+}
+
+impl Check {
+    // The state before any byte.
+    pub fn start() -> Check
+        ensures { λ r. ⌜ r ≡ checkAt startState ⌝ }
+    {
+        Check { state: 0xFFFF }
+    }
+
+    // The state after one byte more.
+    pub fn take(self, byte: u8) -> Check
+        ensures { λ r. ⌜ r ≡ checkAt (taken (self .state) byte) ⌝ }
+    {
+        let mixed = self.state ^ (byte as u16);
+        let low = (mixed % 256) as u8;
+        Check {
+            state: (mixed / 256) ^ eight_shifts(low),
+        }
+    }
+
+    // The check value of the bytes taken so far.
+    pub fn value(self) -> u16
+        ensures { λ r. ⌜ r ≡ self .state ⌝ }
+    {
+        self.state
+    }
+}
+
+// The check value of a whole slice.
+pub fn value_of(bytes: &[u8]) -> u16
+    ensures { λ r. ⌜ r ≡ valueOf (now (bytes .entry)) ⌝ }
+{
+    let mut check = Check::start();
+    let mut at = 0;
+    while at < bytes.len() {
+        check = check.take(bytes[at]);
+        at += 1;
+    }
+    check.value()
+}
+
+// Whether a frame passes: 4 to 100 bytes, and the last two hold the check of those before them, low byte first.
+pub fn passes(frame: &[u8]) -> bool
+    ensures { λ r. ⌜ r ≡ passes (now (frame .entry)) ⌝ }
+{
+    let n = frame.len();
+    if n < 4 {
+        return false;
+    }
+    if 100 < n {
+        return false;
+    }
+    let body = n - 2;
+    let value = value_of(&frame[..body]);
+    value == words::byte_at(frame, n - 1) as u16 * 256 + words::byte_at(frame, body) as u16
+}
+
+// Puts behind the first n bytes of a buffer their check, low byte first; without room for it the buffer stays as it is.
+pub fn seal(buffer: &mut [u8], n: usize)
+    ensures { λ _. ⌜ now (buffer .exit) ≡ sealed (now (buffer .entry)) n ⌝ }
+{
+    if buffer.len() < 2 {
+        return;
+    }
+    if buffer.len() - 2 < n {
+        return;
+    }
+    let value = value_of(&buffer[..n]);
+    buffer[n] = (value % 256) as u8;
+    buffer[n + 1] = (value / 256) as u8;
+}
