@@ -1,3 +1,4 @@
 pub mod Check
 pub mod Frame
 pub mod Damage
+pub mod Ones

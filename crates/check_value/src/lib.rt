@@ -4,19 +4,20 @@ ghost use denote.Ref.{now};
 ghost use Rattle.check_value.specs.Check.{startState, bitsOfByte, shiftedTimes, taken, valueOf, checkAt};
 ghost use Rattle.check_value.specs.Frame.{passes, sealed};
 
-mod table;
-
 // The running state.
 pub struct Check {
     pub state: u16,
 }
 
-// What eight shifts make of a state that is below 256. The one function that knows the table.
+// What eight shifts make of a state that is below 256. The one function that knows how a byte is shifted out: for this polynomial
+// the byte itself at bits 6 and 7 and, where it has an odd number of ones, C001. That is cheaper here than a table of the 256
+// results, which the back end would build on the stack at each call.
 fn eight_shifts(low: u8) -> u16
     ensures { λ r. ⌜ r ≡ shiftedTimes bitsOfByte low ⌝ }
 {
-    let shifted = &table::SHIFTED;
-    shifted[low as usize]
+    let byte = low as u16;
+    let odd = (u8::count_ones(low) % 2) as u16;
+    byte * 64 ^ byte * 128 ^ odd * 0xC001
 }
 
 impl Check {

@@ -62,6 +62,7 @@ word-same bytes at word inside =
     first =
         getD-set-other (set bytes at (upper word)) (at + 1) at (lower word) 0 (λ e. omega arith)
         ∙ getD-set-same bytes at (upper word) 0 (omega arith)
+
     second : getD (set (set bytes at (upper word)) (at + 1) (lower word)) (at + 1) 0 ≡ lower word
     second =
         getD-set-same (set bytes at (upper word)) (at + 1) (lower word) 0 (simp length-set (omega arith))

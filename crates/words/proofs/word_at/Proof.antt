@@ -16,8 +16,11 @@ returns : tie.Need-returns
 unfolding wordAt
 returns c =
     let a = c .before .args in
-    omega (arith, List·getD-eq-default (now (a .bytes)) 0 {n = a .at} (omega arith),
-    List·getD-eq-default (now (a .bytes)) 0 {n = a .at + 1} (omega arith))
+    omega (
+      arith,
+      List·getD-eq-default (now (a .bytes)) 0 {n = a .at} (omega arith),
+      List·getD-eq-default (now (a .bytes)) 0 {n = a .at + 1} (omega arith),
+    )
 
 -- src/lib.rt:20:17
 shared-slice-read-upper : tie.Need-shared-slice-read-upper

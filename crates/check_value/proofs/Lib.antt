@@ -1,0 +1,10 @@
+pub mod Xor
+pub mod Shift
+pub mod Entries
+pub mod Running
+pub mod Zero
+pub mod Ones
+pub mod Wire
+pub mod Damage
+pub mod Witness
+pub mod Determined
