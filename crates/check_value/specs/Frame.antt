@@ -1,10 +1,10 @@
 -- 01, "The check value": where a frame holds its check, a frame that passes, and the sealing of a reply. Assumes nothing.
 use Prim.Native.Nat.{ℕ, _+_, _-_, _*_, _/_, _%_}
-use mathlib.Core.Bool.{Bool, true, false, _&&_}
+use mathlib.Core.Bool.{Bool, true, false, _&&_, cond}
 use mathlib.Core.List.{List, []}
 use lib.Dec.{leb, eqb}
 use lib.ListN.{length, take, set}
-use Rattle.words.specs.Words.{byteAt, pickList}
+use Rattle.words.specs.Words.{byteAt}
 use Rattle.check_value.specs.Check.{valueOf}
 
 -- "4 to 100 bytes"
@@ -39,6 +39,6 @@ passes frame = lengthPasses frame && checkAgrees frame
 -- a buffer whose first bytes are followed by their check, low byte first; a buffer without room for it stays as it is
 unfoldable pub sealed : List ℕ → ℕ → List ℕ
 sealed buffer n =
-    pickList (leb (n + checkBytes) (length buffer))
+    cond (leb (n + checkBytes) (length buffer))
     (set (set buffer n (valueOf (take n buffer) % 256)) (n + 1) (valueOf (take n buffer) / 256))
     buffer

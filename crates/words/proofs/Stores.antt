@@ -1,6 +1,6 @@
 -- A stored word reads back where it fits, and elsewhere nothing changes. Assumes nothing.
 use mathlib.Core.Path.{_≡_, refl, sym, ap, ap₂, _∙_}
-use mathlib.Core.Bool.{Bool, true, false}
+use mathlib.Core.Bool.{Bool, true, false, cond}
 use mathlib.Core.List.{List}
 use Prim.Native.Nat.{ℕ, _+_, _*_, _/_, _%_, _≤_, _<_}
 use native.Mathlib.Omega.{arith}
@@ -9,7 +9,7 @@ use lib.Dec.{ltb}
 use lib.ListN.{length, getD, set, length-set}
 use lib.Seq.{getD-set-same, getD-set-other, set-out}
 use borrow.Author.Tests.{lt-ltb, le-ltb, ltb-true}
-use Rattle.words.specs.Words.{byteAt, wordAt, withByte, withWord, upper, lower, pickList}
+use Rattle.words.specs.Words.{byteAt, wordAt, withByte, withWord, upper, lower}
 
 pub byte-length : (bytes : List ℕ) (at byte : ℕ) → length (withByte bytes at byte) ≡ length bytes
 byte-length bytes at byte = length-set bytes at byte
@@ -37,7 +37,7 @@ pub word-length : (bytes : List ℕ) (at word : ℕ) → length (withWord bytes 
 unfolding withWord
 word-length bytes at word = go (ltb (at + 1) (length bytes))
   where
-    go : (fits : Bool) → length (pickList fits (set (set bytes at (upper word)) (at + 1) (lower word)) bytes) ≡ length bytes
+    go : (fits : Bool) → length (cond fits (set (set bytes at (upper word)) (at + 1) (lower word)) bytes) ≡ length bytes
     go true = simp length-set
     go false = refl
 
@@ -46,7 +46,7 @@ pub word-byte-other : (bytes : List ℕ) (at word k : ℕ) → (k ≡ at → ⊥
 unfolding withWord
 word-byte-other bytes at word k first second = go (ltb (at + 1) (length bytes))
   where
-    go : (fits : Bool) → getD (pickList fits (set (set bytes at (upper word)) (at + 1) (lower word)) bytes) k 0 ≡ getD bytes k 0
+    go : (fits : Bool) → getD (cond fits (set (set bytes at (upper word)) (at + 1) (lower word)) bytes) k 0 ≡ getD bytes k 0
     go true =
         getD-set-other (set bytes at (upper word)) (at + 1) k (lower word) 0 second
         ∙ getD-set-other bytes at k (upper word) 0 first

@@ -1,7 +1,7 @@
 -- Bytes and sixteen-bit words of a list of bytes, each total. 01, "The sheet": "16-bit words, two bytes each, upper byte first".
 -- A read past the end gives 0; a store that does not fit changes nothing. Assumes nothing.
 use Prim.Native.Nat.{ℕ, _+_, _*_, _/_, _%_}
-use mathlib.Core.Bool.{Bool, true, false}
+use mathlib.Core.Bool.{Bool, true, false, cond}
 use mathlib.Core.List.{List}
 use lib.Dec.{ltb}
 use lib.ListN.{length, getD, set}
@@ -25,11 +25,7 @@ wordAt bytes at = byteAt bytes at * 256 + byteAt bytes (at + 1)
 abbrev pub withByte : List ℕ → ℕ → ℕ → List ℕ
 withByte bytes at byte = set bytes at byte
 
-abbrev pub pickList : Bool → List ℕ → List ℕ → List ℕ
-pickList true stored kept = stored
-pickList false stored kept = kept
-
 -- the bytes with another word at a place, upper byte first; where one of its two bytes lies past the end they stay as they are
 unfoldable pub withWord : List ℕ → ℕ → ℕ → List ℕ
 withWord bytes at word =
-    pickList (ltb (at + 1) (length bytes)) (set (set bytes at (upper word)) (at + 1) (lower word)) bytes
+    cond (ltb (at + 1) (length bytes)) (set (set bytes at (upper word)) (at + 1) (lower word)) bytes

@@ -1,0 +1,28 @@
+-- `bank::post_words::is_read_only` meets its contract, case by case.
+-- Assumes nothing.
+use mathlib.Core.Path.{ap, sym}
+use Rattle.bank.specs.Bank.{isReadOnly}
+use borrow.Author.Needs.{needs}
+use Rattle.bank.proofs.post_words.is_read_only.Statement.{statement}
+use Rattle.bank.proofs.post_words.is_read_only.Tie as tie
+use Rattle.bank.proofs.post_words.is_read_only.Reads as reads
+use Rattle.bank.proofs.post_words.is_read_only.Lts as lts
+
+-- src/post_words.rt:17:30
+enum-known-lies : tie.Need-enum-known-lies
+enum-known-lies c = search needs
+
+-- src/post_words.rt:18:26
+enum-told : tie.Need-enum-told
+enum-told c = search needs
+
+-- src/post_words.rt:13:1
+returns : tie.Need-returns
+returns c = ap isReadOnly (sym (c .before .lies .given .1))
+
+-- src/post_words.rt:13:1
+returns-2 : tie.Need-returns-2
+returns-2 c = search needs
+
+pub is-read-only-spec : {M : Type 1} → statement M
+is-read-only-spec = tie.close (tie.spec enum-known-lies enum-told returns returns-2)

@@ -1,0 +1,4 @@
+pub mod Stores
+pub mod Bank
+pub mod Cases
+pub mod Calls

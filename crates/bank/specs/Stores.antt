@@ -1,0 +1,18 @@
+-- The effect of a call on a bank: a list of stores, applied in order. Assumes nothing.
+use Prim.Native.Nat.{ℕ, _*_}
+use mathlib.Core.List.{List, [], _∷_}
+use Rattle.words.specs.Words.{wordAt, withWord}
+
+-- "B words, then one word": the word at a place, "two bytes each, upper byte first"
+abbrev pub wordOf : List ℕ → ℕ → ℕ
+wordOf bank place = wordAt bank (2 * place)
+
+-- a word that is stored at a place
+pub record Store : Type 0 where
+  pub place : ℕ
+  pub word : ℕ
+
+-- the bank after stores, the first one first
+unfoldable pub stored : List ℕ → List Store → List ℕ
+stored bank [] = bank
+stored bank (store ∷ stores) = stored (withWord bank (2 * store .place) (store .word)) stores

@@ -1,0 +1,125 @@
+// The bank: the lent bytes that hold a meter's settings and readings, and the calls by which the firmware itself changes them.
+ghost use mathlib.Core.Path.{_≡_};
+ghost use Rattle.bank.specs.Stores.{wordOf};
+ghost use Rattle.bank.specs.Bank.{valueBy, fits, bankSound};
+ghost use Rattle.bank.specs.Calls.{checkAnswer, freshOutcome, postOutcome, markOutcome, outcome};
+use sheet::Item;
+use sheet::SheetJudged;
+
+mod fresh_words;
+mod post_words;
+
+// What a call on a bank answers.
+pub enum Answer {
+    Done,
+    SheetBreaksRule,
+    BankMisfits,
+    BankNotSound,
+    NotReadOnly,
+    BadInput,
+}
+
+// The value of an item: its word, or for a pair both, upper word first.
+pub fn value_in(bank: &[u8], item: Item) -> u32
+    ensures { λ r. ⌜ r ≡ valueBy (wordOf (now (bank .entry))) item ⌝ }
+{
+    let at = 2 * (item.place as usize);
+    let word = words::word_at(bank, at) as u32;
+    if item.kind != 2 {
+        return word;
+    }
+    word * 65536 + words::word_at(bank, at + 2) as u32
+}
+
+// Whether a bank is sound: each item in its range, and the mark 0 or 1.
+fn sound(sheet: &[u8], bank: &[u8]) -> bool
+    ensures { λ r. ⌜ r ≡ bankSound (now (sheet .entry)) (now (bank .entry)) ⌝ }
+{
+    let count = sheet::item_count(sheet);
+    let mut k = 0;
+    while k < count {
+        let item = sheet::item_at(sheet, k);
+        if !range::in_range(item.kind, item.low, item.high, value_in(bank, item)) {
+            return false;
+        }
+        k += 1;
+    }
+    words::word_at(bank, 2 * (sheet::bank_words(sheet) as usize)) <= 1
+}
+
+// Whether a bank has 2B + 2 bytes.
+fn fits(sheet: &[u8], bank: &[u8]) -> bool
+    ensures { λ r. ⌜ r ≡ fits (now (sheet .entry)) (now (bank .entry)) ⌝ }
+{
+    bank.len() == 2 * (sheet::bank_words(sheet) as usize) + 2
+}
+
+// The refusals that every call on a bank shares: a sheet that breaks a rule, a bank that does not fit it, a bank that is not sound.
+pub fn judged(sheet: &[u8], bank: &[u8]) -> Answer
+    ensures { λ r. ⌜ r ≡ checkAnswer (now (sheet .entry)) (now (bank .entry)) ⌝ }
+{
+    let SheetJudged::Sound = sheet::judged(sheet) else {
+        return Answer::SheetBreaksRule;
+    };
+    if !fits(sheet, bank) {
+        return Answer::BankMisfits;
+    }
+    if !sound(sheet, bank) {
+        return Answer::BankNotSound;
+    }
+    Answer::Done
+}
+
+// Makes a bank fresh.
+pub fn fresh(sheet: &[u8], bank: &mut [u8]) -> Answer
+    ensures { λ r. ⌜ outcome r (now (bank .exit)) ≡ freshOutcome (now (sheet .entry)) (now (bank .entry)) ⌝ }
+{
+    let SheetJudged::Sound = sheet::judged(sheet) else {
+        return Answer::SheetBreaksRule;
+    };
+    if !fits(sheet, bank) {
+        return Answer::BankMisfits;
+    }
+    fresh_words::store_fresh(sheet, bank);
+    Answer::Done
+}
+
+// Posts words from an address upward, all in access 1 areas.
+pub fn post(sheet: &[u8], bank: &mut [u8], address: u32, bytes: &[u8]) -> Answer
+    ensures { λ r. ⌜ outcome r (now (bank .exit)) ≡ postOutcome (now (sheet .entry)) (now (bank .entry)) address (now (bytes .entry)) ⌝ }
+{
+    let refusal = judged(sheet, bank);
+    let Answer::Done = refusal else {
+        return refusal;
+    };
+    if bytes.len() == 0 {
+        return Answer::BadInput;
+    }
+    if bytes.len() % 2 == 1 {
+        return Answer::BadInput;
+    }
+    if !post_words::all_read_only(sheet, address, bytes.len() / 2) {
+        return Answer::NotReadOnly;
+    }
+    post_words::store_posted(sheet, bank, address, bytes);
+    Answer::Done
+}
+
+// Sets the alarm mark to 0 or 1.
+pub fn set_mark(sheet: &[u8], bank: &mut [u8], mark: u32) -> Answer
+    ensures { λ r. ⌜ outcome r (now (bank .exit)) ≡ markOutcome (now (sheet .entry)) (now (bank .entry)) mark ⌝ }
+{
+    let refusal = judged(sheet, bank);
+    let Answer::Done = refusal else {
+        return refusal;
+    };
+    if 1 < mark {
+        return Answer::BadInput;
+    }
+    words::store_word(
+        bank,
+        2 * (sheet::bank_words(sheet) as usize),
+        (mark % 65536) as u16,
+    );
+    Answer::Done
+}

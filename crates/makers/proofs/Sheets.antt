@@ -1,0 +1,97 @@
+-- Each maker's sheet breaks no rule of 01 and says exactly its map: its areas and items, the rows of the map by their addresses, and the
+-- header's numbers. Assumes nothing.
+use Prim.Native.Nat.{ℕ}
+use mathlib.Core.Path.{_≡_, refl, ap}
+use mathlib.Core.Bool.{Bool, true}
+use mathlib.Core.List.{List, [], _∷_}
+use Rattle.range.specs.Range.{inRange}
+use Rattle.words.specs.Words.{wordAt}
+use Rattle.sheet.specs.declared.Area.{Area}
+use Rattle.sheet.specs.declared.Item.{Item}
+use Rattle.sheet.specs.Rows.{areaCount, itemCount, bankWords, functions, clearAddress, addressPlace, ratePlace, areas, items}
+use Rattle.sheet.specs.Rules.{sound, headerSound, areasSound, itemsSound, settingsSound, each, some, upFrom, samePlaces, itemPlaces, writablePlaces, placesFollow, areasAscend, lengthsSum}
+use Rattle.sheet.specs.Lookup.{addressOf}
+use Rattle.makers.specs.Maps.{Row, Map, ux, aswe, bore40, bore50, bore80}
+use Rattle.makers.specs.Sheets.{areasOf, itemsOf, sheetOf}
+
+-- the meters that 01 maps
+pub data Meter : Type 0 where
+  ux15-25 aswe-40 aswe-50 aswe-80 : Meter
+
+abbrev pub mapOf : Meter → Map
+mapOf ux15-25 = ux
+mapOf aswe-40 = aswe bore40
+mapOf aswe-50 = aswe bore50
+mapOf aswe-80 = aswe bore80
+
+-- what 01 says of a meter's numbers: areas as its addresses fall into runs, "18 items" and "B is 34", "22 items" and "B is 38"
+pub record Counts : Type 0 where
+  pub areas : ℕ
+  pub items : ℕ
+  pub bank : ℕ
+
+abbrev pub countsOf : Meter → Counts
+countsOf ux15-25 = record { areas = 2; items = 18; bank = 34 }
+countsOf aswe-40 = record { areas = 5; items = 22; bank = 38 }
+countsOf aswe-50 = record { areas = 5; items = 22; bank = 38 }
+countsOf aswe-80 = record { areas = 5; items = 22; bank = 38 }
+
+-- an item as a row of a map: by the address of its place
+abbrev pub rowOf : List Area → Item → Row
+rowOf all item = record { first = addressOf all (item .place); kind = item .kind; low = item .low; high = item .high }
+
+unfoldable pub rowsOf : List Area → List Item → List Row
+rowsOf all [] = []
+rowsOf all (item ∷ behind) = rowOf all item ∷ rowsOf all behind
+
+-- what a sheet says
+pub record Said : Type 0 where
+  pub sound : Bool
+  pub counts : Counts
+  pub areas : List Area
+  pub items : List Item
+  pub rows : List Row
+  pub functions : ℕ
+  pub clearAddress : ℕ
+  pub address : ℕ
+  pub rate : ℕ
+
+unfoldable pub saidBy : List ℕ → Said
+saidBy sheet =
+    record {
+      sound = sound sheet;
+      counts = record { areas = areaCount sheet; items = itemCount sheet; bank = bankWords sheet };
+      areas = areas sheet;
+      items = items sheet;
+      rows = rowsOf (areas sheet) (items sheet);
+      functions = functions sheet;
+      clearAddress = clearAddress sheet;
+      address = addressOf (areas sheet) (addressPlace sheet);
+      rate = addressOf (areas sheet) (ratePlace sheet);
+    }
+
+-- what the sheet of a map is to say
+unfoldable pub meant : Map → Counts → Said
+meant map counts =
+    record {
+      sound = true;
+      counts = counts;
+      areas = areasOf map;
+      items = itemsOf map;
+      rows = map .rows;
+      functions = map .functions;
+      clearAddress = map .clearAddress;
+      address = map .address;
+      rate = map .rate;
+    }
+
+pub says : (meter : Meter) → saidBy (sheetOf (mapOf meter)) ≡ meant (mapOf meter) (countsOf meter)
+unfolding saidBy meant rowsOf areasOf itemsOf sheetOf sound headerSound areasSound itemsSound settingsSound each some upFrom samePlaces itemPlaces writablePlaces placesFollow areasAscend lengthsSum areas items wordAt inRange addressOf
+says ux15-25 = refl
+says aswe-40 = refl
+says aswe-50 = refl
+says aswe-80 = refl
+
+pub sheet-sound : (meter : Meter) → sound (sheetOf (mapOf meter)) ≡ true
+unfolding saidBy meant
+sheet-sound meter = ap (λ (said : Said). said .sound) (says meter)

@@ -1,0 +1,33 @@
+// The judgement of a value between its bounds, one for the three kinds of item.
+ghost use mathlib.Core.Path.{_≡_};
+ghost use Rattle.range.specs.Range.{numberOf, notAbove, inRange};
+
+// The number that a value of a kind stands for.
+pub fn number(kind: u16, value: u32) -> i64
+    ensures { λ r. ⌜ r ≡ numberOf kind value ⌝ }
+{
+    if kind != 1 {
+        return value as i64;
+    }
+    if value < 0x8000 {
+        return value as i64;
+    }
+    value as i64 - 0x10000
+}
+
+// Whether one value of a kind is not above another, as the numbers that they stand for.
+pub fn not_above(kind: u16, a: u32, b: u32) -> bool
+    ensures { λ r. ⌜ r ≡ notAbove kind a b ⌝ }
+{
+    number(kind, a) <= number(kind, b)
+}
+
+// Whether a value of a kind lies between its bounds.
+pub fn in_range(kind: u16, low: u32, high: u32, value: u32) -> bool
+    ensures { λ r. ⌜ r ≡ inRange kind low high value ⌝ }
+{
+    if not_above(kind, low, value) {
+        return not_above(kind, value, high);
+    }
+    false
+}

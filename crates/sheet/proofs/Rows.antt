@@ -1,0 +1,61 @@
+-- The rows of a sheet from an index on: the next row and those behind it. Assumes nothing.
+use mathlib.Core.Bool.{cond}
+use mathlib.Core.Path.{_≡_, ap, _∙_}
+use mathlib.Core.List.{List, [], _∷_}
+use Prim.Native.Nat.{ℕ, suc, _+_, _-_, _≤_, _<_}
+use native.Mathlib.Omega.{arith}
+use mathlib.Core.Path.{refl, sym}
+use Rattle.sheet.specs.declared.Area.{Area}
+use Rattle.sheet.specs.declared.Lies.the-variants.{At, Nowhere}
+use Rattle.sheet.specs.Rows.{rows, areaCount, areaAt, areas, itemCount, itemAt, items}
+use Rattle.sheet.specs.Rules.{inArea}
+use Rattle.sheet.specs.Lookup.{liesIn}
+use Rattle.sheet.specs.Cover.{areasFrom}
+
+module _ {A : Type 0} (row : ℕ → A) where
+  pub rows-on : (k count : ℕ) → k < count → rows row k (count - k) ≡ row k ∷ rows row (k + 1) (count - (k + 1))
+  unfolding rows
+  rows-on k count inside =
+      ap (λ (n : ℕ). rows row k n) (more) ∙ ap (λ (n : ℕ). row k ∷ rows row n (count - (k + 1))) next
+    where
+      more : count - k ≡ suc (count - (k + 1))
+      more = omega arith
+
+      next : suc k ≡ k + 1
+      next = omega arith
+
+  pub rows-end : (k count : ℕ) → count ≤ k → rows row k (count - k) ≡ []
+  unfolding rows
+  rows-end k count past = ap (λ (n : ℕ). rows row k n) none
+    where
+      none : count - k ≡ 0
+      none = omega arith
+
+  pub rows-all : (count : ℕ) → rows row 0 (count - 0) ≡ rows row 0 count
+  rows-all count = ap (λ (n : ℕ). rows row 0 n) same
+    where
+      same : count - 0 ≡ count
+      same = omega arith
+
+pub areas-rows : (sheet : List ℕ) → rows (areaAt sheet) 0 (areaCount sheet) ≡ areas sheet
+unfolding areas
+areas-rows sheet = refl
+
+pub items-rows : (sheet : List ℕ) → rows (itemAt sheet) 0 (itemCount sheet) ≡ items sheet
+unfolding items
+items-rows sheet = refl
+
+-- what lies at an address: in the area at hand, or in one behind it
+module _ (sheet : List ℕ) (address k : ℕ) where
+  pub lies-on : (area : Area) → area ≡ areaAt sheet k → k < areaCount sheet
+      → liesIn (areasFrom sheet k) address
+      ≡ cond (inArea address area) (At (area .place + (address - area .first)) (area .access))
+      (liesIn (areasFrom sheet (k + 1)) address)
+  unfolding liesIn
+  lies-on area here inside =
+      ap (λ (l : List Area). liesIn l address)
+      (rows-on (areaAt sheet) k (areaCount sheet) inside ∙ ap (λ (a : Area). a ∷ areasFrom sheet (k + 1)) (sym here))
+
+  pub lies-end : areaCount sheet ≤ k → liesIn (areasFrom sheet k) address ≡ Nowhere
+  unfolding liesIn
+  lies-end past = ap (λ (l : List Area). liesIn l address) (rows-end (areaAt sheet) k (areaCount sheet) past)

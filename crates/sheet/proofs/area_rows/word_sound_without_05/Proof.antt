@@ -1,0 +1,13 @@
+-- `sheet::area_rows::word_sound_without_05` meets its contract. Assumes nothing.
+use borrow.Author.Needs.{needs}
+use Rattle.sheet.proofs.area_rows.word_sound_without_05.Statement.{statement}
+use Rattle.sheet.proofs.area_rows.word_sound_without_05.Tie as tie
+
+returns : tie.Need-returns
+returns c = search needs
+
+returns-2 : tie.Need-returns-2
+returns-2 c = simp (c .if1 .left)
+
+pub word-sound-without-05-spec : {M : Type 1} → statement M
+word-sound-without-05-spec = tie.close (tie.spec returns returns-2)

@@ -1,0 +1,42 @@
+-- How far a walk over the items has covered the places of the access 3 areas: what the code's walk keeps. Assumes nothing.
+use Prim.Native.Nat.{ℕ, _+_, _-_, _≤_, _<_}
+use mathlib.Core.Path.{_≡_}
+use mathlib.Core.Bool.{Bool, true, _&&_, cond}
+use mathlib.Core.List.{List, _++_}
+use lib.Dec.{ltb}
+use Rattle.sheet.specs.declared.Area.{Area}
+use Rattle.sheet.specs.declared.Item.{Item}
+use Rattle.sheet.specs.declared.item_rows.Cover.{Cover}
+use Rattle.sheet.specs.Rows.{areaCount, areaAt, rows, areas}
+use Rattle.sheet.specs.Rules.{some, upFrom, placeInArea, placesFollow, isPair, writablePlaces}
+
+-- how many places an item has
+abbrev pub sizeOf : Item → ℕ
+sizeOf item = cond (isPair item) 2 1
+
+-- the area rows from an index on
+abbrev pub areasFrom : List ℕ → ℕ → List Area
+areasFrom sheet k = rows (areaAt sheet) k (areaCount sheet - k)
+
+-- the places that are left to cover: those of the area at hand, and those of the access 3 areas behind it
+unfoldable pub placesLeft : List ℕ → Cover → List ℕ
+placesLeft sheet cover =
+    upFrom (cover .next) (cover .end - cover .next) ++ writablePlaces (areasFrom sheet (cover .area))
+
+-- a place and the next one lie within one area
+abbrev pub pairWithin : List Area → ℕ → Bool
+pairWithin all place = some (λ area. placeInArea place area && placeInArea (place + 1) area) all
+
+-- a cover that is under way: a pair at a place that is left lies within one area just where the next place is left too
+pub record UnderWay (sheet : List ℕ) (cover : Cover) : Type 0 where
+  pub follow : placesFollow 0 (areas sheet) ≡ true
+  pub ordered : cover .next ≤ cover .end
+  pub within : cover .area ≤ areaCount sheet
+  pub small : cover .end < 0x20000
+  pub whole : (place : ℕ) → cover .next ≤ place → place < cover .end → pairWithin (areas sheet) place ≡ ltb (place + 1) (cover .end)
+
+-- the same cover, at an area that has places left, if there is one
+pub record Opened (sheet : List ℕ) (before after : Cover) : Type 0 where
+  pub underWay : UnderWay sheet after
+  pub left : placesLeft sheet after ≡ placesLeft sheet before
+  pub last : after .end ≤ after .next → areaCount sheet ≤ after .area

@@ -1,0 +1,183 @@
+// The rules of the item rows, with those of the address and the rate, in one walk over them.
+ghost use mathlib.Core.Path.{_≡_};
+ghost use mathlib.Core.Bool.{true, cond, _&&_, _||_};
+ghost use Prim.Native.Nat.{_+_, _<_};
+ghost use lib.Dec.{leb, eqb};
+ghost use Rattle.sheet.specs.Rows.{areaCount, areas};
+ghost use Rattle.sheet.specs.Rules.{writable, lengthOf, placesFollow, kindRule, boundsRule, lowHighRule, settingAt, addressItem, rateItem, itemsSound, settingsSound};
+ghost use Rattle.sheet.specs.Cover.{UnderWay, Opened, sizeOf};
+use crate::Area;
+use crate::Item;
+
+// How far the places of the access 3 areas are covered: `next` is the next place, `end` ends the places of its area, and `area` is
+// the index of the area behind that one.
+struct Cover {
+    next: u32,
+    end: u32,
+    area: u16,
+}
+
+// How many of an area's places are covered by items: all of an access 3 area's, and none of another's.
+fn writable_length(area: Area) -> u32
+    ensures { λ r. ⌜ r ≡ cond (writable (area .access)) (lengthOf area) 0 ⌝ }
+{
+    if area.access != 3 {
+        return 0;
+    }
+    crate::area_rows::length_of(area)
+}
+
+// The same cover, but at an area that has places left, if there is one.
+fn opened(sheet: &[u8], count: u16, cover: Cover) -> Cover
+    requires { ⌜ count ≡ areaCount (now sheet) ⌝ }
+    requires { ⌜ UnderWay (now sheet) cover ⌝ }
+    ensures { λ r. ⌜ Opened (now (sheet .entry)) cover r ⌝ }
+{
+    let mut next = cover.next;
+    let mut end = cover.end;
+    let mut area = cover.area;
+    while area < count {
+        if next < end {
+            return Cover { next, end, area };
+        }
+        let row = crate::area_at(sheet, area);
+        next = row.place as u32;
+        end = next + writable_length(row);
+        area += 1;
+    }
+    Cover { next, end, area }
+}
+
+// How many places an item has: its first place, and the next one for a pair.
+fn size_of(item: Item) -> u32
+    ensures { λ r. ⌜ r ≡ sizeOf item ⌝ }
+{
+    if item.kind == 2 {
+        return 2;
+    }
+    1
+}
+
+// "For kinds 0 and 1 the first word of each bound is 0 and the second is the bound".
+fn bounds_sound(item: Item) -> bool
+    ensures { λ r. ⌜ r ≡ boundsRule item ⌝ }
+{
+    if item.kind == 2 {
+        return true;
+    }
+    if item.low >= 0x10000 {
+        return false;
+    }
+    item.high < 0x10000
+}
+
+// The rules of an item by itself: its kind, its bounds, and "Low is not above high".
+fn row_sound(item: Item) -> bool
+    ensures { λ r. ⌜ r ≡ (kindRule item && boundsRule item && lowHighRule item) ⌝ }
+{
+    if item.kind > 2 {
+        return false;
+    }
+    if !bounds_sound(item) {
+        return false;
+    }
+    range::not_above(item.kind, item.low, item.high)
+}
+
+// Whether an item stands at the next place and ends within the area of that place.
+fn covers(item: Item, cover: Cover) -> bool
+    requires { ⌜ cover .next < 0x20000 ⌝ }
+    ensures { λ r. ⌜ r ≡ (eqb (item .place) (cover .next) && leb (cover .next + sizeOf item) (cover .end)) ⌝ }
+{
+    if item.place as u32 != cover.next {
+        return false;
+    }
+    let size = size_of(item);
+    cover.next + size <= cover.end
+}
+
+// A "kind 0 item" at a place, "whose range holds 1".
+fn setting_at(item: Item, place: u16) -> bool
+    ensures { λ r. ⌜ r ≡ settingAt place item ⌝ }
+{
+    if item.kind != 0 {
+        return false;
+    }
+    if item.place != place {
+        return false;
+    }
+    range::in_range(item.kind, item.low, item.high, 1)
+}
+
+// Whether the address's item is found: before, or here. "the address range is within 0 to FF".
+fn address_found(before: bool, item: Item, place: u16) -> bool
+    ensures { λ r. ⌜ r ≡ (before || addressItem place item) ⌝ }
+{
+    if before {
+        return true;
+    }
+    if !setting_at(item, place) {
+        return false;
+    }
+    item.high <= 0xFF
+}
+
+// Whether the rate's item is found: before, or here. "the rate's is 0 to 1".
+fn rate_found(before: bool, item: Item, place: u16) -> bool
+    ensures { λ r. ⌜ r ≡ (before || rateItem place item) ⌝ }
+{
+    if before {
+        return true;
+    }
+    if !setting_at(item, place) {
+        return false;
+    }
+    if item.low != 0 {
+        return false;
+    }
+    item.high == 1
+}
+
+pub(crate) fn items_and_settings_sound(sheet: &[u8]) -> bool
+    requires { ⌜ placesFollow 0 (areas (now sheet)) ≡ true ⌝ }
+    ensures { λ r. ⌜ r ≡ (itemsSound (now (sheet .entry)) && settingsSound (now (sheet .entry))) ⌝ }
+{
+    let areas = crate::area_count(sheet);
+    let count = crate::item_count(sheet);
+    let address_place = crate::address_place(sheet);
+    let rate_place = crate::rate_place(sheet);
+    if address_place == rate_place {
+        return false;
+    }
+    let mut cover = Cover {
+        next: 0,
+        end: 0,
+        area: 0,
+    };
+    let mut address = false;
+    let mut rate = false;
+    let mut k: u16 = 0;
+    while k < count {
+        let item = crate::item_row(sheet, areas, k);
+        let at = opened(sheet, areas, cover);
+        if !row_sound(item) {
+            return false;
+        }
+        if !covers(item, at) {
+            return false;
+        }
+        cover = Cover {
+            next: at.next + size_of(item),
+            end: at.end,
+            area: at.area,
+        };
+        address = address_found(address, item, address_place);
+        rate = rate_found(rate, item, rate_place);
+        k += 1;
+    }
+    let rest = opened(sheet, areas, cover);
+    if rest.next < rest.end {
+        return false;
+    }
+    address && rate
+}
