@@ -1,0 +1,7 @@
+pub mod Digits
+pub mod Lines
+pub mod Signs
+pub mod Addresses
+pub mod Fits
+pub mod Example
+pub mod Determined

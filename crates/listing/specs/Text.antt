@@ -1,0 +1,78 @@
+-- 01, "Both sides of each line", the listing: "one line of areas, items and bank words in decimal, then for each item its first
+-- address in four upper-case hexadecimal digits, kind (u, s, p), low and high in decimal. A bad sheet gives the line `sheet refused`."
+-- Each line as its bytes, with single blanks, ended by one line feed. Assumes nothing.
+use mathlib.Core.Bool.{cond}
+use Prim.Native.Char.{code}
+use Prim.Native.Nat.{ℕ, zero, suc, _+_, _-_, _/_, _%_}
+use Prim.Native.String.{String}
+use mathlib.Core.List.{List, [], _∷_, _++_}
+use lib.Dec.{ltb}
+use lib.IntN.{ℤ, pos, negsuc}
+use Rattle.range.specs.Range.{numberOf}
+use Rattle.sheet.specs.declared.Area.{Area}
+use Rattle.sheet.specs.declared.Item.{Item}
+use Rattle.sheet.specs.Rows.{areaCount, itemCount, bankWords, areas, items}
+use Rattle.sheet.specs.Rules.{sound}
+use Rattle.sheet.specs.Lookup.{addressOf}
+use Rattle.listing.specs.Ascii.{ascii}
+
+-- the character of a digit below sixteen: 0 to 9, then A to F
+abbrev pub digitOf : ℕ → ℕ
+digitOf n = cond (ltb n 10) (0x30 + n) (0x41 + n - 10)
+
+-- "in decimal": the digits of a number, the fewest that say it, for numbers of at most so many digits
+unfoldable pub decimalWithin : ℕ → ℕ → List ℕ
+decimalWithin zero n = []
+decimalWithin (suc places) n =
+    cond (ltb n 10) (digitOf n ∷ []) (decimalWithin places (n / 10) ++ (digitOf (n % 10) ∷ []))
+
+-- a number of 32 bits has at most ten digits
+unfoldable pub decimal : ℕ → List ℕ
+decimal n = decimalWithin 10 n
+
+-- a number with its sign
+unfoldable pub signedDecimal : ℤ → List ℕ
+signedDecimal (pos n) = decimal n
+signedDecimal (negsuc n) = code "-" ∷ decimal (suc n)
+
+-- "in four upper-case hexadecimal digits"
+abbrev pub hexadecimal : ℕ → List ℕ
+hexadecimal n =
+    digitOf (n / 4096 % 16) ∷ digitOf (n / 256 % 16) ∷ digitOf (n / 16 % 16) ∷ digitOf (n % 16) ∷ []
+
+-- "kind (u, s, p)"
+abbrev pub letterOf : ℕ → ℕ
+letterOf zero = code "u"
+letterOf (suc zero) = code "s"
+letterOf (suc (suc kind)) = code "p"
+
+abbrev pub blank : ℕ
+blank = code " "
+
+abbrev pub lineFeed : ℕ
+lineFeed = code "\n"
+
+-- a number behind the word for it
+abbrev pub counted : String → ℕ → List ℕ
+counted word n = ascii word ++ decimal n
+
+-- "one line of areas, items and bank words in decimal"
+unfoldable pub summaryText : List ℕ → List ℕ
+summaryText sheet =
+    counted "areas " (areaCount sheet) ++ counted " items " (itemCount sheet) ++ counted " bank " (bankWords sheet)
+    ++ (lineFeed ∷ [])
+
+-- "its first address .., kind (u, s, p), low and high in decimal", by the areas of the sheet
+unfoldable pub itemText : List Area → Item → List ℕ
+itemText all item =
+    hexadecimal (addressOf all (item .place)) ++ (blank ∷ letterOf (item .kind) ∷ blank ∷ [])
+    ++ signedDecimal (numberOf (item .kind) (item .low)) ++ (blank ∷ [])
+    ++ signedDecimal (numberOf (item .kind) (item .high)) ++ (lineFeed ∷ [])
+
+unfoldable pub itemTexts : List Area → List Item → List ℕ
+itemTexts all [] = []
+itemTexts all (item ∷ behind) = itemText all item ++ itemTexts all behind
+
+-- what the listing program writes for the bytes that it is given
+unfoldable pub listing : List ℕ → List ℕ
+listing sheet = cond (sound sheet) (summaryText sheet ++ itemTexts (areas sheet) (items sheet)) (ascii "sheet refused\n")
