@@ -1,0 +1,13 @@
+-- What a stage of judgement knows of a frame that the stages before it let through. Assumes nothing.
+use Prim.Native.Nat.{ℕ}
+use mathlib.Core.Path.{_≡_}
+use mathlib.Core.Bool.{true}
+use mathlib.Core.List.{List}
+use Rattle.sheet.specs.Rules.{sound}
+use Rattle.meter.specs.declared.Parts.{Parts}
+use Rattle.meter.specs.Frame.{partsOf, functionAllowed}
+
+pub record Known (sheet frame : List ℕ) (parts : Parts) : Type 0 where
+  pub sheetSound : sound sheet ≡ true
+  pub apart : parts ≡ partsOf frame
+  pub allowed : functionAllowed sheet frame ≡ true

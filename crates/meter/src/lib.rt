@@ -1,0 +1,93 @@
+// The answer of a meter to one frame: a frame is judged, and what the judgement says is acted on.
+ghost use mathlib.Core.Path.{_≡_};
+ghost use Rattle.meter.specs.Frame.{passedFrame};
+ghost use Rattle.meter.specs.Answer.{outcome, answerOutcome};
+
+mod replies;
+mod runs;
+mod stages;
+mod values;
+
+use bank::Answer;
+
+// The parts of a frame that the order of judgement speaks of.
+pub struct Parts {
+    pub station: u8,
+    pub function: u8,
+    pub start: u16,
+    pub second: u16,
+    pub bytes: u8,
+    pub length: usize,
+}
+
+// What step 1 answers: a frame that passes, taken apart, or that it fails.
+pub enum Passed {
+    Frame(Parts),
+    Fails,
+}
+
+// Where a frame stops in the order of judgement, or that it is good. `first` is the place of its first address, `stop` the place of
+// the first bad item, `many` the number of registers.
+pub enum Judged {
+    FailsCheck,
+    OtherStation,
+    FunctionNotAllowed,
+    WrongLength,
+    WrongCount,
+    WrongAddress,
+    WrongValue,
+    BadItem { first: u32, stop: u32 },
+    GoodRead { first: u32, many: u32 },
+    GoodClear,
+    GoodWrite { first: u32, many: u32 },
+}
+
+// What a call with one frame answers.
+pub enum Answered {
+    Reply { length: u32, rate: u16 },
+    Silence,
+    SheetBreaksRule,
+    BankMisfits,
+    BankNotSound,
+    SmallBuffer,
+}
+
+// Step 1: takes a frame that passes apart.
+pub fn taken_apart(frame: &[u8]) -> Passed
+    ensures { λ r. ⌜ r ≡ passedFrame (now (frame .entry)) ⌝ }
+{
+    if !check_value::passes(frame) {
+        return Passed::Fails;
+    }
+    Passed::Frame(Parts {
+        station: words::byte_at(frame, 0),
+        function: words::byte_at(frame, 1),
+        start: words::word_at(frame, 2),
+        second: words::word_at(frame, 4),
+        bytes: words::byte_at(frame, 6),
+        length: frame.len(),
+    })
+}
+
+// Answers one frame: the refusals 2, 3, 4 and 5 in this order, then silence or a reply.
+pub fn answer(sheet: &[u8], bank: &mut [u8], frame: &[u8], buffer: &mut [u8]) -> Answered
+    ensures { λ r. ⌜ outcome r (now (bank .exit)) (now (buffer .exit)) ≡ answerOutcome (now (sheet .entry)) (now (bank .entry)) (now (frame .entry)) (now (buffer .entry)) ⌝ }
+{
+    match bank::judged(sheet, bank) {
+        Answer::Done => {}
+        Answer::BankMisfits => {
+            return Answered::BankMisfits;
+        }
+        Answer::BankNotSound => {
+            return Answered::BankNotSound;
+        }
+        _ => {
+            return Answered::SheetBreaksRule;
+        }
+    }
+    if buffer.len() < 100 {
+        return Answered::SmallBuffer;
+    }
+    let judged = stages::judged(sheet, bank, frame);
+    replies::acted(judged, sheet, bank, frame, buffer)
+}

@@ -1,0 +1,124 @@
+// The values that a write sends, the item that it stops at, and its stores.
+ghost use mathlib.Core.Path.{_≡_};
+ghost use mathlib.Core.List.{map};
+ghost use Prim.Native.Nat.{_+_, _<_};
+ghost use Rattle.sheet.specs.Rows.{items};
+ghost use Rattle.sheet.specs.Rules.{upFrom};
+ghost use Rattle.bank.specs.Stores.{stored};
+ghost use Rattle.bank.specs.Bank.{valueBy};
+ghost use Rattle.meter.specs.Frame.{valuesAt};
+ghost use Rattle.meter.specs.Write.{inRun, wouldBe, touched, badItem, stopIn, runStore};
+use sheet::Item;
+
+// A write: where its values begin in the frame, the place of its first address, and how many registers it is for.
+pub struct Write {
+    pub values: u8,
+    pub first: u32,
+    pub many: u32,
+}
+
+// Where the values of a write begin in its frame: at the value of 06, or behind the byte count of 10.
+pub fn values_at(frame: &[u8]) -> u8
+    ensures { λ r. ⌜ r ≡ valuesAt (now (frame .entry)) ⌝ }
+{
+    if words::byte_at(frame, 1) == 6 { 4 } else { 7 }
+}
+
+// Whether a place is in the run of a write.
+fn in_run(write: Write, place: u32) -> bool
+    ensures { λ r. ⌜ r ≡ inRun (write .first) (write .many) place ⌝ }
+{
+    let first = write.first;
+    if place < first {
+        return false;
+    }
+    place - first < write.many
+}
+
+// The word that would be at a place: the word sent if the place is in the run, else the bank's.
+fn would_be(bank: &[u8], frame: &[u8], write: Write, place: u32) -> u16
+    requires { ⌜ write .values ≡ valuesAt (now frame) ⌝ }
+    ensures { λ r. ⌜ r ≡ wouldBe (write .first) (write .many) (now (bank .entry)) (now (frame .entry)) place ⌝ }
+{
+    if !in_run(write, place) {
+        return words::word_at(bank, 2 * (place as usize));
+    }
+    words::word_at(
+        frame,
+        write.values as usize + 2 * ((place - write.first) as usize),
+    )
+}
+
+// The value that an item would have: a half of a pair that is not sent is the bank's.
+fn value_would_be(bank: &[u8], frame: &[u8], write: Write, item: Item) -> u32
+    requires { ⌜ write .values ≡ valuesAt (now frame) ⌝ }
+    ensures { λ r. ⌜ r ≡ valueBy (wouldBe (write .first) (write .many) (now (bank .entry)) (now (frame .entry))) item ⌝ }
+{
+    let place = item.place as u32;
+    let word = would_be(bank, frame, write, place) as u32;
+    if item.kind != 2 {
+        return word;
+    }
+    word * 65536 + would_be(bank, frame, write, place + 1) as u32
+}
+
+// Whether one of an item's places is in the run.
+fn touches(write: Write, item: Item) -> bool
+    ensures { λ r. ⌜ r ≡ touched (write .first) (write .many) item ⌝ }
+{
+    let place = item.place as u32;
+    if in_run(write, place) {
+        return true;
+    }
+    if item.kind != 2 {
+        return false;
+    }
+    in_run(write, place + 1)
+}
+
+// Whether a write touches an item and would leave it out of its range.
+fn is_bad(bank: &[u8], frame: &[u8], write: Write, item: Item) -> bool
+    requires { ⌜ write .values ≡ valuesAt (now frame) ⌝ }
+    ensures { λ r. ⌜ r ≡ badItem (write .first) (write .many) (now (bank .entry)) (now (frame .entry)) item ⌝ }
+{
+    if !touches(write, item) {
+        return false;
+    }
+    !range::in_range(
+        item.kind,
+        item.low,
+        item.high,
+        value_would_be(bank, frame, write, item),
+    )
+}
+
+// The first place of the first bad item, or the end of the run where no item is bad.
+pub fn stop_place(sheet: &[u8], bank: &[u8], frame: &[u8], write: Write) -> u32
+    requires { ⌜ write .values ≡ valuesAt (now frame) ⌝ }
+    requires { ⌜ write .first + write .many < 0x100000000 ⌝ }
+    ensures { λ r. ⌜ r ≡ stopIn (write .first) (write .many) (now (bank .entry)) (now (frame .entry)) (items (now (sheet .entry))) ⌝ }
+{
+    let count = sheet::item_count(sheet);
+    let mut k = 0;
+    while k < count {
+        let item = sheet::item_at(sheet, k);
+        if is_bad(bank, frame, write, item) {
+            return item.place as u32;
+        }
+        k += 1;
+    }
+    write.first + write.many
+}
+
+// Stores so many of the words sent, from a first place on.
+pub fn store_run(bank: &mut [u8], frame: &[u8], first: u32, count: u32)
+    ensures { λ _. ⌜ now (bank .exit) ≡ stored (now (bank .entry)) (map (runStore (now (frame .entry)) first) (upFrom 0 count)) ⌝ }
+{
+    let values = values_at(frame) as usize;
+    let mut k: u32 = 0;
+    while k < count {
+        let word = words::word_at(frame, values + 2 * (k as usize));
+        words::store_word(bank, 2 * (first as usize + k as usize), word);
+        k += 1;
+    }
+}
