@@ -1,1 +1,3 @@
 pub mod CaseSet
+pub mod Laying
+pub mod Reading
