@@ -1,3 +1,9 @@
 pub mod CaseSet
 pub mod Laying
 pub mod Reading
+pub mod Acting
+pub mod Order
+pub mod Staging
+pub mod Judging
+pub mod Reaching
+pub mod Stopping

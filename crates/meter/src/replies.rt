@@ -97,10 +97,13 @@ pub fn acted(
 {
     let rate = words::word_at(bank, 2 * (sheet::rate_place(sheet) as usize));
     match judged {
-        Judged::FailsCheck | Judged::OtherStation | Judged::WrongLength => Answered::Silence,
+        Judged::FailsCheck => Answered::Silence,
+        Judged::OtherStation => Answered::Silence,
+        Judged::WrongLength => Answered::Silence,
         Judged::FunctionNotAllowed => reply_error(frame, buffer, 1, rate),
-        Judged::WrongCount | Judged::WrongValue => reply_error(frame, buffer, 3, rate),
+        Judged::WrongCount => reply_error(frame, buffer, 3, rate),
         Judged::WrongAddress => reply_error(frame, buffer, 2, rate),
+        Judged::WrongValue => reply_error(frame, buffer, 3, rate),
         Judged::BadItem { first, stop } => {
             values::store_run(bank, frame, first, count_to(first, stop));
             reply_error(frame, buffer, 3, rate)

@@ -75,13 +75,13 @@ returns c =
     let frame = now (a .frame) in
     let buffer = now (a .buffer) in
     let one = then-byte buffer [] refl (station frame) (omega arith)
-      (first .store-byte .ensures ∙ ap (withByte buffer 0) (first .before .byte-at .ensures)) in
+    (first .store-byte .ensures ∙ ap (withByte buffer 0) (first .before .byte-at .ensures)) in
     let two = then-byte buffer (station frame ∷ []) one (function frame) (omega arith)
-      (next .store-byte2 .ensures ∙ ap (withByte (first .store-byte .last .0) 1) (next .before .byte-at2 .ensures)) in
+    (next .store-byte2 .ensures ∙ ap (withByte (first .store-byte .last .0) 1) (next .before .byte-at2 .ensures)) in
     let three = then-word buffer (station frame ∷ function frame ∷ []) two (start frame) 2 refl (omega arith)
-      (third .store-word .ensures ∙ ap (withWord (next .store-byte2 .last .0) 2) (third .before .word-at .ensures)) in
+    (third .store-word .ensures ∙ ap (withWord (next .store-byte2 .last .0) 2) (third .before .word-at .ensures)) in
     let four = then-word buffer (station frame ∷ function frame ∷ wordBytes (start frame)) three (second frame) 4 refl (omega arith)
-      (fourth .store-word2 .ensures ∙ ap (withWord (third .store-word .last .0) 4) (fourth .before .word-at2 .ensures)) in
+    (fourth .store-word2 .ensures ∙ ap (withWord (third .store-word .last .0) 4) (fourth .before .word-at2 .ensures)) in
     ap (sent (Reply 8 (a .rate))) (then-sealed buffer (echo frame) four 6 refl (omega arith) (c .before .before .seal .ensures))
 
 pub reply-echo-spec : {M : Type 1} → statement M

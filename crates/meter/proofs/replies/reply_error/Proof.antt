@@ -65,10 +65,10 @@ returns c =
     let frame = now (a .frame) in
     let buffer = now (a .buffer) in
     let one = then-byte buffer [] refl (station frame) (omega arith)
-      (first .store-byte .ensures ∙ ap (withByte buffer 0) (first .before .byte-at .ensures)) in
+    (first .store-byte .ensures ∙ ap (withByte buffer 0) (first .before .byte-at .ensures)) in
     let two = then-byte buffer (station frame ∷ []) one (topBitSet (function frame)) (omega arith)
-      (second .store-byte2 .ensures ∙ ap (withByte (first .store-byte .last .0) 1)
-        (second .before .top-bit-set .ensures ∙ ap topBitSet (second .before .before .byte-at2 .ensures))) in
+    (second .store-byte2 .ensures ∙ ap (withByte (first .store-byte .last .0) 1)
+    (second .before .top-bit-set .ensures ∙ ap topBitSet (second .before .before .byte-at2 .ensures))) in
     let three = then-byte buffer (station frame ∷ topBitSet (function frame) ∷ []) two (a .code) (omega arith) (third .store-byte3 .ensures) in
     ap (sent (Reply 5 (a .rate)))
     (then-sealed buffer (station frame ∷ topBitSet (function frame) ∷ a .code ∷ []) three 3 refl (omega arith) (c .before .before .seal .ensures))

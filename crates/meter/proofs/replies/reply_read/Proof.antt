@@ -71,7 +71,7 @@ loop-holds c =
     let a = first .before .before .before .before .before .before .args in
     let buffer = third .store-byte3 .last .0 in
     let room : leastBuffer ≤ length buffer
-      = omega (arith, third .store-byte3 .kept .0, second .store-byte2 .kept .0, first .store-byte .kept .0, first .before .before .before .before .before .before .pre .0) in
+    = omega (arith, third .store-byte3 .kept .0, second .store-byte2 .kept .0, first .store-byte .kept .0, first .before .before .before .before .before .before .pre .0) in
     (omega arith, room, refl, laid-first 3 buffer (omega arith) ∙ ap (λ (l : List ℕ). laid l buffer) (sym (append-nil (take 3 buffer))))
 
 -- src/replies.rt:68:63
@@ -123,17 +123,19 @@ loop-again c =
     let buffer = start .store-byte3 .last .0 in
     let bank = now (a .bank) in
     let made = c .before .before .store-word .ensures
-      ∙ ap (withWord (loop .buffer) (3 + 2 * loop .k)) (c .before .before .before .before .word-at .ensures) in
+    ∙ ap (withWord (loop .buffer) (3 + 2 * loop .k)) (c .before .before .before .before .word-at .ensures) in
     let so-far = take 3 buffer ++ bankRun bank (upFrom (a .first) (loop .k)) in
     let long : length so-far ≡ 3 + 2 * loop .k
-      = length-append (take 3 buffer) (bankRun bank (upFrom (a .first) (loop .k)))
-        ∙ ap₂ _+_ (length-take-le 3 buffer (omega (arith, loop .inv .1))) (run-length bank (a .first) (loop .k)) in
-    (omega arith, loop .inv .1,
-    ap length made ∙ word-length (loop .buffer) (3 + 2 * loop .k) (wordOf bank (a .first + loop .k)) ∙ loop .inv .2,
-    then-word buffer so-far (loop .inv .3) (wordOf bank (a .first + loop .k)) (3 + 2 * loop .k) long (omega (arith, loop .inv .1)) made
-    ∙ ap (λ (l : List ℕ). laid l buffer)
-      (append-assoc (take 3 buffer) (bankRun bank (upFrom (a .first) (loop .k))) (wordBytes (wordOf bank (a .first + loop .k)))
-      ∙ ap (λ (l : List ℕ). take 3 buffer ++ l) (sym (run-more bank (a .first) (loop .k)))))
+    = length-append (take 3 buffer) (bankRun bank (upFrom (a .first) (loop .k)))
+    ∙ ap₂ _+_ (length-take-le 3 buffer (omega (arith, loop .inv .1))) (run-length bank (a .first) (loop .k)) in (
+      omega arith,
+      loop .inv .1,
+      ap length made ∙ word-length (loop .buffer) (3 + 2 * loop .k) (wordOf bank (a .first + loop .k)) ∙ loop .inv .2,
+      then-word buffer so-far (loop .inv .3) (wordOf bank (a .first + loop .k)) (3 + 2 * loop .k) long (omega (arith, loop .inv .1)) made
+          ∙ ap (λ (l : List ℕ). laid l buffer)
+          (append-assoc (take 3 buffer) (bankRun bank (upFrom (a .first) (loop .k))) (wordBytes (wordOf bank (a .first + loop .k)))
+          ∙ ap (λ (l : List ℕ). take 3 buffer ++ l) (sym (run-more bank (a .first) (loop .k)))),
+    )
 
 -- src/replies.rt:72:35
 mul-seal : tie.Need-mul-seal Inv-loop μ-loop
@@ -173,21 +175,21 @@ returns c =
     let many = a .many in
     let run = bankRun (now (a .bank)) (upFrom (a .first) many) in
     let one = then-byte entry [] refl (station frame) (omega arith)
-      (first .store-byte .ensures ∙ ap (withByte entry 0) (first .before .byte-at .ensures)) in
+    (first .store-byte .ensures ∙ ap (withByte entry 0) (first .before .byte-at .ensures)) in
     let two = then-byte entry (station frame ∷ []) one reads (omega arith) (second .store-byte2 .ensures) in
     let three = then-byte entry (station frame ∷ reads ∷ []) two (2 * many) (omega arith) (third .store-byte3 .ensures) in
     let head : take 3 (third .store-byte3 .last .0) ≡ station frame ∷ reads ∷ (2 * many) ∷ []
-      = ap (take 3) three in
+    = ap (take 3) three in
     let done : loop .k ≡ many = omega arith in
     let laid-all = loop .inv .3
-      ∙ ap₂ (λ (l : List ℕ) (k : ℕ). laid (l ++ bankRun (now (a .bank)) (upFrom (a .first) k)) (third .store-byte3 .last .0)) head done
-      ∙ ap (laid (readReply (now (a .bank)) frame (a .first) many)) three
-      ∙ laid-over (station frame ∷ reads ∷ (2 * many) ∷ []) run entry in
+    ∙ ap₂ (λ (l : List ℕ) (k : ℕ). laid (l ++ bankRun (now (a .bank)) (upFrom (a .first) k)) (third .store-byte3 .last .0)) head done
+    ∙ ap (laid (readReply (now (a .bank)) frame (a .first) many)) three
+    ∙ laid-over (station frame ∷ reads ∷ (2 * many) ∷ []) run entry in
     ap₂ sent
     (ap (λ (n : ℕ). Reply n (a .rate))
-      (sym (check-length (readReply (now (a .bank)) frame (a .first) many) ∙ omega (arith, read-length (now (a .bank)) frame (a .first) many))))
+    (sym (check-length (readReply (now (a .bank)) frame (a .first) many) ∙ omega (arith, read-length (now (a .bank)) frame (a .first) many))))
     (then-sealed entry (readReply (now (a .bank)) frame (a .first) many) laid-all (3 + 2 * many)
-      (read-length (now (a .bank)) frame (a .first) many) (omega arith) (c .before .before .seal .ensures))
+    (read-length (now (a .bank)) frame (a .first) many) (omega arith) (c .before .before .seal .ensures))
 
 pub reply-read-spec : {M : Type 1} → statement M
 reply-read-spec =

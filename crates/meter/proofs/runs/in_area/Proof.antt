@@ -1,24 +1,20 @@
+-- `meter::runs::in_area` meets its contract. Assumes nothing.
+use borrow.Author.Tests.{lt-leb, le-leb}
 use borrow.Author.Needs.{needs}
 use Rattle.meter.proofs.runs.in_area.Statement.{statement}
 use Rattle.meter.proofs.runs.in_area.Tie as tie
-use Rattle.meter.proofs.runs.in_area.Reads as reads
-use Rattle.meter.proofs.runs.in_area.Lts as lts
 
--- src/runs.rt:32:18
 cast-if1 : tie.Need-cast-if1
 cast-if1 c = search needs
 
--- src/runs.rt:33:9
 returns : tie.Need-returns
-returns c = ?
+returns c = simp (lt-leb _ _ (c .if1 .taken))
 
--- src/runs.rt:35:16
 cast-result : tie.Need-cast-result
 cast-result c = search needs
 
--- src/runs.rt:29:1
 returns-2 : tie.Need-returns-2
-returns-2 c = ?
+returns-2 c = simp (le-leb _ _ (c .before .if1 .left))
 
 pub in-area-spec : {M : Type 1} → statement M
 in-area-spec = tie.close (tie.spec cast-if1 returns cast-result returns-2)

@@ -1,28 +1,24 @@
+-- `meter::runs::permitted` meets its contract. Assumes nothing.
+use borrow.Author.Tests.{eq-eqb, ne-eqb}
 use borrow.Author.Needs.{needs}
+use Rattle.sheet.specs.Rules.{readOnly}
 use Rattle.meter.proofs.runs.permitted.Statement.{statement}
 use Rattle.meter.proofs.runs.permitted.Tie as tie
-use Rattle.meter.proofs.runs.permitted.Reads as reads
-use Rattle.meter.proofs.runs.permitted.Lts as lts
 
--- src/runs.rt:23:26
 enum-told : tie.Need-enum-told
 enum-told c = search needs
 
--- src/runs.rt:24:27
 enum-told-2 : tie.Need-enum-told-2
 enum-told-2 c = search needs
 
--- src/runs.rt:19:1
 returns : tie.Need-returns
-returns c = ?
+returns c = simp (c .before .enum-told .given .1, eq-eqb (c .before .before .before .args .access) readOnly (c .if1 .taken))
 
--- src/runs.rt:19:1
 returns-2 : tie.Need-returns-2
-returns-2 c = ?
+returns-2 c = simp (c .before .enum-told .given .1, ne-eqb (c .before .before .before .args .access) readOnly (c .if1 .left))
 
--- src/runs.rt:19:1
 returns-3 : tie.Need-returns-3
-returns-3 c = ?
+returns-3 c = simp (c .enum-told2 .given .1)
 
 pub permitted-spec : {M : Type 1} → statement M
 permitted-spec = tie.close (tie.spec enum-told enum-told-2 returns returns-2 returns-3)

@@ -1,31 +1,34 @@
+-- `meter::values::is_bad` meets its contract. Assumes nothing.
+use mathlib.Core.Path.{refl, sym, ap}
+use mathlib.Core.Bool.{not}
+use denote.Ref.{now}
 use borrow.Author.Needs.{needs}
+use Rattle.sheet.proofs.Tests.{refused, passed}
+use Rattle.bank.proofs.Good.{good-told}
+use Rattle.meter.specs.Write.{wouldBe, badItem}
 use Rattle.meter.proofs.values.is_bad.Statement.{statement}
 use Rattle.meter.proofs.values.is_bad.Tie as tie
-use Rattle.meter.proofs.values.is_bad.Reads as reads
-use Rattle.meter.proofs.values.is_bad.Lts as lts
-use Rattle.meter.proofs.values.touches.Reads as touches-reads
-use Rattle.meter.proofs.values.value_would_be.Reads as value-would-be-reads
-use Rattle.range.proofs.in_range.Reads as in-range-reads
 
--- src/values.rt:84:9
 touches-requires : tie.Need-touches-requires
 touches-requires c κs = search needs
 
--- src/values.rt:85:9
 returns : tie.Need-returns
-returns c = ?
+unfolding badItem
+returns c = simp (refused (c .before .touches .ensures) (c .if1 .taken))
 
--- src/values.rt:91:9
 value-would-be-requires : tie.Need-value-would-be-requires
 value-would-be-requires c κs = search needs
 
--- src/values.rt:87:6
 in-range-requires : tie.Need-in-range-requires
 in-range-requires c κs = search needs
 
--- src/values.rt:80:1
 returns-2 : tie.Need-returns-2
-returns-2 c = ?
+unfolding badItem
+returns-2 c =
+    let a = c .before .before .before .before .before .before .args in
+    let good = good-told (wouldBe (a .write .first) (a .write .many) (now (a .bank)) (now (a .frame))) (refl {a = a .item})
+    (c .before .value-would-be .ensures) (c .in-range .ensures) in
+    simp (passed (c .before .before .before .touches .ensures) (c .before .before .if1 .left)) (ap not (sym good))
 
 pub is-bad-spec : {M : Type 1} → statement M
 is-bad-spec =

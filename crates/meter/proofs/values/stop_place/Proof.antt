@@ -1,60 +1,83 @@
+-- `meter::values::stop_place` meets its contract. The loop's invariant: the write stops by the items that are left where it stops by all.
+-- Assumes nothing.
+use borrow.Author.Needs.{needs}
+use native.Mathlib.Omega.{arith}
+use Prim.Native.Nat.{_-_, _≤_}
+use mathlib.Core.Path.{_≡_, sym, ap, _∙_}
+use denote.Ref.{now}
+use Rattle.sheet.specs.Rows.{itemCount, itemAt, items}
+use Rattle.sheet.proofs.Rows.{rows-all, items-rows}
+use Rattle.meter.specs.Write.{stopIn}
+use Rattle.meter.proofs.Stopping.{itemsFrom, stop-goes-on, stop-here, stop-none}
 use Rattle.meter.proofs.values.stop_place.Statement.{statement}
 use Rattle.meter.proofs.values.stop_place.Tie as tie
-use Rattle.meter.proofs.values.stop_place.Reads as reads
-use Rattle.meter.proofs.values.stop_place.Lts as lts
-use Rattle.meter.proofs.values.is_bad.Reads as is-bad-reads
-use Rattle.sheet.proofs.item_at.Reads as item-at-reads
-use Rattle.sheet.proofs.item_count.Reads as item-count-reads
 
 abbrev Inv-loop : tie.InvT-loop
-Inv-loop sheet bank frame write count k₀ k = ?
+Inv-loop sheet bank frame write count k₀ k =
+    (count ≡ itemCount sheet) × (k ≤ count)
+    × (stopIn (write .first) (write .many) bank frame (itemsFrom sheet k)
+    ≡ stopIn (write .first) (write .many) bank frame (items sheet))
 
 abbrev μ-loop : tie.MeasureT-loop
-μ-loop sheet bank frame write count k₀ k = ?
+μ-loop sheet bank frame write count k₀ k = count - k
 
--- src/values.rt:101:9
 item-count-requires : tie.Need-item-count-requires Inv-loop μ-loop
-item-count-requires c κs = ?
+item-count-requires c κs = search needs
 
--- src/values.rt:103:5
 loop-holds : tie.Need-loop-holds Inv-loop μ-loop
-loop-holds c = ?
+loop-holds c =
+    let a = c .before .before .before .before .args in
+    let sheet = now (a .sheet) in (
+      c .item-count .ensures,
+      omega arith,
+      ap (stopIn (a .write .first) (a .write .many) (now (a .bank)) (now (a .frame))) (rows-all (itemAt sheet) (itemCount sheet) ∙ items-rows sheet),
+    )
 
--- src/values.rt:104:13
 item-at-requires : tie.Need-item-at-requires Inv-loop μ-loop
-item-at-requires c κs = ?
+item-at-requires c κs = search needs
 
--- src/values.rt:105:12
 is-bad-requires : tie.Need-is-bad-requires Inv-loop μ-loop
-is-bad-requires c κs = ?
+is-bad-requires c κs = c .before .before .before .before .before .before .before .pre .0
 
--- src/values.rt:106:20
 cast-result : tie.Need-cast-result Inv-loop μ-loop
-cast-result c = ?
+cast-result c = search needs
 
--- src/values.rt:106:13
 returns : tie.Need-returns Inv-loop μ-loop
-returns c = ?
+returns c =
+    let a = c .before .before .before .before .before .before .before .before .before .before .args in
+    let loop = c .before .before .before .before .before .loop in
+    stop-here (a .write .first) (a .write .many) (now (a .bank)) (now (a .frame)) (now (a .sheet)) (loop .k)
+    (stopIn (a .write .first) (a .write .many) (now (a .bank)) (now (a .frame)) (items (now (a .sheet)))) (loop .inv .2)
+    (c .before .before .before .item-at .result) (c .before .before .before .item-at .ensures) (omega arith)
+    (sym (c .before .before .is-bad .ensures) ∙ c .before .if1 .taken)
 
--- src/values.rt:108:9
 add-k : tie.Need-add-k Inv-loop μ-loop
-add-k c = ?
+add-k c = omega arith
 
--- src/values.rt:103:5
 loop-less : tie.Need-loop-less Inv-loop μ-loop
-loop-less c = ?
+loop-less c = omega arith
 
--- src/values.rt:103:5
 loop-again : tie.Need-loop-again Inv-loop μ-loop
-loop-again c = ?
+loop-again c =
+    let a = c .before .before .before .before .before .before .before .before .before .args in
+    let loop = c .before .before .before .before .loop in (
+      loop .inv .0,
+      omega arith,
+      stop-goes-on (a .write .first) (a .write .many) (now (a .bank)) (now (a .frame)) (now (a .sheet)) (loop .k)
+          (stopIn (a .write .first) (a .write .many) (now (a .bank)) (now (a .frame)) (items (now (a .sheet)))) (loop .inv .2)
+          (c .before .before .item-at .result) (c .before .before .item-at .ensures) (omega arith)
+          (sym (c .before .is-bad .ensures) ∙ c .if1 .left),
+    )
 
--- src/values.rt:110:5
 add-result : tie.Need-add-result Inv-loop μ-loop
-add-result c = ?
+add-result c = record { fits = c .before .before .before .before .before .before .before .pre .1 }
 
--- src/values.rt:96:1
 returns-2 : tie.Need-returns-2 Inv-loop μ-loop
-returns-2 c = ?
+returns-2 c =
+    let a = c .before .before .before .before .before .before .before .args in
+    let loop = c .before .before .loop in
+    stop-none (a .write .first) (a .write .many) (now (a .bank)) (now (a .frame)) (now (a .sheet)) (loop .k)
+    (stopIn (a .write .first) (a .write .many) (now (a .bank)) (now (a .frame)) (items (now (a .sheet)))) (loop .inv .2) (omega arith)
 
 pub stop-place-spec : {M : Type 1} → statement M
 stop-place-spec =

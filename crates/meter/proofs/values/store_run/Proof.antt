@@ -1,80 +1,96 @@
+-- `meter::values::store_run` meets its contract. The loop's invariant: the stores that are left make of the bank what all make of the
+-- first one. Assumes nothing.
+use borrow.Author.Needs.{needs}
+use native.Mathlib.Omega.{arith}
+use Prim.Native.Nat.{ℕ, _+_, _*_, _-_, _≤_}
+use mathlib.Core.Path.{_≡_, refl, _∙_, ap}
+use mathlib.Core.List.{map}
+use denote.Ref.{now}
+use lib.ListN.{length}
+use Rattle.words.specs.Words.{wordAt, withWord}
+use Rattle.words.proofs.Stores.{word-length}
+use Rattle.sheet.specs.Rules.{upFrom}
+use Rattle.bank.specs.Stores.{stored}
+use Rattle.bank.proofs.Walks.{storesFrom, stores-start, stores-go-on, stores-end}
+use Rattle.meter.specs.Frame.{valuesAt}
+use Rattle.meter.specs.Write.{runStore}
 use Rattle.meter.proofs.values.store_run.Statement.{statement}
 use Rattle.meter.proofs.values.store_run.Tie as tie
-use Rattle.meter.proofs.values.store_run.Reads as reads
-use Rattle.meter.proofs.values.store_run.Lts as lts
-use Rattle.meter.proofs.values.values_at.Reads as values-at-reads
-use Rattle.words.proofs.store_word.Reads as store-word-reads
-use Rattle.words.proofs.word_at.Reads as word-at-reads
 
 abbrev Inv-loop : tie.InvT-loop
-Inv-loop bank₀ frame first count values k₀ bank k = ?
+Inv-loop bank₀ frame first count values k₀ bank k =
+    (k ≤ count) × (values ≡ valuesAt frame) × (length bank ≡ length bank₀)
+    × (stored bank (storesFrom (runStore frame first) k count) ≡ stored bank₀ (map (runStore frame first) (upFrom 0 count)))
 
 abbrev μ-loop : tie.MeasureT-loop
-μ-loop bank₀ frame first count values k₀ bank k = ?
+μ-loop bank₀ frame first count values k₀ bank k = count - k
 
--- src/values.rt:117:18
 values-at-requires : tie.Need-values-at-requires Inv-loop μ-loop
-values-at-requires c κs = ?
+values-at-requires c κs = search needs
 
--- src/values.rt:117:18
 cast-values : tie.Need-cast-values Inv-loop μ-loop
-cast-values c = ?
+cast-values c = omega arith
 
--- src/values.rt:119:5
 loop-holds : tie.Need-loop-holds Inv-loop μ-loop
-loop-holds c = ?
+loop-holds c =
+    let a = c .before .before .before .args in
+    (omega arith, c .values-at .ensures, refl, stores-start (runStore (now (a .frame)) (a .first)) (now (a .bank)) (a .count))
 
--- src/values.rt:120:56
 cast-word-at : tie.Need-cast-word-at Inv-loop μ-loop
-cast-word-at c = ?
+cast-word-at c = omega arith
 
--- src/values.rt:120:51
 mul-word-at : tie.Need-mul-word-at Inv-loop μ-loop
-mul-word-at c = ?
+mul-word-at c = omega arith
 
--- src/values.rt:120:42
 add-word-at : tie.Need-add-word-at Inv-loop μ-loop
-add-word-at c = ?
+add-word-at c = omega arith
 
--- src/values.rt:120:13
 word-at-requires : tie.Need-word-at-requires Inv-loop μ-loop
-word-at-requires c κs = ?
+word-at-requires c κs = search needs
 
--- src/values.rt:121:55
 cast-store-word : tie.Need-cast-store-word Inv-loop μ-loop
-cast-store-word c = ?
+cast-store-word c = omega arith
 
--- src/values.rt:121:38
 add-store-word : tie.Need-add-store-word Inv-loop μ-loop
-add-store-word c = ?
+add-store-word c = omega arith
 
--- src/values.rt:121:33
 mul-store-word : tie.Need-mul-store-word Inv-loop μ-loop
-mul-store-word c = ?
+mul-store-word c = omega arith
 
--- src/values.rt:121:9
 store-word-requires : tie.Need-store-word-requires Inv-loop μ-loop
-store-word-requires c κs = ?
+store-word-requires c κs = search needs
 
--- src/values.rt:122:9
 add-k : tie.Need-add-k Inv-loop μ-loop
-add-k c = ?
+add-k c = omega arith
 
--- src/values.rt:119:5
 loop-less : tie.Need-loop-less Inv-loop μ-loop
-loop-less c = ?
+loop-less c = omega arith
 
--- src/values.rt:119:5
 loop-again : tie.Need-loop-again Inv-loop μ-loop
-loop-again c = ?
+loop-again c =
+    let a = c .before .before .before .before .before .before .before .before .before .before .args in
+    let loop = c .before .before .before .before .before .before .loop in
+    let store = runStore (now (a .frame)) (a .first) in
+    let word = c .before .before .before .before .word-at .ensures
+    ∙ ap (λ (n : ℕ). wordAt (now (a .frame)) (n + 2 * loop .k)) (loop .inv .1) in
+    let made = c .before .before .store-word .ensures
+    ∙ ap (withWord (loop .bank) (2 * (a .first + loop .k))) word in (
+      omega arith,
+      loop .inv .1,
+      ap length made ∙ word-length (loop .bank) (2 * store (loop .k) .place) (store (loop .k) .word) ∙ loop .inv .2,
+      stores-go-on store (loop .bank) (c .before .before .store-word .last .0) (stored (now (a .bank)) (map store (upFrom 0 (a .count))))
+          (loop .k) (a .count) (c .before .before .before .before .before .loop-test .taken) (loop .inv .3) made,
+    )
 
--- src/values.rt:114:1
 same-length : tie.Need-same-length Inv-loop μ-loop
-same-length c = ?
+same-length c = c .before .loop .inv .2
 
--- src/values.rt:114:1
 returns : tie.Need-returns Inv-loop μ-loop
-returns c = ?
+returns c =
+    let a = c .before .before .before .before .before .args in
+    let loop = c .before .loop in
+    let store = runStore (now (a .frame)) (a .first) in
+    stores-end store (loop .bank) (stored (now (a .bank)) (map store (upFrom 0 (a .count)))) (loop .k) (a .count) (c .loop-test .left) (loop .inv .3)
 
 pub store-run-spec : {M : Type 1} → statement M
 store-run-spec =

@@ -1,37 +1,42 @@
+-- `meter::values::touches` meets its contract. Assumes nothing.
+use mathlib.Core.Path.{sym, _∙_}
+use borrow.Author.Tests.{eq-eqb, ne-eqb}
 use borrow.Author.Needs.{needs}
+use Rattle.range.specs.Range.{unsignedPair}
 use Rattle.meter.proofs.values.touches.Statement.{statement}
 use Rattle.meter.proofs.values.touches.Tie as tie
-use Rattle.meter.proofs.values.touches.Reads as reads
-use Rattle.meter.proofs.values.touches.Lts as lts
-use Rattle.meter.proofs.values.in_run.Reads as in-run-reads
 
--- src/values.rt:69:17
 cast-place : tie.Need-cast-place
 cast-place c = search needs
 
--- src/values.rt:70:8
 in-run-requires : tie.Need-in-run-requires
 in-run-requires c κs = search needs
 
--- src/values.rt:71:9
 returns : tie.Need-returns
-returns c = ?
+returns c = simp (sym (c .before .in-run .ensures) ∙ c .if1 .taken)
 
--- src/values.rt:74:9
 returns-2 : tie.Need-returns-2
-returns-2 c = ?
+returns-2 c =
+    let a = c .before .before .before .before .before .args in
+    simp (
+      sym (c .before .before .before .in-run .ensures) ∙ c .before .before .if1 .left,
+      ne-eqb (a .item .kind) unsignedPair (c .if2 .taken),
+    )
 
--- src/values.rt:76:19
 add-in-run : tie.Need-add-in-run
 add-in-run c = search needs
 
--- src/values.rt:76:5
 in-run-requires-2 : tie.Need-in-run-requires-2
 in-run-requires-2 c κs = search needs
 
--- src/values.rt:66:1
 returns-3 : tie.Need-returns-3
-returns-3 c = ?
+returns-3 c =
+    let a = c .before .before .before .before .before .before .args in
+    simp (
+      sym (c .before .before .before .before .in-run .ensures) ∙ c .before .before .before .if1 .left,
+      eq-eqb (a .item .kind) unsignedPair (c .before .if2 .left),
+    )
+    (c .in-run2 .ensures)
 
 pub touches-spec : {M : Type 1} → statement M
 touches-spec =
