@@ -45,7 +45,7 @@ fn store_lows(sheet: &[u8], bank: &mut [u8])
 }
 
 // Stores all that a fresh bank has: every word 0, then each item's low bound, then address 1 and rate 1.
-pub fn store_fresh(sheet: &[u8], bank: &mut [u8])
+pub(crate) fn store_fresh(sheet: &[u8], bank: &mut [u8])
     ensures { λ _. ⌜ now (bank .exit) ≡ stored (now (bank .entry)) (freshStores (now (sheet .entry))) ⌝ }
 {
     zero_words(bank, sheet::bank_words(sheet) as u32 + 1);

@@ -54,7 +54,7 @@ fn fits(sheet: &[u8], bank: &[u8]) -> bool
     bank.len() == 2 * (sheet::bank_words(sheet) as usize) + 2
 }
 
-// The refusals that every call on a bank shares: a sheet that breaks a rule, a bank that does not fit it, a bank that is not sound.
+// The refusals that posting, setting the mark and answering share: a sheet that breaks a rule, a bank that does not fit it, a bank that is not sound.
 pub fn judged(sheet: &[u8], bank: &[u8]) -> Answer
     ensures { λ r. ⌜ r ≡ checkAnswer (now (sheet .entry)) (now (bank .entry)) ⌝ }
 {

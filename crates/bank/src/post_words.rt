@@ -30,7 +30,7 @@ fn place_in(lies: Lies) -> u32
 }
 
 // Whether each of so many addresses from a first one on lies in an access 1 area.
-pub fn all_read_only(sheet: &[u8], address: u32, count: usize) -> bool
+pub(crate) fn all_read_only(sheet: &[u8], address: u32, count: usize) -> bool
     ensures { λ r. ⌜ r ≡ allReadOnly (now (sheet .entry)) (upFrom address count) ⌝ }
 {
     let mut next = address;
@@ -46,7 +46,7 @@ pub fn all_read_only(sheet: &[u8], address: u32, count: usize) -> bool
 }
 
 // Stores each posted word at the place of its address.
-pub fn store_posted(sheet: &[u8], bank: &mut [u8], address: u32, bytes: &[u8])
+pub(crate) fn store_posted(sheet: &[u8], bank: &mut [u8], address: u32, bytes: &[u8])
     requires { ⌜ address + length (now bytes) / 2 ≤ 65536 ⌝ }
     ensures { λ _. ⌜ now (bank .exit) ≡ stored (now (bank .entry)) (postStores (now (sheet .entry)) address (now (bytes .entry))) ⌝ }
 {

@@ -7,3 +7,6 @@ pub mod Staging
 pub mod Judging
 pub mod Reaching
 pub mod Stopping
+pub mod Placing
+pub mod Answering
+pub mod Passing

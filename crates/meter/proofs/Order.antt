@@ -43,7 +43,7 @@ asks-for frame code e =
       isRead = ap (λ (n : ℕ). eqb n reads) e;
       isClear = ap (λ (n : ℕ). eqb n clears) e;
       isOne = ap (λ (n : ℕ). eqb n writesOne) e;
-      isMany = ap (λ (n : ℕ). eqb n writesMany) e
+      isMany = ap (λ (n : ℕ). eqb n writesMany) e;
     }
 
 -- a function that is allowed and is none of the first three is 10
@@ -52,22 +52,20 @@ pub last-function : (sheet : List ℕ) (code : ℕ) → codeAllowed sheet code �
 last-function sheet code permitted read clear one =
     eqb-true code writesMany
     (go (eqb code writesMany)
-      (sym (ap₂ (λ (r c : Bool). r && bit bitOf03 || c && bit bitOf05 || eqb code writesOne && bit bitOf06 || eqb code writesMany && bit bitOf10)
-          (ne-eqb code reads read) (ne-eqb code clears clear)
-        ∙ ap (λ (o : Bool). o && bit bitOf06 || eqb code writesMany && bit bitOf10) (ne-eqb code writesOne one))
-      ∙ permitted))
+    (sym (ap₂ (λ (r c : Bool). r && bit bitOf03 || c && bit bitOf05 || eqb code writesOne && bit bitOf06 || eqb code writesMany && bit bitOf10)
+    (ne-eqb code reads read) (ne-eqb code clears clear)
+    ∙ ap (λ (o : Bool). o && bit bitOf06 || eqb code writesMany && bit bitOf10) (ne-eqb code writesOne one))
+    ∙ permitted))
   where
     bit : ℕ → Bool
     bit = allowed sheet
+
     go : (m : Bool) → (m && bit bitOf10) ≡ true → m ≡ true
     go true e = refl
     go false e = e
 
 -- what each step comes to, once it is known which function a frame has
 module _ (sheet bank frame : List ℕ) {read clear one many : Bool} (asks : Asks frame read clear one many) where
-  pub length-is : wrongLength frame ≡ cond many (ltb (length frame) 9 || not (eqb (length frame) (9 + byteCount frame))) (not (eqb (length frame) 8))
-  length-is = ap (λ (b : Bool). cond b (ltb (length frame) 9 || not (eqb (length frame) (9 + byteCount frame))) (not (eqb (length frame) 8))) (asks .isMany)
-
   pub count-is : wrongCount frame ≡ (read && eqb (second frame) 0 || many && (eqb (second frame) 0 || not (eqb (byteCount frame) (2 * second frame))))
   count-is =
       ap₂ (λ (r m : Bool). r && eqb (second frame) 0 || m && (eqb (second frame) 0 || not (eqb (byteCount frame) (2 * second frame))))
@@ -84,12 +82,45 @@ module _ (sheet bank frame : List ℕ) {read clear one many : Bool} (asks : Asks
       || clear && not (eqb (start frame) (clearAddress sheet)))
   address-is =
       ap₂ (λ (r w : Bool). r && (ltb mostRead (second frame) || not (allOpen Read sheet (run frame))) || w && not (allOpen Write sheet (run frame))
-        || eqb (function frame) clears && not (eqb (start frame) (clearAddress sheet))) (asks .isRead) write-is
+      || eqb (function frame) clears && not (eqb (start frame) (clearAddress sheet))) (asks .isRead) write-is
       ∙ ap (λ (c : Bool). read && (ltb mostRead (second frame) || not (allOpen Read sheet (run frame)))
-        || (one || many) && not (allOpen Write sheet (run frame)) || c && not (eqb (start frame) (clearAddress sheet))) (asks .isClear)
+      || (one || many) && not (allOpen Write sheet (run frame)) || c && not (eqb (start frame) (clearAddress sheet))) (asks .isClear)
 
   pub value-is : wrongValue frame ≡ (clear && not (eqb (second frame) 0))
   value-is = ap (λ (c : Bool). c && not (eqb (second frame) 0)) (asks .isClear)
 
   pub bad-is : badWrite sheet bank frame ≡ ((one || many) && someBad sheet bank frame)
   bad-is = ap (λ (w : Bool). w && someBad sheet bank frame) write-is
+
+-- the lengths: 10 apart from the others
+pub other-length : (frame : List ℕ) → (function frame ≡ writesMany → ⊥) → wrongLength frame ≡ not (eqb (length frame) 8)
+other-length frame e =
+    ap (λ (b : Bool). cond b (ltb (length frame) 9 || not (eqb (length frame) (9 + byteCount frame))) (not (eqb (length frame) 8)))
+    (ne-eqb (function frame) writesMany e)
+
+pub many-length : (frame : List ℕ) → function frame ≡ writesMany
+    → wrongLength frame ≡ (ltb (length frame) 9 || not (eqb (length frame) (9 + byteCount frame)))
+many-length frame e =
+    ap (λ (b : Bool). cond b (ltb (length frame) 9 || not (eqb (length frame) (9 + byteCount frame))) (not (eqb (length frame) 8)))
+    (ap (λ (n : ℕ). eqb n writesMany) e)
+
+-- a function that is one of the four is allowed as its bit says, and any other is not
+module _ (sheet : List ℕ) {code : ℕ} where
+  pub code-read : code ≡ reads → allowed sheet bitOf03 ≡ codeAllowed sheet code
+  code-read e =
+      sym (ap (codeAllowed sheet) e ∙ or-false (allowed sheet bitOf03 || false || false) ∙ or-false (allowed sheet bitOf03 || false)
+      ∙ or-false (allowed sheet bitOf03))
+
+  pub code-clear : code ≡ clears → allowed sheet bitOf05 ≡ codeAllowed sheet code
+  code-clear e = sym (ap (codeAllowed sheet) e ∙ or-false (allowed sheet bitOf05 || false) ∙ or-false (allowed sheet bitOf05))
+
+  pub code-one : code ≡ writesOne → allowed sheet bitOf06 ≡ codeAllowed sheet code
+  code-one e = sym (ap (codeAllowed sheet) e ∙ or-false (allowed sheet bitOf06))
+
+  pub code-many : code ≡ writesMany → allowed sheet bitOf10 ≡ codeAllowed sheet code
+  code-many e = sym (ap (codeAllowed sheet) e)
+
+pub code-none : (sheet : List ℕ) (code : ℕ) → (code ≡ reads → ⊥) → (code ≡ clears → ⊥) → (code ≡ writesOne → ⊥) → (code ≡ writesMany → ⊥)
+    → codeAllowed sheet code ≡ false
+code-none sheet code read clear one many =
+    simp (ne-eqb code reads read, ne-eqb code clears clear, ne-eqb code writesOne one, ne-eqb code writesMany many)

@@ -98,8 +98,8 @@ module _ (sheet bank frame : List ℕ) where
       → GoodRead (firstPlace sheet frame) (second frame) ≡ judgedFrom 5 sheet bank frame
   good-read e p =
       ap₂ (λ (r o : Bool). cond r (GoodRead (firstPlace sheet frame) (cond o 1 (second frame)))
-        (cond (eqb (function frame) clears) GoodClear (GoodWrite (firstPlace sheet frame) (count frame))))
-        (sym (asks-for frame reads e .isRead)) (sym (asks-for frame reads e .isOne))
+      (cond (eqb (function frame) clears) GoodClear (GoodWrite (firstPlace sheet frame) (count frame))))
+      (sym (asks-for frame reads e .isRead)) (sym (asks-for frame reads e .isOne))
       ∙ stops-nowhere p (value-is sheet bank frame (asks-for frame reads e)) (bad-is sheet bank frame (asks-for frame reads e))
 
   pub clear-address : function frame ≡ clears → wrongAddress sheet frame ≡ not (eqb (start frame) (clearAddress sheet))
@@ -112,7 +112,7 @@ module _ (sheet bank frame : List ℕ) where
       → GoodClear ≡ judgedFrom 5 sheet bank frame
   good-clear e p q =
       ap₂ (λ (r c : Bool). cond r (GoodRead (firstPlace sheet frame) (count frame)) (cond c GoodClear (GoodWrite (firstPlace sheet frame) (count frame))))
-        (sym (asks-for frame clears e .isRead)) (sym (asks-for frame clears e .isClear))
+      (sym (asks-for frame clears e .isRead)) (sym (asks-for frame clears e .isClear))
       ∙ stops-nowhere p q (bad-is sheet bank frame (asks-for frame clears e))
 
   -- a write is neither a read nor a clear
@@ -145,13 +145,13 @@ module _ (sheet bank frame : List ℕ) where
         → GoodWrite (firstPlace sheet frame) (count frame) ≡ judgedFrom 5 sheet bank frame
     good-write p e =
         ap₂ (λ (r c : Bool). cond r (GoodRead (firstPlace sheet frame) (count frame)) (cond c GoodClear (GoodWrite (firstPlace sheet frame) (count frame))))
-          (sym (asks-write write .isRead)) (sym (asks-write write .isClear))
+        (sym (asks-write write .isRead)) (sym (asks-write write .isClear))
         ∙ stops-nowhere p write-value (write-bad ∙ e)
 
   -- ---- a good read is of at most 47 registers
   fits : (a₁ a₂ a₃ a₄ a₅ a₆ a₇ a₈ : Bool) (first stop : ℕ) (good : Judged) → (a₆ ≡ false → readFits good ≡ true)
       → readFits (firstCase (when a₁ FailsCheck ∷ when a₂ OtherStation ∷ when a₃ FunctionNotAllowed ∷ when a₄ WrongLength ∷ when a₅ WrongCount
-        ∷ when a₆ WrongAddress ∷ when a₇ WrongValue ∷ when a₈ (BadItem first stop) ∷ []) good) ≡ true
+      ∷ when a₆ WrongAddress ∷ when a₇ WrongValue ∷ when a₈ (BadItem first stop) ∷ []) good) ≡ true
   unfolding firstCase
   fits true a₂ a₃ a₄ a₅ a₆ a₇ a₈ first stop good h = refl
   fits false true a₃ a₄ a₅ a₆ a₇ a₈ first stop good h = refl
@@ -174,6 +174,7 @@ module _ (sheet bank frame : List ℕ) where
           under : (b : Bool) → (b || not (allOpen Read sheet (run frame))) ≡ false → b ≡ false
           under true q = q
           under false q = refl
+
       go : (r : Bool) → eqb (function frame) reads ≡ r → (c : Bool)
           → readFits (cond r (GoodRead (firstPlace sheet frame) (count frame)) (cond c GoodClear (GoodWrite (firstPlace sheet frame) (count frame)))) ≡ true
       go true e c = few (eqb-true (function frame) reads e)

@@ -69,21 +69,18 @@ pub fn taken_apart(frame: &[u8]) -> Passed
     })
 }
 
-// Answers one frame: the refusals 2, 3, 4 and 5 in this order, then silence or a reply.
+// Answers one frame: the refusals 2, 3, 4 and 5 in this order, then silence or a reply. (The check of a bank answers neither of the
+// last two cases.)
 pub fn answer(sheet: &[u8], bank: &mut [u8], frame: &[u8], buffer: &mut [u8]) -> Answered
     ensures { λ r. ⌜ outcome r (now (bank .exit)) (now (buffer .exit)) ≡ answerOutcome (now (sheet .entry)) (now (bank .entry)) (now (frame .entry)) (now (buffer .entry)) ⌝ }
 {
     match bank::judged(sheet, bank) {
         Answer::Done => {}
-        Answer::BankMisfits => {
-            return Answered::BankMisfits;
-        }
-        Answer::BankNotSound => {
-            return Answered::BankNotSound;
-        }
-        _ => {
-            return Answered::SheetBreaksRule;
-        }
+        Answer::SheetBreaksRule => return Answered::SheetBreaksRule,
+        Answer::BankMisfits => return Answered::BankMisfits,
+        Answer::BankNotSound => return Answered::BankNotSound,
+        Answer::NotReadOnly => return Answered::SheetBreaksRule,
+        Answer::BadInput => return Answered::SheetBreaksRule,
     }
     if buffer.len() < 100 {
         return Answered::SmallBuffer;

@@ -84,7 +84,7 @@ fn count_to(first: u32, stop: u32) -> u32
 }
 
 // Acts on a judgement: makes its stores, and lays the reply in the buffer, at the rate before the frame.
-pub fn acted(
+pub(crate) fn acted(
     judged: Judged,
     sheet: &[u8],
     bank: &mut [u8],

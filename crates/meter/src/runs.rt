@@ -37,7 +37,7 @@ fn in_area(address: u32, area: Area) -> bool
 
 // Whether each of so many addresses from a first one on is open to the purpose. The areas ascend, so one walk over their rows finds
 // how far the run reaches.
-pub fn all_open(sheet: &[u8], purpose: Purpose, start: u16, count: u16) -> bool
+pub(crate) fn all_open(sheet: &[u8], purpose: Purpose, start: u16, count: u16) -> bool
     requires { ⌜ sound (now sheet) ≡ true ⌝ }
     ensures { λ r. ⌜ r ≡ allOpen purpose (now (sheet .entry)) (upFrom start count) ⌝ }
 {
@@ -59,7 +59,7 @@ pub fn all_open(sheet: &[u8], purpose: Purpose, start: u16, count: u16) -> bool
 }
 
 // The place of an address; 0 where nothing lies there.
-pub fn place_of(sheet: &[u8], address: u16) -> u32
+pub(crate) fn place_of(sheet: &[u8], address: u16) -> u32
     ensures { λ r. ⌜ r ≡ placeIn (liesIn (areas (now (sheet .entry))) address) ⌝ }
 {
     match sheet::lies_at(sheet, address as u32) {

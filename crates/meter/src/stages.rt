@@ -34,7 +34,7 @@ fn function_allowed(sheet: &[u8], function: u8) -> bool
 }
 
 // Steps 1 to 3: a frame that does not pass, or is for another station, gets silence; a function that is not allowed, error 01.
-pub fn judged(sheet: &[u8], bank: &[u8], frame: &[u8]) -> Judged
+pub(crate) fn judged(sheet: &[u8], bank: &[u8], frame: &[u8]) -> Judged
     requires { ⌜ sound (now sheet) ≡ true ⌝ }
     ensures { λ r. ⌜ r ≡ judgedFrame (now (sheet .entry)) (now (bank .entry)) (now (frame .entry)) ⌝ }
 {

@@ -18,7 +18,7 @@ pub struct Write {
 }
 
 // Where the values of a write begin in its frame: at the value of 06, or behind the byte count of 10.
-pub fn values_at(frame: &[u8]) -> u8
+pub(crate) fn values_at(frame: &[u8]) -> u8
     ensures { λ r. ⌜ r ≡ valuesAt (now (frame .entry)) ⌝ }
 {
     if words::byte_at(frame, 1) == 6 { 4 } else { 7 }
@@ -93,7 +93,7 @@ fn is_bad(bank: &[u8], frame: &[u8], write: Write, item: Item) -> bool
 }
 
 // The first place of the first bad item, or the end of the run where no item is bad.
-pub fn stop_place(sheet: &[u8], bank: &[u8], frame: &[u8], write: Write) -> u32
+pub(crate) fn stop_place(sheet: &[u8], bank: &[u8], frame: &[u8], write: Write) -> u32
     requires { ⌜ write .values ≡ valuesAt (now frame) ⌝ }
     requires { ⌜ write .first + write .many < 0x100000000 ⌝ }
     ensures { λ r. ⌜ r ≡ stopIn (write .first) (write .many) (now (bank .entry)) (now (frame .entry)) (items (now (sheet .entry))) ⌝ }
@@ -111,7 +111,7 @@ pub fn stop_place(sheet: &[u8], bank: &[u8], frame: &[u8], write: Write) -> u32
 }
 
 // Stores so many of the words sent, from a first place on.
-pub fn store_run(bank: &mut [u8], frame: &[u8], first: u32, count: u32)
+pub(crate) fn store_run(bank: &mut [u8], frame: &[u8], first: u32, count: u32)
     ensures { λ _. ⌜ now (bank .exit) ≡ stored (now (bank .entry)) (map (runStore (now (frame .entry)) first) (upFrom 0 count)) ⌝ }
 {
     let values = values_at(frame) as usize;

@@ -1,3 +1,15 @@
+-- `meter::taken_apart` meets its contract: a frame that passes, part by part.
+-- Assumes nothing.
+use native.Mathlib.Omega.{arith}
+use Prim.Native.Nat.{ℕ, _+_, _*_, _/_, _%_, _≤_, _<_}
+use mathlib.Core.Path.{_≡_, refl, _∙_, sym, ap, ap₂}
+use mathlib.Core.Bool.{Bool, true, false, not, cond, _&&_, _||_, or-false}
+use borrow.Author.Tests.{eq-eqb, ne-eqb, le-leb, lt-leb, lt-ltb, le-ltb, not-true, not-false}
+use denote.Ref.{now}
+use lib.ListN.{length}
+use Rattle.meter.specs.declared.Parts.{Parts}
+use Rattle.meter.specs.declared.Passed.the-variants.{Frame}
+use Rattle.meter.specs.Frame.{passedFrame}
 use borrow.Author.Needs.{needs}
 use Rattle.meter.proofs.taken_apart.Statement.{statement}
 use Rattle.meter.proofs.taken_apart.Tie as tie
@@ -13,7 +25,8 @@ passes-requires c κs = search needs
 
 -- src/lib.rt:60:9
 returns : tie.Need-returns
-returns c = ?
+unfolding passedFrame
+returns c = simp (sym (c .before .passes .ensures) ∙ not-true (c .before .passes .result) (c .if1 .taken))
 
 -- src/lib.rt:63:18
 byte-at-requires : tie.Need-byte-at-requires
@@ -37,7 +50,18 @@ byte-at-requires-3 c κs = search needs
 
 -- src/lib.rt:56:1
 returns-2 : tie.Need-returns-2
-returns-2 c = ?
+unfolding passedFrame
+returns-2 c =
+    let frame = now (c .before .before .before .before .before .before .before .before .args .frame) in
+    simp (sym (c .before .before .before .before .before .before .passes .ensures) ∙ not-false (c .before .before .before .before .before .before .passes .result) (c .before .before .before .before .before .if1 .left))
+    (λ i. Frame (record {
+      station = c .before .before .before .before .byte-at .ensures i;
+      function = c .before .before .before .byte-at2 .ensures i;
+      start = c .before .before .word-at .ensures i;
+      second = c .before .word-at2 .ensures i;
+      bytes = c .byte-at3 .ensures i;
+      length = length frame;
+    }))
 
 pub taken-apart-spec : {M : Type 1} → statement M
 taken-apart-spec =

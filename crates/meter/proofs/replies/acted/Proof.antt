@@ -278,7 +278,7 @@ returns-8 c =
     acted-sent (now (a .sheet)) (now (a .bank)) (now (a .frame)) (now (a .buffer)) rated
     (BadItem (c .before .before .before .before .before .before .before .before .before .before .judged .given .0 .0) (c .before .before .before .before .before .before .before .before .before .before .judged .given .0 .1 .0)) (c .before .before .before .before .before .before .before .before .before .before .judged .given .1)
     (c .before .before .before .before .before .before .store-run .ensures
-      ∙ ap (stored (now (a .bank))) (run-stores (now (a .frame)) (c .before .before .before .before .before .before .before .before .before .before .judged .given .0 .0) (c .before .before .before .before .before .before .before .before .before .before .judged .given .0 .1 .0) (c .before .before .before .before .before .before .before .count-to .result) (c .before .before .before .before .before .before .before .count-to .ensures)))
+    ∙ ap (stored (now (a .bank))) (run-stores (now (a .frame)) (c .before .before .before .before .before .before .before .before .before .before .judged .given .0 .0) (c .before .before .before .before .before .before .before .before .before .before .judged .given .0 .1 .0) (c .before .before .before .before .before .before .before .count-to .result) (c .before .before .before .before .before .before .before .count-to .ensures)))
     (c .before .before .reply-error5 .ensures)
 
 -- src/replies.rt:87:1
@@ -335,7 +335,7 @@ returns-11 c =
     (GoodWrite (c .before .before .before .before .before .before .before .before .before .judged3 .given .0 .0) (c .before .before .before .before .before .before .before .before .before .judged3 .given .0 .1 .0)) (c .before .before .before .before .before .before .before .before .before .judged3 .given .1)
     (c .before .before .before .before .before .before .store-run2 .ensures ∙ ap (stored (now (a .bank))) (many-stores (now (a .frame)) (c .before .before .before .before .before .before .before .before .before .judged3 .given .0 .0) (c .before .before .before .before .before .before .before .before .before .judged3 .given .0 .1 .0)))
     (c .before .before .reply-echo2 .ensures
-      ∙ ap (λ (l : List ℕ). sending (withCheck l) (c .before .before .before .before .before .before .before .before .before .before .before .word-at .result) (now (a .buffer))) (write-echo (now (a .frame))))
+    ∙ ap (λ (l : List ℕ). sending (withCheck l) (c .before .before .before .before .before .before .before .before .before .before .before .word-at .result) (now (a .buffer))) (write-echo (now (a .frame))))
 
 pub acted-spec : {M : Type 1} → statement M
 acted-spec =

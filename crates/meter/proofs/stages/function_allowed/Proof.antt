@@ -1,3 +1,14 @@
+-- `meter::stages::function_allowed` meets its contract: function by function.
+-- Assumes nothing.
+use native.Mathlib.Omega.{arith}
+use Prim.Native.Nat.{ℕ, _+_, _*_, _/_, _%_, _≤_, _<_}
+use mathlib.Core.Path.{_≡_, refl, _∙_, sym, ap, ap₂}
+use mathlib.Core.Bool.{Bool, true, false, not, cond, _&&_, _||_, or-false}
+use borrow.Author.Tests.{eq-eqb, ne-eqb, le-leb, lt-leb, lt-ltb, le-ltb, not-true, not-false}
+use denote.Ref.{now}
+use lib.Dec.{eqb}
+use Rattle.sheet.specs.Rules.{allowed, bitOf03, bitOf05, bitOf06, bitOf10}
+use Rattle.meter.proofs.Order.{code-read, code-clear, code-one, code-many, code-none}
 use borrow.Author.Needs.{needs}
 use Rattle.meter.proofs.stages.function_allowed.Statement.{statement}
 use Rattle.meter.proofs.stages.function_allowed.Tie as tie
@@ -11,23 +22,33 @@ functions-requires c κs = search needs
 
 -- src/stages.rt:22:9
 returns : tie.Need-returns
-returns c = ?
+returns c =
+    let a = c .before .before .before .args in
+    ap (λ (sum : ℕ). eqb (sum / 1 % 2) 1) (c .before .functions .ensures) ∙ code-read (now (a .sheet)) (c .if1 .taken)
 
 -- src/stages.rt:25:9
 returns-2 : tie.Need-returns-2
-returns-2 c = ?
+returns-2 c =
+    let a = c .before .before .before .before .args in
+    ap (λ (sum : ℕ). eqb (sum / 2 % 2) 1) (c .before .before .functions .ensures) ∙ code-clear (now (a .sheet)) (c .if2 .taken)
 
 -- src/stages.rt:28:9
 returns-3 : tie.Need-returns-3
-returns-3 c = ?
+returns-3 c =
+    let a = c .before .before .before .before .before .args in
+    ap (λ (sum : ℕ). eqb (sum / 4 % 2) 1) (c .before .before .before .functions .ensures) ∙ code-one (now (a .sheet)) (c .if3 .taken)
 
 -- src/stages.rt:31:9
 returns-4 : tie.Need-returns-4
-returns-4 c = ?
+returns-4 c =
+    let a = c .before .before .before .before .before .before .args in
+    ap (λ (sum : ℕ). eqb (sum / 8 % 2) 1) (c .before .before .before .before .functions .ensures) ∙ code-many (now (a .sheet)) (c .if4 .taken)
 
 -- src/stages.rt:17:1
 returns-5 : tie.Need-returns-5
-returns-5 c = ?
+returns-5 c =
+    let a = c .before .before .before .before .before .before .args in
+    sym (code-none (now (a .sheet)) (a .function) (c .before .before .before .if1 .left) (c .before .before .if2 .left) (c .before .if3 .left) (c .if4 .left))
 
 pub function-allowed-spec : {M : Type 1} → statement M
 function-allowed-spec =

@@ -1,3 +1,20 @@
+-- `meter::stages::judged` meets its contract: steps 1 to 3.
+-- Assumes nothing.
+use native.Mathlib.Omega.{arith}
+use Prim.Native.Nat.{ℕ, _+_, _*_, _/_, _%_, _≤_, _<_}
+use mathlib.Core.Path.{_≡_, refl, _∙_, sym, ap, ap₂}
+use mathlib.Core.Bool.{Bool, true, false, not, cond, _&&_, _||_, or-false}
+use borrow.Author.Tests.{eq-eqb, ne-eqb, le-leb, lt-leb, lt-ltb, le-ltb, not-true, not-false}
+use denote.Ref.{now}
+use Rattle.words.specs.Words.{wordAt}
+use Rattle.check_value.specs.Frame.{passes}
+use Rattle.meter.specs.declared.Parts.{Parts}
+use Rattle.meter.specs.declared.Passed.{Passed}
+use Rattle.meter.specs.declared.Passed.the-variants.{Frame, Fails}
+use Rattle.meter.specs.Frame.{station, function, partsOf, codeAllowed, functionAllowed}
+use Rattle.bank.specs.Bank.{stationOf}
+use Rattle.meter.proofs.Passing.{passed-parts, passed-true, passed-false}
+use Rattle.meter.proofs.Staging.{stops-check, stops-station, stops-function, passes-function}
 use borrow.Author.Needs.{needs}
 use Rattle.meter.proofs.stages.judged.Statement.{statement}
 use Rattle.meter.proofs.stages.judged.Tie as tie
@@ -23,7 +40,12 @@ enum-told c = search needs
 
 -- src/stages.rt:42:9
 returns : tie.Need-returns
-returns c = ?
+returns c =
+    let a = c .before .before .before .before .before .before .args in
+    let sheet = now (a .sheet) in
+    let bank = now (a .bank) in
+    let frame = now (a .frame) in
+    stops-check sheet bank frame (ap not (passed-false frame (c .before .before .taken-apart .ensures) (c .enum-told .given .1)))
 
 -- src/stages.rt:44:45
 address-place-requires : tie.Need-address-place-requires
@@ -47,7 +69,18 @@ cast-if1 c = search needs
 
 -- src/stages.rt:46:9
 returns-2 : tie.Need-returns-2
-returns-2 c = ?
+returns-2 c =
+    let a = c .before .before .before .before .before .before .before .before .before .before .before .args in
+    let sheet = now (a .sheet) in
+    let bank = now (a .bank) in
+    let frame = now (a .frame) in
+    let taken = c .before .before .before .before .before .before .before .taken-apart .ensures in
+    let told = c .before .before .before .before .before .parts .given .1 in
+    let apart = passed-parts frame taken told in
+    let passing = ap not (passed-true frame taken told) in
+    let addressed = c .before .before .word-at .ensures ∙ ap (λ (n : ℕ). wordAt bank (2 * n)) (c .before .before .before .address-place .ensures) in
+    stops-station sheet bank frame passing
+    (ap not (ne-eqb (station frame) (stationOf sheet bank) (λ e. c .if1 .taken (ap (λ (p : Parts). p .station) apart ∙ e ∙ sym addressed))))
 
 -- src/stages.rt:48:9
 function-allowed-requires : tie.Need-function-allowed-requires
@@ -55,15 +88,54 @@ function-allowed-requires c κs = search needs
 
 -- src/stages.rt:49:9
 returns-3 : tie.Need-returns-3
-returns-3 c = ?
+returns-3 c =
+    let a = c .before .before .before .before .before .before .before .before .before .before .before .before .before .args in
+    let sheet = now (a .sheet) in
+    let bank = now (a .bank) in
+    let frame = now (a .frame) in
+    let taken = c .before .before .before .before .before .before .before .before .before .taken-apart .ensures in
+    let told = c .before .before .before .before .before .before .before .parts .given .1 in
+    let apart = passed-parts frame taken told in
+    let passing = ap not (passed-true frame taken told) in
+    let addressed = c .before .before .before .before .word-at .ensures ∙ ap (λ (n : ℕ). wordAt bank (2 * n)) (c .before .before .before .before .before .address-place .ensures) in
+    stops-function sheet bank frame passing
+    (ap not (eq-eqb (station frame) (stationOf sheet bank) (sym (ap (λ (p : Parts). p .station) apart) ∙ c .before .before .if1 .left ∙ addressed)))
+    (ap not (sym (c .before .function-allowed .ensures ∙ ap (λ (p : Parts). codeAllowed sheet (p .function)) apart) ∙ not-true (c .before .function-allowed .result) (c .if2 .taken)))
 
 -- src/stages.rt:51:5
 judged-length-requires : tie.Need-judged-length-requires
-judged-length-requires c κs = ?
+judged-length-requires c κs =
+    let a = c .before .before .before .before .before .before .before .before .before .before .before .before .before .args in
+    let sheet = now (a .sheet) in
+    let bank = now (a .bank) in
+    let frame = now (a .frame) in
+    let taken = c .before .before .before .before .before .before .before .before .before .taken-apart .ensures in
+    let told = c .before .before .before .before .before .before .before .parts .given .1 in
+    let apart = passed-parts frame taken told in
+    let passing = ap not (passed-true frame taken told) in
+    let addressed = c .before .before .before .before .word-at .ensures ∙ ap (λ (n : ℕ). wordAt bank (2 * n)) (c .before .before .before .before .before .address-place .ensures) in
+    record {
+      sheetSound = c .before .before .before .before .before .before .before .before .before .before .before .before .before .pre;
+      apart = apart;
+      allowed = sym (c .before .function-allowed .ensures ∙ ap (λ (p : Parts). codeAllowed sheet (p .function)) apart) ∙ not-false (c .before .function-allowed .result) (c .if2 .left);
+    }
 
 -- src/stages.rt:37:1
 returns-4 : tie.Need-returns-4
-returns-4 c = ?
+returns-4 c =
+    let a = c .before .before .before .before .before .before .before .before .before .before .before .before .before .before .args in
+    let sheet = now (a .sheet) in
+    let bank = now (a .bank) in
+    let frame = now (a .frame) in
+    let taken = c .before .before .before .before .before .before .before .before .before .before .taken-apart .ensures in
+    let told = c .before .before .before .before .before .before .before .before .parts .given .1 in
+    let apart = passed-parts frame taken told in
+    let passing = ap not (passed-true frame taken told) in
+    let addressed = c .before .before .before .before .before .word-at .ensures ∙ ap (λ (n : ℕ). wordAt bank (2 * n)) (c .before .before .before .before .before .before .address-place .ensures) in
+    c .judged-length .ensures
+    ∙ passes-function sheet bank frame passing
+    (ap not (eq-eqb (station frame) (stationOf sheet bank) (sym (ap (λ (p : Parts). p .station) apart) ∙ c .before .before .before .if1 .left ∙ addressed)))
+    (ap not (sym (c .before .before .function-allowed .ensures ∙ ap (λ (p : Parts). codeAllowed sheet (p .function)) apart) ∙ not-false (c .before .before .function-allowed .result) (c .before .if2 .left)))
 
 pub judged-spec : {M : Type 1} → statement M
 judged-spec =

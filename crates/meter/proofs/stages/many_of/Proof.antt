@@ -1,3 +1,12 @@
+-- `meter::stages::many_of` meets its contract: one for 06, else the count.
+-- Assumes nothing.
+use borrow.Author.Needs.{needs}
+use native.Mathlib.Omega.{arith}
+use Prim.Native.Nat.{ℕ, _+_, _*_, _≤_, _<_}
+use mathlib.Core.Path.{_≡_, refl, _∙_, sym, ap, ap₂}
+use mathlib.Core.Bool.{Bool, true, false, not, cond, _&&_, _||_}
+use borrow.Author.Tests.{eq-eqb, ne-eqb, le-leb, lt-leb, lt-ltb, le-ltb, not-true, not-false}
+use denote.Ref.{now}
 use Rattle.meter.proofs.stages.many_of.Statement.{statement}
 use Rattle.meter.proofs.stages.many_of.Tie as tie
 use Rattle.meter.proofs.stages.many_of.Reads as reads
@@ -5,11 +14,11 @@ use Rattle.meter.proofs.stages.many_of.Lts as lts
 
 -- src/stages.rt:134:1
 returns : tie.Need-returns
-returns c = ?
+returns c = simp (eq-eqb (c .before .before .args .parts .function) 6 (c .if1 .taken))
 
 -- src/stages.rt:134:1
 returns-2 : tie.Need-returns-2
-returns-2 c = ?
+returns-2 c = simp (ne-eqb (c .before .before .args .parts .function) 6 (c .if1 .left))
 
 pub many-of-spec : {M : Type 1} → statement M
 many-of-spec = tie.close (tie.spec returns returns-2)

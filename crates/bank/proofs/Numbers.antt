@@ -1,0 +1,193 @@
+-- 01, "Numbers handed back to the firmware": each number is handed back exactly if its condition holds and none does that comes before it
+-- in the order, and 0 exactly if none holds. Assumes nothing.
+use mathlib.Core.Path.{_≡_, refl, sym, ap, _∙_}
+use mathlib.Core.Bool.{Bool, true, false, not, _&&_, cond, true≢false}
+use mathlib.Core.Logic.{_↔_}
+use mathlib.Core.List.{List, [], _∷_, _++_, map}
+use Prim.Native.Nat.{ℕ}
+use lib.Dec.{eqb}
+use borrow.Author.Tests.{eqb-false, not-true}
+use Rattle.sheet.specs.Rules.{each}
+use Rattle.sheet.proofs.Tests.{first-of, second-of}
+use Rattle.bank.specs.declared.Answer.{Answer}
+use Rattle.bank.specs.declared.Answer.the-variants.{Done, SheetBreaksRule, BankMisfits, BankNotSound, NotReadOnly, BadInput}
+use Rattle.bank.specs.Bank.{emptyOrOdd}
+use Rattle.bank.specs.Cases.{Case, when, firstCase}
+use Rattle.bank.specs.Calls.{numberOf, brokenSheet, misfittingBank, unsoundBank, badMark, badAddress, checkAnswer, freshAnswer, postAnswer, markAnswer}
+
+-- none of some conditions holds
+abbrev pub NoneOf : List Bool → Type 0
+NoneOf [] = Unit {0}
+NoneOf (condition ∷ more) = (condition ≡ false) × NoneOf more
+
+-- none of some conditions holds, and then this one does
+abbrev pub FirstAfter : List Bool → Bool → Type 0
+FirstAfter earlier this = NoneOf earlier × (this ≡ true)
+
+-- a number is handed back by cases in their order, some of which were passed before: it is a case's exactly if none of the earlier ones
+-- holds and this one does, and 0 exactly if none holds
+abbrev pub Told : ℕ → List Bool → List (Case ℕ) → Type 0
+Told number earlier [] = (number ≡ 0) ↔ NoneOf earlier
+Told number earlier (this ∷ behind) =
+    ((number ≡ this .outcome) ↔ FirstAfter earlier (this .holds)) × Told number (earlier ++ (this .holds ∷ [])) behind
+
+-- a number is none of the cases'
+unfoldable pub apart : ℕ → List (Case ℕ) → Bool
+unfolding each
+apart number cases = each (λ (this : Case ℕ). not (eqb (this .outcome) number)) cases
+
+-- no two cases have one number, and none has 0
+unfoldable pub differ : List (Case ℕ) → Bool
+unfolding apart
+differ [] = true
+differ (this ∷ behind) = not (eqb (this .outcome) 0) && apart (this .outcome) behind && differ behind
+
+-- ---- conditions one after the other
+
+none-more : (earlier : List Bool) (this : Bool) → NoneOf earlier → this ≡ false → NoneOf (earlier ++ (this ∷ []))
+none-more [] this none e = (e, tt)
+none-more (condition ∷ earlier) this none e = (none .0, none-more earlier this (none .1) e)
+
+none-front : (earlier : List Bool) (this : Bool) → NoneOf (earlier ++ (this ∷ [])) → NoneOf earlier
+none-front [] this none = tt
+none-front (condition ∷ earlier) this none = (none .0, none-front earlier this (none .1))
+
+none-last : (earlier : List Bool) (this : Bool) → NoneOf (earlier ++ (this ∷ [])) → this ≡ false
+none-last [] this none = none .0
+none-last (condition ∷ earlier) this none = none-last earlier this (none .1)
+
+-- ---- the law
+
+not-equal : (a b : ℕ) → not (eqb a b) ≡ true → a ≡ b → ⊥
+not-equal a b e = eqb-false a b (not-true (eqb a b) e)
+
+apart-here : (number : ℕ) (this : Case ℕ) (behind : List (Case ℕ)) → apart number (this ∷ behind) ≡ true → number ≡ this .outcome → ⊥
+unfolding apart each
+apart-here number this behind e same =
+    not-equal (this .outcome) number (first-of (not (eqb (this .outcome) number)) (apart number behind) e) (sym same)
+
+apart-behind : (number : ℕ) (this : Case ℕ) (behind : List (Case ℕ)) → apart number (this ∷ behind) ≡ true → apart number behind ≡ true
+unfolding apart each
+apart-behind number this behind e = second-of (not (eqb (this .outcome) number)) (apart number behind) e
+
+-- a number that is none of the cases' and not 0 is not handed back
+apart-first : (number : ℕ) (cases : List (Case ℕ)) → (0 ≡ number → ⊥) → apart number cases ≡ true → firstCase cases 0 ≡ number → ⊥
+unfolding firstCase
+apart-first number [] some e = some
+apart-first number (this ∷ behind) some e =
+    go (this .holds) (apart-first number behind some (apart-behind number this behind e))
+  where
+    go : (holds : Bool) → (firstCase behind 0 ≡ number → ⊥) → cond holds (this .outcome) (firstCase behind 0) ≡ number → ⊥
+    go true rest same = apart-here number this behind e (sym same)
+    go false rest same = rest same
+
+module _ (number : ℕ) where
+  -- an earlier case holds: its number is none of those behind
+  told-before : (earlier : List Bool) (cases : List (Case ℕ)) → (NoneOf earlier → ⊥) → (number ≡ 0 → ⊥) → apart number cases ≡ true
+      → Told number earlier cases
+  told-before earlier [] one some e = (λ zero. absurd (some zero), λ none. absurd (one none))
+  told-before earlier (this ∷ behind) one some e = (
+    (λ same. absurd (apart-here number this behind e same), λ first. absurd (one (first .0))),
+    told-before (earlier ++ (this .holds ∷ [])) behind (λ none. one (none-front earlier (this .holds) none)) some
+        (apart-behind number this behind e),
+  )
+
+  -- none of the earlier cases holds: the first of those left that holds gives its number
+  told-after : (earlier : List Bool) (cases : List (Case ℕ)) → NoneOf earlier → differ cases ≡ true → number ≡ firstCase cases 0
+      → Told number earlier cases
+  unfolding firstCase differ
+  told-after earlier [] none e is = (λ zero. none, λ all. is)
+  told-after earlier (this ∷ behind) none e is =
+      go (this .holds) refl is (λ left. told-after (earlier ++ (this .holds ∷ [])) behind left rest)
+    where
+      some : this .outcome ≡ 0 → ⊥
+      some =
+          not-equal (this .outcome) 0
+          (first-of (not (eqb (this .outcome) 0)) (apart (this .outcome) behind)
+          (first-of (not (eqb (this .outcome) 0) && apart (this .outcome) behind) (differ behind) e))
+
+      others : apart (this .outcome) behind ≡ true
+      others =
+          second-of (not (eqb (this .outcome) 0)) (apart (this .outcome) behind)
+          (first-of (not (eqb (this .outcome) 0) && apart (this .outcome) behind) (differ behind) e)
+
+      rest : differ behind ≡ true
+      rest = second-of (not (eqb (this .outcome) 0) && apart (this .outcome) behind) (differ behind) e
+
+      go : (holds : Bool) → this .holds ≡ holds → number ≡ cond holds (this .outcome) (firstCase behind 0)
+          → (NoneOf (earlier ++ (this .holds ∷ [])) → number ≡ firstCase behind 0 → Told number (earlier ++ (this .holds ∷ [])) behind)
+          → Told number earlier (this ∷ behind)
+      go true h is again = (
+        (λ same. (none, h), λ first. is),
+        told-before (earlier ++ (this .holds ∷ [])) behind
+            (λ all. true≢false (sym h ∙ none-last earlier (this .holds) all))
+            (λ zero. some (sym is ∙ zero)) (ap (λ (n : ℕ). apart n behind) is ∙ others),
+      )
+      go false h is again = (
+        (
+          λ same. absurd (apart-first (this .outcome) behind (λ zero. some (sym zero)) others (sym is ∙ same)),
+          λ first. absurd (true≢false (sym (first .1) ∙ h)),
+        ),
+        again (none-more earlier (this .holds) none h) is,
+      )
+
+-- the cases of answers, by their numbers
+module _ {A : Type 0} (number : A → ℕ) where
+  abbrev pub numbered : List (Case A) → List (Case ℕ)
+  numbered cases = map (λ this. when (this .holds) (number (this .outcome))) cases
+
+  numbered-first : (cases : List (Case A)) (otherwise : A) → number otherwise ≡ 0 → number (firstCase cases otherwise) ≡ firstCase (numbered cases) 0
+  unfolding firstCase
+  numbered-first [] otherwise none = none
+  numbered-first (this ∷ behind) otherwise none = go (this .holds) (numbered-first behind otherwise none)
+    where
+      go : (holds : Bool) → number (firstCase behind otherwise) ≡ firstCase (numbered behind) 0
+          → number (cond holds (this .outcome) (firstCase behind otherwise)) ≡ cond holds (number (this .outcome)) (firstCase (numbered behind) 0)
+      go true rest = refl
+      go false rest = rest
+
+  -- an answer's number is handed back by its cases in their order, where no two have one number
+  pub told-in-order : (cases : List (Case A)) (otherwise : A) → number otherwise ≡ 0 → differ (numbered cases) ≡ true
+      → Told (number (firstCase cases otherwise)) [] (numbered cases)
+  told-in-order cases otherwise none e =
+      told-after (number (firstCase cases otherwise)) [] (numbered cases) tt e (numbered-first cases otherwise none)
+
+-- ---- the calls: "Checked in the order 2, 3, 4, 5, 7, 6, so far as the call has that part; a fresh bank does not test 4."
+
+module _ (sheet bank : List ℕ) where
+  abbrev sheet-and-size : List (Case Answer)
+  sheet-and-size = when (brokenSheet sheet) SheetBreaksRule ∷ when (misfittingBank sheet bank) BankMisfits ∷ []
+
+  abbrev whole-bank : List (Case Answer)
+  whole-bank = sheet-and-size ++ (when (unsoundBank sheet bank) BankNotSound ∷ [])
+
+  pub check-numbers : Told (numberOf (checkAnswer sheet bank)) []
+      (when (brokenSheet sheet) 2 ∷ when (misfittingBank sheet bank) 3 ∷ when (unsoundBank sheet bank) 4 ∷ [])
+  unfolding checkAnswer differ
+  check-numbers = told-in-order numberOf whole-bank Done refl refl
+
+  pub fresh-numbers : Told (numberOf (freshAnswer sheet bank)) [] (when (brokenSheet sheet) 2 ∷ when (misfittingBank sheet bank) 3 ∷ [])
+  unfolding freshAnswer differ
+  fresh-numbers = told-in-order numberOf sheet-and-size Done refl refl
+
+  pub post-numbers : (address : ℕ) (bytes : List ℕ) → Told (numberOf (postAnswer sheet bank address bytes)) []
+      (when (brokenSheet sheet) 2 ∷ when (misfittingBank sheet bank) 3 ∷ when (unsoundBank sheet bank) 4
+      ∷ when (emptyOrOdd bytes) 7 ∷ when (badAddress sheet address bytes) 6 ∷ [])
+  unfolding postAnswer differ
+  post-numbers address bytes =
+      told-in-order numberOf
+      (whole-bank ++ (when (emptyOrOdd bytes) BadInput ∷ when (badAddress sheet address bytes) NotReadOnly ∷ [])) Done refl refl
+
+  pub mark-numbers : (mark : ℕ) → Told (numberOf (markAnswer sheet bank mark)) []
+      (when (brokenSheet sheet) 2 ∷ when (misfittingBank sheet bank) 3 ∷ when (unsoundBank sheet bank) 4 ∷ when (badMark mark) 7 ∷ [])
+  unfolding markAnswer differ
+  mark-numbers mark = told-in-order numberOf (whole-bank ++ (when (badMark mark) BadInput ∷ [])) Done refl refl
+
+  -- 7 comes before 6
+  pub post-7 : (address : ℕ) (bytes : List ℕ) → (numberOf (postAnswer sheet bank address bytes) ≡ 7)
+      ↔ FirstAfter (brokenSheet sheet ∷ misfittingBank sheet bank ∷ unsoundBank sheet bank ∷ []) (emptyOrOdd bytes)
+  post-7 address bytes = post-numbers address bytes .1 .1 .1 .0
+
+  pub post-6 : (address : ℕ) (bytes : List ℕ) → (numberOf (postAnswer sheet bank address bytes) ≡ 6)
+      ↔ FirstAfter (brokenSheet sheet ∷ misfittingBank sheet bank ∷ unsoundBank sheet bank ∷ emptyOrOdd bytes ∷ []) (badAddress sheet address bytes)
+  post-6 address bytes = post-numbers address bytes .1 .1 .1 .1 .0
