@@ -1,0 +1,59 @@
+-- `cedarskein::cedarskein_answer` meets its contract: the number, the length and the rate of the answer, and the buffers as it leaves them.
+-- Assumes nothing.
+use mathlib.Core.Path.{_∙_, ap, ap₂}
+use Prim.Native.Nat.{ℕ}
+use Rattle.meter.specs.Answer as meter
+use Rattle.cedarskein.specs.Door.{handed, handedOf}
+use borrow.Author.Needs.{needs}
+use Rattle.cedarskein.proofs.cedarskein_answer.Statement.{statement}
+use Rattle.cedarskein.proofs.cedarskein_answer.Tie as tie
+use Rattle.cedarskein.proofs.cedarskein_answer.Reads as reads
+use Rattle.cedarskein.proofs.cedarskein_answer.Lts as lts
+use Rattle.cedarskein.proofs.numbers.length_of.Reads as length-of-reads
+use Rattle.cedarskein.proofs.numbers.of_answered.Reads as of-answered-reads
+use Rattle.cedarskein.proofs.numbers.rate_of.Reads as rate-of-reads
+use Rattle.meter.proofs.answer.Reads as answer-reads
+
+-- src/lib.rt:91:9
+answer-requires : tie.Need-answer-requires
+answer-requires c κs = search needs
+
+-- src/lib.rt:92:15
+length-of-requires : tie.Need-length-of-requires
+length-of-requires c κs = search needs
+
+-- src/lib.rt:93:13
+rate-of-requires : tie.Need-rate-of-requires
+rate-of-requires c κs = search needs
+
+-- src/lib.rt:94:5
+of-answered-requires : tie.Need-of-answered-requires
+of-answered-requires c κs = search needs
+
+-- src/lib.rt:80:1
+same-length : tie.Need-same-length
+same-length c = search needs
+
+-- src/lib.rt:80:1
+same-length-2 : tie.Need-same-length-2
+same-length-2 c = search needs
+
+-- src/lib.rt:80:1
+returns : tie.Need-returns
+returns c =
+    let d = c .before .before .before .before .before .before .before .answer in
+    ap₂ (λ (number length : ℕ). handed number length (c .before .rate-of .result) (d .last .1 .0) (d .last .1 .1 .1 .0)) (c .of-answered .ensures) (c .before .before .length-of .ensures)
+    ∙ ap (λ (rate : ℕ). handed (meter.numberOf (d .result)) (meter.lengthOf (d .result)) rate (d .last .1 .0) (d .last .1 .1 .1 .0)) (c .before .rate-of .ensures)
+    ∙ ap handedOf (d .ensures)
+
+pub cedarskein-answer-spec : {M : Type 1} → statement M
+cedarskein-answer-spec =
+    tie.close
+    (tie.spec
+    answer-requires
+    length-of-requires
+    rate-of-requires
+    of-answered-requires
+    same-length
+    same-length-2
+    returns)

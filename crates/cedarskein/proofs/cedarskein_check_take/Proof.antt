@@ -1,0 +1,26 @@
+-- `cedarskein::cedarskein_check_take` meets its contract: the state of the check after the byte is its value.
+-- Assumes nothing.
+use mathlib.Core.Path.{_∙_, ap}
+use Rattle.check_value.specs.declared.Check.{Check}
+use borrow.Author.Needs.{needs}
+use Rattle.cedarskein.proofs.cedarskein_check_take.Statement.{statement}
+use Rattle.cedarskein.proofs.cedarskein_check_take.Tie as tie
+use Rattle.cedarskein.proofs.cedarskein_check_take.Reads as reads
+use Rattle.cedarskein.proofs.cedarskein_check_take.Lts as lts
+use Rattle.check_value.proofs.Check.take.Reads as take-reads
+use Rattle.check_value.proofs.Check.value.Reads as value-reads
+
+-- src/lib.rt:27:5
+take-requires : tie.Need-take-requires
+take-requires c κs = search needs
+
+-- src/lib.rt:27:5
+value-requires : tie.Need-value-requires
+value-requires c κs = search needs
+
+-- src/lib.rt:22:1
+returns : tie.Need-returns
+returns c = c .value .ensures ∙ ap (λ (k : Check). k .state) (c .before .take .ensures)
+
+pub cedarskein-check-take-spec : {M : Type 1} → statement M
+cedarskein-check-take-spec = tie.close (tie.spec take-requires value-requires returns)

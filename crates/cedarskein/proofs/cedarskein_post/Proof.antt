@@ -1,0 +1,33 @@
+-- `cedarskein::cedarskein_post` meets its contract: the number of the answer, and the bank as the call leaves it.
+-- Assumes nothing.
+use denote.Ref.{now}
+use Rattle.bank.specs.Calls.{postOutcome}
+use Rattle.cedarskein.proofs.Telling.{number-told}
+use borrow.Author.Needs.{needs}
+use Rattle.cedarskein.proofs.cedarskein_post.Statement.{statement}
+use Rattle.cedarskein.proofs.cedarskein_post.Tie as tie
+use Rattle.cedarskein.proofs.cedarskein_post.Reads as reads
+use Rattle.cedarskein.proofs.cedarskein_post.Lts as lts
+use Rattle.bank.proofs.post.Reads as post-reads
+use Rattle.cedarskein.proofs.numbers.of_answer.Reads as of-answer-reads
+
+-- src/lib.rt:67:24
+post-requires : tie.Need-post-requires
+post-requires c κs = search needs
+
+-- src/lib.rt:67:5
+of-answer-requires : tie.Need-of-answer-requires
+of-answer-requires c κs = search needs
+
+-- src/lib.rt:63:1
+same-length : tie.Need-same-length
+same-length c = search needs
+
+-- src/lib.rt:63:1
+returns : tie.Need-returns
+returns c =
+    let a = c .before .before .before .before .before .before .before .before .args in
+    number-told (c .before .before .before .post .result) (c .before .before .before .post .last .1 .0) (postOutcome (now (a .sheet)) (now (a .bank)) (a .address) (now (a .words))) (c .before .before .before .post .ensures) (c .of-answer .ensures)
+
+pub cedarskein-post-spec : {M : Type 1} → statement M
+cedarskein-post-spec = tie.close (tie.spec post-requires of-answer-requires same-length returns)

@@ -1,0 +1,33 @@
+-- What the firmware is handed: 01's numbers, and the lent buffers as they are afterwards. 01, "Numbers handed back to the firmware".
+-- Assumes nothing.
+use Prim.Native.Nat.{ℕ}
+use mathlib.Core.List.{List}
+use Rattle.bank.specs.Calls as bank
+use Rattle.meter.specs.Answer as meter
+
+-- the number of a call on a bank, and the bank afterwards
+pub record Told : Type 0 where
+  pub number : ℕ
+  pub bank : List ℕ
+
+abbrev pub told : ℕ → List ℕ → Told
+told number bank = record { number = number; bank = bank }
+
+abbrev pub toldOf : bank.Outcome → Told
+toldOf outcome = told (bank.numberOf (outcome .answer)) (outcome .bank)
+
+-- the number, the length and the rate of a call with one frame, and the bank and the answer buffer afterwards
+pub record Handed : Type 0 where
+  pub number : ℕ
+  pub length : ℕ
+  pub rate : ℕ
+  pub bank : List ℕ
+  pub buffer : List ℕ
+
+abbrev pub handed : ℕ → ℕ → ℕ → List ℕ → List ℕ → Handed
+handed number length rate bank buffer = record { number = number; length = length; rate = rate; bank = bank; buffer = buffer }
+
+abbrev pub handedOf : meter.Outcome → Handed
+handedOf outcome =
+    handed (meter.numberOf (outcome .answered)) (meter.lengthOf (outcome .answered)) (meter.rateIn (outcome .answered)) (outcome .bank)
+    (outcome .buffer)

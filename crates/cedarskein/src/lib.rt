@@ -1,0 +1,95 @@
+// The door for the board's firmware: the library's calls over byte slices (a pointer and a length) and numbers, as C has them.
+ghost use mathlib.Core.Path.{_≡_};
+ghost use Rattle.check_value.specs.Check.{startState, taken, valueOf};
+ghost use Rattle.sheet.specs.Rules.{judgedSheet, sheetNumber};
+ghost use Rattle.bank.specs.Calls.{numberOf, checkAnswer, freshOutcome, postOutcome, markOutcome};
+ghost use Rattle.meter.specs.Answer.{answerOutcome};
+ghost use Rattle.cedarskein.specs.Door.{told, toldOf, handed, handedOf};
+
+mod numbers;
+
+use check_value::Check;
+
+// The check value as a running state: the state before any byte.
+#[no_mangle]
+pub extern "C" fn cedarskein_check_start() -> u16
+    ensures { λ r. ⌜ r ≡ startState ⌝ }
+{
+    Check::start().value()
+}
+
+// The state after one byte more.
+#[no_mangle]
+pub extern "C" fn cedarskein_check_take(state: u16, byte: u8) -> u16
+    ensures { λ r. ⌜ r ≡ taken state byte ⌝ }
+{
+    let check = Check { state };
+    check.take(byte).value()
+}
+
+// The check value of a whole slice.
+#[no_mangle]
+pub extern "C" fn cedarskein_check_value(bytes: &[u8]) -> u16
+    ensures { λ r. ⌜ r ≡ valueOf (now (bytes .entry)) ⌝ }
+{
+    check_value::value_of(bytes)
+}
+
+// 0, or 2 where the sheet breaks a rule.
+#[no_mangle]
+pub extern "C" fn cedarskein_sheet_check(sheet: &[u8]) -> u32
+    ensures { λ r. ⌜ r ≡ sheetNumber (judgedSheet (now (sheet .entry))) ⌝ }
+{
+    numbers::of_sheet(sheet::judged(sheet))
+}
+
+// 0, or 2, 3, 4 in this order.
+#[no_mangle]
+pub extern "C" fn cedarskein_bank_check(sheet: &[u8], bank: &[u8]) -> u32
+    ensures { λ r. ⌜ r ≡ numberOf (checkAnswer (now (sheet .entry)) (now (bank .entry))) ⌝ }
+{
+    numbers::of_answer(bank::judged(sheet, bank))
+}
+
+// Makes a bank fresh: 0, or 2, 3 in this order.
+#[no_mangle]
+pub extern "C" fn cedarskein_bank_fresh(sheet: &[u8], bank: &mut [u8]) -> u32
+    ensures { λ r. ⌜ told r (now (bank .exit)) ≡ toldOf (freshOutcome (now (sheet .entry)) (now (bank .entry))) ⌝ }
+{
+    numbers::of_answer(bank::fresh(sheet, bank))
+}
+
+// Posts words from an address upward: 0, or 2, 3, 4, 7, 6 in this order.
+#[no_mangle]
+pub extern "C" fn cedarskein_post(sheet: &[u8], bank: &mut [u8], address: u32, words: &[u8]) -> u32
+    ensures { λ r. ⌜ told r (now (bank .exit)) ≡ toldOf (postOutcome (now (sheet .entry)) (now (bank .entry)) address (now (words .entry))) ⌝ }
+{
+    numbers::of_answer(bank::post(sheet, bank, address, words))
+}
+
+// Sets the alarm mark: 0, or 2, 3, 4, 7 in this order.
+#[no_mangle]
+pub extern "C" fn cedarskein_set_mark(sheet: &[u8], bank: &mut [u8], mark: u32) -> u32
+    ensures { λ r. ⌜ told r (now (bank .exit)) ≡ toldOf (markOutcome (now (sheet .entry)) (now (bank .entry)) mark) ⌝ }
+{
+    numbers::of_answer(bank::set_mark(sheet, bank, mark))
+}
+
+// Answers one frame: 0 with the length of the reply and the rate to send it at, 1 for silence, or 2, 3, 4, 5 in this order. Length
+// and rate are written on every call, zeros where there is no reply.
+#[no_mangle]
+pub extern "C" fn cedarskein_answer(
+    sheet: &[u8],
+    bank: &mut [u8],
+    frame: &[u8],
+    out: &mut [u8],
+    length: &mut u32,
+    rate: &mut u32,
+) -> u32
+    ensures { λ r. ⌜ handed r (now (length .exit)) (now (rate .exit)) (now (bank .exit)) (now (out .exit)) ≡ handedOf (answerOutcome (now (sheet .entry)) (now (bank .entry)) (now (frame .entry)) (now (out .entry))) ⌝ }
+{
+    let answered = meter::answer(sheet, bank, frame, out);
+    *length = numbers::length_of(answered);
+    *rate = numbers::rate_of(answered);
+    numbers::of_answered(answered)
+}
