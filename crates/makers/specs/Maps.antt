@@ -1,4 +1,4 @@
--- 01, "Two meters' maps", row by row as 01 prints them: first address, kind, low and high bound. Every number here is hexadecimal, as
+-- 01, "Two meters' maps", row by row in the order of their addresses: first address, kind, low and high bound. Every number here is hexadecimal, as
 -- in 01. Assumes nothing.
 use Prim.Native.Nat.{ℕ, _+_}
 use mathlib.Core.List.{List, [], _∷_}

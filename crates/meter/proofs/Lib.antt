@@ -10,3 +10,9 @@ pub mod Stopping
 pub mod Placing
 pub mod Answering
 pub mod Passing
+pub mod Determined
+pub mod Closing
+pub mod Outcomes
+pub mod Written
+pub mod Keeping
+pub mod Soundness

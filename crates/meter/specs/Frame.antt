@@ -53,7 +53,7 @@ manyOf code word = cond (eqb code writesOne) 1 word
 abbrev pub count : List ℕ → ℕ
 count frame = manyOf (function frame) (second frame)
 
--- the addresses of a read or a write: "Each address start + k, as a number without a width"
+-- the addresses of a read or a write, as numbers without a width, so that a run past FFFF never comes round to 0
 abbrev pub run : List ℕ → List ℕ
 run frame = upFrom (start frame) (count frame)
 
@@ -68,8 +68,8 @@ sent frame k = wordAt frame (valuesAt frame + 2 * k)
 -- a function is one of the four, and the sheet allows it
 abbrev pub codeAllowed : List ℕ → ℕ → Bool
 codeAllowed sheet code =
-    eqb code reads && allowed sheet bitOf03 || eqb code clears && allowed sheet bitOf05 || eqb code writesOne && allowed sheet bitOf06
-    || eqb code writesMany && allowed sheet bitOf10
+    (eqb code reads && allowed sheet bitOf03) || (eqb code clears && allowed sheet bitOf05)
+    || (eqb code writesOne && allowed sheet bitOf06) || (eqb code writesMany && allowed sheet bitOf10)
 
 abbrev pub functionAllowed : List ℕ → List ℕ → Bool
 functionAllowed sheet frame = codeAllowed sheet (function frame)

@@ -3,7 +3,6 @@ use Prim.Native.Nat.{ℕ, _+_, _*_, _/_, _%_}
 use mathlib.Core.Bool.{cond}
 use mathlib.Core.List.{List, [], _∷_, _++_}
 use lib.Dec.{ltb, eqb}
-use lib.ListN.{take}
 use Rattle.words.specs.Words.{upper, lower}
 use Rattle.check_value.specs.Check.{valueOf}
 use Rattle.sheet.specs.Rules.{upFrom}
@@ -18,7 +17,7 @@ use Rattle.meter.specs.Write.{runStores}
 abbrev pub wordBytes : ℕ → List ℕ
 wordBytes word = upper word ∷ lower word ∷ []
 
--- the bytes of so many words of a bank, from a place on
+-- the bytes of a bank's words at the given places
 unfoldable pub bankRun : List ℕ → List ℕ → List ℕ
 bankRun bank [] = []
 bankRun bank (place ∷ places) = wordBytes (wordOf bank place) ++ bankRun bank places

@@ -1,4 +1,5 @@
--- What is sent: the answer with its length and rate, and the answer buffer with the reply laid in it. Assumes nothing.
+-- What is sent: the answer with its length and rate, and the answer buffer with the reply laid in it. Only private promises cite this
+-- file. Assumes nothing.
 use Prim.Native.Nat.{ℕ}
 use mathlib.Core.List.{List}
 use Rattle.meter.specs.declared.Answered.{Answered}

@@ -1,4 +1,5 @@
--- What a stage of judgement knows of a frame that the stages before it let through. Assumes nothing.
+-- What the stages of judgement from step 4 on know of a frame: the sheet is sound, the parts are the frame's, and its function is
+-- allowed. Only private promises cite this file. Assumes nothing.
 use Prim.Native.Nat.{ℕ}
 use mathlib.Core.Path.{_≡_}
 use mathlib.Core.Bool.{true}

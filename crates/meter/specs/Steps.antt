@@ -1,4 +1,4 @@
--- 01, "Order of judgement for a frame": steps 1 to 7, each a condition of its own; the first that holds wins. Assumes nothing.
+-- 01, "Order of judgement for a frame": the conditions of steps 1 to 7, step 7 as two; the first that holds wins. Assumes nothing.
 use Prim.Native.Nat.{ℕ, _+_, _*_}
 use mathlib.Core.Bool.{Bool, false, not, cond, _&&_, _||_}
 use mathlib.Core.List.{List, [], _∷_}
@@ -36,20 +36,21 @@ wrongLength frame =
 -- 5. "03 with count 0; 10 with count 0 or byte count not twice the count: error 03."
 abbrev pub wrongCount : List ℕ → Bool
 wrongCount frame =
-    eqb (function frame) reads && eqb (second frame) 0
-    || eqb (function frame) writesMany && (eqb (second frame) 0 || not (eqb (byteCount frame) (2 * second frame)))
+    (eqb (function frame) reads && eqb (second frame) 0)
+    || (eqb (function frame) writesMany && (eqb (second frame) 0 || not (eqb (byteCount frame) (2 * second frame))))
 
 -- "03 with count over 47"
 abbrev pub mostRead : ℕ
 mostRead = 47
 
 -- 6. "An address of the run in no area, or for a write in an access 1 area, or above FFFF; 03 with count over 47; 05 at another address
--- than the clear address: error 02." An area ends at FFFF at the most, so an address above it lies in none.
+-- than the clear address: error 02." The areas of a sheet of bytes end at FFFF at the most, so an
+-- address above it lies in none.
 abbrev pub wrongAddress : List ℕ → List ℕ → Bool
 wrongAddress sheet frame =
-    eqb (function frame) reads && (ltb mostRead (second frame) || not (allOpen Read sheet (run frame)))
-    || isWrite frame && not (allOpen Write sheet (run frame))
-    || eqb (function frame) clears && not (eqb (start frame) (clearAddress sheet))
+    (eqb (function frame) reads && (ltb mostRead (second frame) || not (allOpen Read sheet (run frame))))
+    || (isWrite frame && not (allOpen Write sheet (run frame)))
+    || (eqb (function frame) clears && not (eqb (start frame) (clearAddress sheet)))
 
 -- 7. "05 with a value other than 0 ..: error 03."
 abbrev pub wrongValue : List ℕ → Bool
@@ -78,7 +79,7 @@ goodFrame sheet frame =
     cond (eqb (function frame) reads) (GoodRead (firstPlace sheet frame) (count frame))
     (cond (eqb (function frame) clears) GoodClear (GoodWrite (firstPlace sheet frame) (count frame)))
 
--- where a frame stops, or that it is good, once so many steps have let it through
+-- where a frame stops, or that it is good, once so many of these conditions have let it through
 unfoldable pub judgedFrom : ℕ → List ℕ → List ℕ → List ℕ → Judged
 judgedFrom passed sheet bank frame = firstCase (drop passed (steps sheet bank frame)) (goodFrame sheet frame)
 

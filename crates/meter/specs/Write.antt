@@ -25,7 +25,7 @@ wouldBe first many bank frame place = cond (inRun first many place) (sent frame 
 
 -- an item is touched if one of its places is in the run
 abbrev pub touched : ℕ → ℕ → Item → Bool
-touched first many item = inRun first many (item .place) || isPair item && inRun first many (item .place + 1)
+touched first many item = inRun first many (item .place) || (isPair item && inRun first many (item .place + 1))
 
 -- "A pair with both halves in the write is one item; a half alone is judged with the other half now in the bank."
 unfoldable pub badItem : ℕ → ℕ → List ℕ → List ℕ → Item → Bool
@@ -48,6 +48,7 @@ stopPlace sheet bank frame = stopIn (firstPlace sheet frame) (count frame) bank 
 abbrev pub runStore : List ℕ → ℕ → ℕ → Store
 runStore frame first k = record { place = first + k; word = sent frame k }
 
--- the words of a run, from its first place on, that stand in front of a stop
+-- the words of a run, from its first place on, that stand in front of a stop; none where the stop is in front of the run, as where its
+-- first word is the lower half of a bad pair
 unfoldable pub runStores : List ℕ → ℕ → ℕ → List Store
 runStores frame first stop = map (runStore frame first) (upFrom 0 (stop - first))

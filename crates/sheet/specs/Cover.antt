@@ -1,4 +1,5 @@
--- How far a walk over the items has covered the places of the access 3 areas: what the code's walk keeps. Assumes nothing.
+-- How far a walk over the items has covered the places of the access 3 areas: what the code's walk keeps. Only private promises cite
+-- this file. Assumes nothing.
 use Prim.Native.Nat.{ℕ, _+_, _-_, _≤_, _<_}
 use mathlib.Core.Path.{_≡_}
 use mathlib.Core.Bool.{Bool, true, _&&_, cond}
@@ -27,7 +28,8 @@ placesLeft sheet cover =
 abbrev pub pairWithin : List Area → ℕ → Bool
 pairWithin all place = some (λ area. placeInArea place area && placeInArea (place + 1) area) all
 
--- a cover that is under way: a pair at a place that is left lies within one area just where the next place is left too
+-- a cover that is under way: a pair at a place that is left of the area at hand lies within one area just where the next place is left
+-- of that area too
 pub record UnderWay (sheet : List ℕ) (cover : Cover) : Type 0 where
   pub follow : placesFollow 0 (areas sheet) ≡ true
   pub ordered : cover .next ≤ cover .end

@@ -1,5 +1,5 @@
--- 01, "The sheet: a header of counts and offsets": its rules, each a definition, in 01's order. No rule leans on another: each has its
--- answer on any bytes. Assumes nothing.
+-- 01, "The sheet: a header of counts and offsets": its rules, each a definition, in 01's order. Each has its answer on any bytes, whatever
+-- the others say. Assumes nothing.
 use Prim.Native.Nat.{ℕ, zero, suc, _+_, _-_, _*_, _/_, _%_}
 use mathlib.Core.Bool.{Bool, true, false, not, _&&_, _||_, cond}
 use mathlib.Core.List.{List, [], _∷_, _++_}
@@ -181,7 +181,7 @@ unfoldable pub itemPlaces : List Item → List ℕ
 itemPlaces [] = []
 itemPlaces (item ∷ behind) = placesOf item ++ itemPlaces behind
 
--- the access of an area whose places are covered by items
+-- the access of an area that may be written, and whose places are covered by items
 abbrev pub writable : ℕ → Bool
 writable access = eqb access readAndWrite
 
