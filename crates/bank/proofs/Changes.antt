@@ -1,11 +1,11 @@
 -- What a call that is done changes: posting stores each word at the place of its address, setting the mark stores it, and every other word
 -- stays; a refusal changes nothing. Assumes nothing.
 use mathlib.Core.Path.{_≡_, refl, ap, _∙_}
-use mathlib.Core.Bool.{Bool, true, false}
+use mathlib.Core.Bool.{Bool, true, false, cond}
 use mathlib.Core.List.{List, [], _∷_}
 use Prim.Native.Nat.{ℕ, _+_, _*_, _/_, _<_}
 use native.Mathlib.Omega.{arith}
-use lib.Dec.{leb}
+use lib.Dec.{leb, eqb}
 use lib.ListN.{length}
 use borrow.Author.Tests.{eq-eqb, ne-eqb, not-false}
 use Rattle.words.specs.Words.{wordAt}
@@ -161,24 +161,33 @@ module _ (sheet bank : List ℕ) (address : ℕ) (bytes : List ℕ) (done : post
 
 -- ---- the mark: "Setting the mark stores a given 0 or 1 there."
 
+-- the word at a place after the store of a mark
+pub mark-stored : (sheet bank : List ℕ) → sound sheet ≡ true → fits sheet bank ≡ true → (mark place : ℕ)
+    → wordOf (stored bank (markStores sheet mark)) place ≡ cond (eqb (markPlace sheet) place) mark (wordOf bank place)
+unfolding latest
+mark-stored sheet bank right fitting mark = words-left bank (markStores sheet mark) (mark-stores-inside sheet bank right fitting mark)
+
+module _ (sheet bank : List ℕ) (right : sound sheet ≡ true) (fitting : fits sheet bank ≡ true) (mark : ℕ) where
+  pub mark-there : wordOf (stored bank (markStores sheet mark)) (markPlace sheet) ≡ mark
+  mark-there = mark-stored sheet bank right fitting mark (markPlace sheet) ∙ simp (eq-eqb (markPlace sheet) (markPlace sheet) refl)
+
+  pub mark-apart : (place : ℕ) → (markPlace sheet ≡ place → ⊥) → wordOf (stored bank (markStores sheet mark)) place ≡ wordOf bank place
+  mark-apart place apart = mark-stored sheet bank right fitting mark place ∙ simp (ne-eqb (markPlace sheet) place apart)
+
 module _ (sheet bank : List ℕ) (mark : ℕ) (done : markAnswer sheet bank mark ≡ Done) where
   marked : Passed sheet bank
   marked = mark-passed sheet bank mark done
 
-  mark-left : (place : ℕ) → wordOf (markOutcome sheet bank mark .bank) place ≡ latest (markStores sheet mark) place (wordOf bank place)
+  mark-left : (place : ℕ) → wordOf (markOutcome sheet bank mark .bank) place ≡ wordOf (stored bank (markStores sheet mark)) place
   unfolding markOutcome
-  mark-left place =
-      ap (λ (b : List ℕ). wordOf b place) (done-stores bank (markStores sheet mark) done)
-      ∙ words-left bank (markStores sheet mark) (mark-stores-inside sheet bank (marked .right) (marked .fitting) mark) place
+  mark-left place = ap (λ (b : List ℕ). wordOf b place) (done-stores bank (markStores sheet mark) done)
 
   pub mark-word : wordOf (markOutcome sheet bank mark .bank) (markPlace sheet) ≡ mark
-  unfolding latest
-  mark-word = mark-left (markPlace sheet) ∙ simp (eq-eqb (markPlace sheet) (markPlace sheet) refl)
+  mark-word = mark-left (markPlace sheet) ∙ mark-there sheet bank (marked .right) (marked .fitting) mark
 
   -- every other word stays
   pub mark-elsewhere : (place : ℕ) → (markPlace sheet ≡ place → ⊥) → wordOf (markOutcome sheet bank mark .bank) place ≡ wordOf bank place
-  unfolding latest
-  mark-elsewhere place apart = mark-left place ∙ simp (ne-eqb (markPlace sheet) place apart)
+  mark-elsewhere place apart = mark-left place ∙ mark-apart sheet bank (marked .right) (marked .fitting) mark place apart
 
   -- also the items
   pub mark-items : (item : Item) → Among item (items sheet) → (place : ℕ) → holds item place ≡ true

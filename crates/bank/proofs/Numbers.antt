@@ -9,6 +9,7 @@ use lib.Dec.{eqb}
 use borrow.Author.Tests.{eqb-false, not-true}
 use Rattle.sheet.specs.Rules.{each}
 use Rattle.sheet.proofs.Tests.{first-of, second-of}
+use Rattle.sheet.proofs.Among.{Among, there, among-same}
 use Rattle.bank.specs.declared.Answer.{Answer}
 use Rattle.bank.specs.declared.Answer.the-variants.{Done, SheetBreaksRule, BankMisfits, BankNotSound, NotReadOnly, BadInput}
 use Rattle.bank.specs.Bank.{emptyOrOdd}
@@ -131,26 +132,85 @@ module _ (number : ℕ) where
         again (none-more earlier (this .holds) none h) is,
       )
 
--- the cases of answers, by their numbers
-module _ {A : Type 0} (number : A → ℕ) where
-  abbrev pub numbered : List (Case A) → List (Case ℕ)
-  numbered cases = map (λ this. when (this .holds) (number (this .outcome))) cases
+-- ---- a number that cases hand back is one of theirs, or 0
 
-  numbered-first : (cases : List (Case A)) (otherwise : A) → number otherwise ≡ 0 → number (firstCase cases otherwise) ≡ firstCase (numbered cases) 0
+abbrev pub numbersOf : List (Case ℕ) → List ℕ
+numbersOf [] = 0 ∷ []
+numbersOf (this ∷ behind) = this .outcome ∷ numbersOf behind
+
+pub told-among : (number : ℕ) (earlier : List Bool) (cases : List (Case ℕ)) → NoneOf earlier → Told number earlier cases
+    → Among number (numbersOf cases)
+told-among number earlier [] none told = among-same (told .1 none)
+told-among number earlier (this ∷ behind) none told =
+    go (this .holds) refl
+    (λ e. told-among number (earlier ++ (this .holds ∷ [])) behind (none-more earlier (this .holds) none e) (told .1))
+  where
+    go : (holds : Bool) → this .holds ≡ holds → (this .holds ≡ false → Among number (numbersOf behind))
+        → Among number (this .outcome ∷ numbersOf behind)
+    go true e rest = among-same (told .0 .1 (none, e))
+    go false e rest = there (rest e)
+
+-- ---- cases and their conditions
+
+module _ {A : Type 0} where
+  abbrev pub conditions : List (Case A) → List Bool
+  conditions cases = map (λ this. this .holds) cases
+
+  -- where none holds, it is the other outcome
+  pub first-none : (cases : List (Case A)) (otherwise : A) → NoneOf (conditions cases) → firstCase cases otherwise ≡ otherwise
   unfolding firstCase
-  numbered-first [] otherwise none = none
-  numbered-first (this ∷ behind) otherwise none = go (this .holds) (numbered-first behind otherwise none)
+  first-none [] otherwise none = refl
+  first-none (this ∷ behind) otherwise none =
+      ap (λ (b : Bool). cond b (this .outcome) (firstCase behind otherwise)) (none .0) ∙ first-none behind otherwise (none .1)
+
+  -- where none in front holds and then this one does, it is its own
+  pub first-after : (front : List (Case A)) (this : Case A) (behind : List (Case A)) (otherwise : A) → FirstAfter (conditions front) (this .holds)
+      → firstCase (front ++ (this ∷ behind)) otherwise ≡ this .outcome
+  unfolding firstCase
+  first-after [] this behind otherwise first = ap (λ (b : Bool). cond b (this .outcome) (firstCase behind otherwise)) (first .1)
+  first-after (other ∷ front) this behind otherwise first =
+      ap (λ (b : Bool). cond b (other .outcome) (firstCase (front ++ (this ∷ behind)) otherwise)) (first .0 .0)
+      ∙ first-after front this behind otherwise (first .0 .1, first .1)
+
+  -- where it is another outcome than any of the cases has, as a test tells, none holds
+  pub none-holds : (test : A → Bool) (cases : List (Case A)) (otherwise : A) → each (λ this. not (test (this .outcome))) cases ≡ true
+      → test (firstCase cases otherwise) ≡ true → NoneOf (conditions cases)
+  unfolding firstCase each
+  none-holds test [] otherwise others e = tt
+  none-holds test (this ∷ behind) otherwise others e =
+      go (this .holds) refl e
+      (none-holds test behind otherwise (second-of (not (test (this .outcome))) (each (λ this. not (test (this .outcome))) behind) others))
     where
-      go : (holds : Bool) → number (firstCase behind otherwise) ≡ firstCase (numbered behind) 0
-          → number (cond holds (this .outcome) (firstCase behind otherwise)) ≡ cond holds (number (this .outcome)) (firstCase (numbered behind) 0)
+      go : (holds : Bool) → this .holds ≡ holds → test (cond holds (this .outcome) (firstCase behind otherwise)) ≡ true
+          → (test (firstCase behind otherwise) ≡ true → NoneOf (conditions behind))
+          → NoneOf (conditions (this ∷ behind))
+      go true h e rest =
+          absurd (true≢false (sym e
+          ∙ not-true (test (this .outcome)) (first-of (not (test (this .outcome))) (each (λ this. not (test (this .outcome))) behind) others)))
+      go false h e rest = (h, rest e)
+
+-- cases with their outcomes seen in another way: the first that holds is the same
+module _ {A B : Type 0} (seen : A → B) where
+  abbrev pub mapped : List (Case A) → List (Case B)
+  mapped cases = map (λ this. when (this .holds) (seen (this .outcome))) cases
+
+  pub mapped-first : (cases : List (Case A)) (otherwise : A) → seen (firstCase cases otherwise) ≡ firstCase (mapped cases) (seen otherwise)
+  unfolding firstCase
+  mapped-first [] otherwise = refl
+  mapped-first (this ∷ behind) otherwise = go (this .holds) (mapped-first behind otherwise)
+    where
+      go : (holds : Bool) → seen (firstCase behind otherwise) ≡ firstCase (mapped behind) (seen otherwise)
+          → seen (cond holds (this .outcome) (firstCase behind otherwise)) ≡ cond holds (seen (this .outcome)) (firstCase (mapped behind) (seen otherwise))
       go true rest = refl
       go false rest = rest
 
+module _ {A : Type 0} (number : A → ℕ) where
   -- an answer's number is handed back by its cases in their order, where no two have one number
-  pub told-in-order : (cases : List (Case A)) (otherwise : A) → number otherwise ≡ 0 → differ (numbered cases) ≡ true
-      → Told (number (firstCase cases otherwise)) [] (numbered cases)
+  pub told-in-order : (cases : List (Case A)) (otherwise : A) → number otherwise ≡ 0 → differ (mapped number cases) ≡ true
+      → Told (number (firstCase cases otherwise)) [] (mapped number cases)
   told-in-order cases otherwise none e =
-      told-after (number (firstCase cases otherwise)) [] (numbered cases) tt e (numbered-first cases otherwise none)
+      told-after (number (firstCase cases otherwise)) [] (mapped number cases) tt e
+      (mapped-first number cases otherwise ∙ ap (firstCase (mapped number cases)) none)
 
 -- ---- the calls: "Checked in the order 2, 3, 4, 5, 7, 6, so far as the call has that part; a fresh bank does not test 4."
 

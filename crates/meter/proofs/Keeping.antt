@@ -6,7 +6,7 @@ use mathlib.Core.Logic.{_⊎_, inl, inr}
 use Prim.Native.Nat.{ℕ, zero, suc, _+_, _-_, _≤_, _<_}
 use native.Mathlib.Omega.{arith}
 use lib.Dec.{leb, ltb, eqb}
-use borrow.Author.Tests.{lt-ltb, leb-true, ltb-true, ltb-false, eqb-true, eq-eqb, ne-eqb, not-false}
+use borrow.Author.Tests.{lt-ltb, leb-true, ltb-true, ltb-false, eqb-true, not-false}
 use Rattle.sheet.specs.declared.Item.{Item}
 use Rattle.sheet.specs.Rows.{rows, items, itemAt, itemCount, bankWords}
 use Rattle.sheet.specs.Rules.{isPair, sound}
@@ -16,9 +16,9 @@ use Rattle.sheet.proofs.Among.{Among, here, there}
 use Rattle.sheet.proofs.Places.{items-ascend}
 use Rattle.bank.specs.Stores.{Store, wordOf, stored}
 use Rattle.bank.specs.Bank.{fits, goodBy, bankSound, markPlace, markStores}
-use Rattle.bank.proofs.Latest.{latest, words-left}
+use Rattle.bank.proofs.Changes.{mark-there, mark-apart}
 use Rattle.bank.proofs.Held.{holds-first, item-row, held-below, holder-alone}
-use Rattle.bank.proofs.Inside.{below-inside, mark-stores-inside}
+use Rattle.bank.proofs.Inside.{below-inside}
 use Rattle.bank.proofs.Values.{good-same, sound-bank, sound-items, sound-mark, sound-kept}
 use Rattle.meter.specs.declared.runs.Purpose.the-variants.{Write}
 use Rattle.meter.specs.Frame.{start, count, run, sent}
@@ -69,7 +69,7 @@ module _ (first many : ℕ) where
 
   module _ (bank frame : List ℕ) where
     -- a place that is not in the run keeps its word
-    outside : (place : ℕ) → (inRun first many place ≡ true → ⊥) → wouldBe first many bank frame place ≡ wordOf bank place
+    pub outside : (place : ℕ) → (inRun first many place ≡ true → ⊥) → wouldBe first many bank frame place ≡ wordOf bank place
     outside place out = go (inRun first many place) refl
       where
         go : (within : Bool) → inRun first many place ≡ within → cond within (sent frame (place - first)) (wordOf bank place) ≡ wordOf bank place
@@ -92,20 +92,21 @@ module _ (first many : ℕ) where
 
     -- ---- the stop
 
-    -- it is the end of the run, or the first place of an item
-    stop-at : (l : List Item) → (stopIn first many bank frame l ≡ first + many)
-        ⊎ ((item : Item) × Among item l × (item .place ≡ stopIn first many bank frame l))
+    -- it is the end of the run, or the first place of a bad item
+    pub stop-at : (l : List Item) → (stopIn first many bank frame l ≡ first + many)
+        ⊎ ((item : Item) × Among item l × (badItem first many bank frame item ≡ true) × (item .place ≡ stopIn first many bank frame l))
     unfolding stopIn
     stop-at [] = inl refl
-    stop-at (item ∷ behind) = go (badItem first many bank frame item) (stop-at behind)
+    stop-at (item ∷ behind) = go (badItem first many bank frame item) refl (stop-at behind)
       where
-        go : (bad : Bool) → (stopIn first many bank frame behind ≡ first + many)
-            ⊎ ((other : Item) × Among other behind × (other .place ≡ stopIn first many bank frame behind))
+        go : (bad : Bool) → badItem first many bank frame item ≡ bad → (stopIn first many bank frame behind ≡ first + many)
+            ⊎ ((other : Item) × Among other behind × (badItem first many bank frame other ≡ true) × (other .place ≡ stopIn first many bank frame behind))
             → (cond bad (item .place) (stopIn first many bank frame behind) ≡ first + many)
-            ⊎ ((other : Item) × Among other (item ∷ behind) × (other .place ≡ cond bad (item .place) (stopIn first many bank frame behind)))
-        go true rest = inr (item, here, refl)
-        go false (inl e) = inl e
-        go false (inr found) = inr (found .0, there (found .1), found .2)
+            ⊎ ((other : Item) × Among other (item ∷ behind) × (badItem first many bank frame other ≡ true)
+            × (other .place ≡ cond bad (item .place) (stopIn first many bank frame behind)))
+        go true says rest = inr (item, here, says, refl)
+        go false says (inl e) = inl e
+        go false says (inr found) = inr (found .0, there (found .1), found .2, found .3)
 
     -- no bad item stands in front of it, where items ascend
     stop-front : (row : ℕ → Item) (from count : ℕ) → ((i j : ℕ) → i < j → j < from + count → row i .place < row j .place)
@@ -160,21 +161,21 @@ module _ (sheet bank frame : List ℕ) (keeps : sound sheet ≡ true) (fitting :
   abbrev after : List ℕ
   after = stored bank (runStores frame first stop)
 
-  bound : stop ≤ first + count frame
+  pub bound : stop ≤ first + count frame
   unfolding stopPlace
   bound = stop-bound first (count frame) bank frame (items sheet)
 
   below-bank : (k : ℕ) → k < stop - first → first + k < bankWords sheet
-  below-bank k inside = run-inside sheet keeps (start frame) (count frame) all k (omega (arith, bound))
+  below-bank k inside = run-inside Write sheet keeps (start frame) (count frame) all k (omega (arith, bound))
 
-  written : (place : ℕ) → wordOf after place ≡ wouldBe first (stop - first) bank frame place
+  pub written : (place : ℕ) → wordOf after place ≡ wouldBe first (stop - first) bank frame place
   written =
       words-written frame first stop bank
       (λ store m. let found = run-store frame first stop m in
       below-inside sheet bank keeps fitting (store .place)
       (omega (arith, ap (λ (s : Store). s .place) (found .2), below-bank (found .0) (found .1))))
 
-  mark-kept : wordOf after (markPlace sheet) ≡ wordOf bank (markPlace sheet)
+  pub mark-kept : wordOf after (markPlace sheet) ≡ wordOf bank (markPlace sheet)
   mark-kept =
       written (markPlace sheet)
       ∙ outside first (stop - first) bank frame (markPlace sheet)
@@ -184,7 +185,7 @@ module _ (sheet bank frame : List ℕ) (keeps : sound sheet ≡ true) (fitting :
       omega arith)
 
   -- an item in front of the stop is not bad
-  front-fine : {item : Item} → Among item (items sheet) → item .place < stop → badItem first (count frame) bank frame item ≡ false
+  pub front-fine : {item : Item} → Among item (items sheet) → item .place < stop → badItem first (count frame) bank frame item ≡ false
   unfolding stopPlace items
   front-fine {item} m less = go (badItem first (count frame) bank frame item) refl
     where
@@ -206,7 +207,8 @@ module _ (sheet bank frame : List ℕ) (keeps : sound sheet ≡ true) (fitting :
   unfolding stopPlace
   front-places {item} m less place held = go (stop-at first (count frame) bank frame (items sheet))
     where
-      go : (stop ≡ first + count frame) ⊎ ((other : Item) × Among other (items sheet) × (other .place ≡ stop))
+      go : (stop ≡ first + count frame)
+          ⊎ ((other : Item) × Among other (items sheet) × (badItem first (count frame) bank frame other ≡ true) × (other .place ≡ stop))
           → (stop ≡ first + count frame) ⊎ (place < stop)
       go (inl e) = inl e
       go (inr found) = inr (in-front (ltb place stop) refl)
@@ -214,9 +216,9 @@ module _ (sheet bank frame : List ℕ) (keeps : sound sheet ≡ true) (fitting :
           in-front : (b : Bool) → ltb place stop ≡ b → place < stop
           in-front true says = ltb-true place stop says
           in-front false says =
-              let at : found .0 .place ≡ place = omega (arith, found .2, ltb-false place stop says, held-high item place held) in
+              let at : found .0 .place ≡ place = omega (arith, found .3, ltb-false place stop says, held-high item place held) in
               let same = holder-alone sheet keeps place m held (found .1) (holds-first (found .0) place at) in
-              absurd (omega (arith, found .2, ap (λ (i : Item). i .place) same))
+              absurd (omega (arith, found .3, ap (λ (i : Item). i .place) same))
 
   item-good : (item : Item) → Among item (items sheet) → goodBy (wordOf after) item ≡ true
   item-good item m =
@@ -249,15 +251,7 @@ module _ (sheet bank frame : List ℕ) (keeps : sound sheet ≡ true) (fitting :
 
 pub clear-sound : (sheet bank : List ℕ) → sound sheet ≡ true → fits sheet bank ≡ true → bankSound sheet bank ≡ true
     → bankSound sheet (stored bank (markStores sheet 0)) ≡ true
-unfolding latest
 clear-sound sheet bank keeps fitting whole =
     sound-kept sheet bank (stored bank (markStores sheet 0)) whole
-    (λ item m place held. left place
-    ∙ ap (λ (b : Bool). cond b 0 (wordOf bank place)) (apart place (held-below sheet keeps place m held)))
-    (ap (λ (n : ℕ). leb n 1) (left (markPlace sheet) ∙ ap (λ (b : Bool). cond b 0 (wordOf bank (markPlace sheet))) (eq-eqb (markPlace sheet) (markPlace sheet) refl)))
-  where
-    left : (place : ℕ) → wordOf (stored bank (markStores sheet 0)) place ≡ latest (markStores sheet 0) place (wordOf bank place)
-    left place = words-left bank (markStores sheet 0) (mark-stores-inside sheet bank keeps fitting 0) place
-
-    apart : (place : ℕ) → place < bankWords sheet → eqb (markPlace sheet) place ≡ false
-    apart place below = ne-eqb (markPlace sheet) place (λ e. omega arith)
+    (λ item m place held. mark-apart sheet bank keeps fitting 0 place (λ same. let below = held-below sheet keeps place m held in omega arith))
+    (ap (λ (n : ℕ). leb n 1) (mark-there sheet bank keeps fitting 0))

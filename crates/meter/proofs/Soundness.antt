@@ -40,7 +40,7 @@ open-of false true false c e f = absurd (true≢false e)
 open-of false false false c e f = f
 
 module _ (sheet bank frame : List ℕ) where
-  open-write : isWrite frame ≡ true → wrongAddress sheet frame ≡ false → OpenWrite sheet frame
+  pub open-write : isWrite frame ≡ true → wrongAddress sheet frame ≡ false → OpenWrite sheet frame
   open-write write right =
       record {
         write = write;
@@ -49,7 +49,7 @@ module _ (sheet bank frame : List ℕ) where
       }
 
   -- a function that is allowed, and neither reads nor clears, writes
-  writes : functionAllowed sheet frame ≡ true → eqb (function frame) reads ≡ false → eqb (function frame) clears ≡ false → isWrite frame ≡ true
+  pub writes : functionAllowed sheet frame ≡ true → eqb (function frame) reads ≡ false → eqb (function frame) clears ≡ false → isWrite frame ≡ true
   writes permitted read clear = go (eqb (function frame) writesOne) refl
     where
       go : (one : Bool) → eqb (function frame) writesOne ≡ one → (one || eqb (function frame) writesMany) ≡ true

@@ -1,5 +1,5 @@
--- The places of a write and the words that it leaves: they lie one after the other in access 3 areas, the words sent stand in front of the
--- stop, and every other word stays. Assumes nothing.
+-- The places of a run and the words that a write leaves: the places lie one after the other, the words sent stand in front of the stop, and
+-- every other word stays. Assumes nothing.
 use mathlib.Core.Path.{_≡_, refl, sym, ap, _∙_}
 use mathlib.Core.Bool.{Bool, true, false, cond, _&&_, false≢true}
 use mathlib.Core.List.{List}
@@ -10,7 +10,7 @@ use borrow.Author.Tests.{le-leb, lt-ltb}
 use Rattle.sheet.specs.declared.Lies.{Lies}
 use Rattle.sheet.specs.declared.Lies.the-variants.{At, Nowhere}
 use Rattle.sheet.specs.Rows.{bankWords, areas}
-use Rattle.sheet.specs.Rules.{upFrom, writable, sound}
+use Rattle.sheet.specs.Rules.{upFrom, sound}
 use Rattle.sheet.specs.Lookup.{liesIn}
 use Rattle.sheet.proofs.Among.{Among, each-among, up-among}
 use Rattle.sheet.proofs.Addresses.{run-consecutive, lies-below}
@@ -18,29 +18,30 @@ use Rattle.bank.specs.Stores.{Store, wordOf, stored}
 use Rattle.bank.specs.Bank.{placeIn}
 use Rattle.bank.proofs.Latest.{latest, StoresInside, words-left, latest-none, latest-agreed}
 use Rattle.bank.proofs.Inside.{among-map, map-among, number-among, among-number}
-use Rattle.meter.specs.declared.runs.Purpose.the-variants.{Write}
+use Rattle.meter.specs.declared.runs.Purpose.{Purpose}
 use Rattle.meter.specs.Frame.{sent}
-use Rattle.meter.specs.Runs.{opens, allOpen}
+use Rattle.meter.specs.Runs.{permits, opens, allOpen}
 use Rattle.meter.specs.Write.{inRun, wouldBe, runStore, runStores}
 use Rattle.meter.proofs.Judging.{run-above}
 use Rattle.meter.proofs.Stopping.{run-below}
 
--- what is open to a write lies at its place
-pub record Opened (lies : Lies) : Type 0 where
+-- what is open to a purpose lies at its place
+pub record Opened (purpose : Purpose) (lies : Lies) : Type 0 where
   pub access : ℕ
   pub at : lies ≡ At (placeIn lies) access
-  pub permitted : writable access ≡ true
+  pub permitted : permits purpose access ≡ true
 
-opened : (lies : Lies) → opens Write lies ≡ true → Opened lies
-opened (At place access) e = record { access = access; at = refl; permitted = e }
-opened Nowhere e = absurd (false≢true e)
+opened : (purpose : Purpose) (lies : Lies) → opens purpose lies ≡ true → Opened purpose lies
+opened purpose (At place access) e = record { access = access; at = refl; permitted = e }
+opened purpose Nowhere e = absurd (false≢true e)
 
-module _ (sheet : List ℕ) (keeps : sound sheet ≡ true) (start many : ℕ) (all : allOpen Write sheet (upFrom start many) ≡ true) where
-  each-open : (k : ℕ) → k < many → Opened (liesIn (areas sheet) (start + k))
+module _ (purpose : Purpose) (sheet : List ℕ) (keeps : sound sheet ≡ true) (start many : ℕ)
+    (all : allOpen purpose sheet (upFrom start many) ≡ true) where
+  pub each-open : (k : ℕ) → k < many → Opened purpose (liesIn (areas sheet) (start + k))
   unfolding allOpen
   each-open k inside =
-      opened (liesIn (areas sheet) (start + k))
-      (each-among (λ address. opens Write (liesIn (areas sheet) address)) (up-among start many k inside) all)
+      opened purpose (liesIn (areas sheet) (start + k))
+      (each-among (λ address. opens purpose (liesIn (areas sheet) address)) (up-among start many k inside) all)
 
   -- the places of a run follow each other, and are places of the bank
   pub run-place : (k : ℕ) → k < many → placeIn (liesIn (areas sheet) (start + k)) ≡ placeIn (liesIn (areas sheet) start) + k

@@ -21,6 +21,9 @@ module _ {A : Type 0} where
   among-cons here = inl refl
   among-cons (there m) = inr m
 
+  pub among-same : {a b : A} {l : List A} → a ≡ b → Among a (b ∷ l)
+  among-same {a} {b} {l} e = subst (λ (c : A). Among a (c ∷ l)) e here
+
   pub among-left : {a : A} {s : List A} (t : List A) → Among a s → Among a (s ++ t)
   among-left t here = here
   among-left t (there m) = there (among-left t m)

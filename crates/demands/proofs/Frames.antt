@@ -1,0 +1,247 @@
+-- Demand 2, what comes back: "For every frame of any length, the reply, error or silence .. are exactly what document 01 says". Over a sound
+-- sheet, a sound bank and a buffer of at least 100 bytes: silence exactly where the first step that holds gives silence, error k exactly
+-- where it gives error k, and a reply without the error bit exactly where no step holds. Assumes nothing.
+use mathlib.Core.Path.{_≡_, refl, sym, ap, subst, _∙_}
+use mathlib.Core.Bool.{Bool, true, false, not, cond, _&&_, _||_, false≢true, true≢false}
+use mathlib.Core.List.{List, [], _∷_, _++_}
+use mathlib.Core.Logic.{_↔_}
+use Prim.Native.Nat.{ℕ, _+_, _*_, _≤_, _<_}
+use native.Mathlib.Omega.{arith}
+use lib.Dec.{ltb, eqb}
+use lib.ListN.{length}
+use borrow.Author.Tests.{eqb-true, le-ltb, ltb-false, not-false}
+use Rattle.words.specs.Words.{byteAt}
+use Rattle.sheet.specs.Rules.{each, upFrom}
+use Rattle.bank.specs.Bank.{fits, bankSound, rateOf}
+use Rattle.bank.specs.Cases.{Case, when, firstCase}
+use Rattle.bank.specs.Stores.{stored}
+use Rattle.bank.proofs.Numbers.{NoneOf, FirstAfter, conditions, mapped-first, first-none, first-after, none-holds}
+use Rattle.meter.specs.declared.Judged.{Judged}
+use Rattle.meter.specs.declared.Judged.the-variants.{FailsCheck, OtherStation, FunctionNotAllowed, WrongLength, WrongCount, WrongAddress, WrongValue, BadItem, GoodRead, GoodClear, GoodWrite}
+use Rattle.meter.specs.Frame.{reads, clears, writesOne, writesMany, station, function, start, second, isWrite, count, functionAllowed}
+use Rattle.meter.specs.Write.{firstPlace, stopPlace}
+use Rattle.meter.specs.Steps as meter
+use Rattle.meter.specs.Reply.{wordBytes, bankRun, echo, writeReply, errorReply, topBitSet, withCheck, replyTo, storesOf}
+use Rattle.meter.specs.Answer.{laid, leastBuffer, outcome, answeredWith, actedOn, answerOutcome}
+use Rattle.meter.proofs.Soundness.{writes}
+use Rattle.cedarskein.specs.Door.{Handed, handed, handedOf}
+use Rattle.demands.specs.Verdict.{Accepted, Silent, IsError, IsGood, Verdict, silence, error, good, steps, verdict, earlierSteps}
+use Rattle.demands.proofs.Calls.{Answers, answers-is}
+
+-- where nothing is refused, the frame is acted on
+not-refused : (sheet bank frame buffer : List ℕ) → Accepted sheet bank buffer
+    → answerOutcome sheet bank frame buffer ≡ actedOn (meter.judgedFrame sheet bank frame) sheet bank frame buffer
+unfolding answerOutcome firstCase
+not-refused sheet bank frame buffer accepted =
+    simp (accepted .sheetSound, accepted .bankFits, accepted .bankWhole, le-ltb (length buffer) leastBuffer (accepted .bufferLong))
+
+pub acted : (sheet bank frame buffer : List ℕ) {left : Handed} → Accepted sheet bank buffer → Answers sheet bank frame buffer left
+    → left ≡ handedOf (actedOn (meter.judgedFrame sheet bank frame) sheet bank frame buffer)
+acted sheet bank frame buffer accepted call = answers-is call ∙ ap handedOf (not-refused sheet bank frame buffer accepted)
+
+-- ---- the verdict of a judgement
+
+seen : Judged → Verdict
+seen FailsCheck = silence
+seen OtherStation = silence
+seen FunctionNotAllowed = error 1
+seen WrongLength = silence
+seen WrongCount = error 3
+seen WrongAddress = error 2
+seen WrongValue = error 3
+seen (BadItem first stop) = error 3
+seen (GoodRead first many) = good
+seen GoodClear = good
+seen (GoodWrite first many) = good
+
+seen-verdict : (sheet bank frame : List ℕ) → seen (meter.judgedFrame sheet bank frame) ≡ verdict sheet bank frame
+unfolding meter.judgedFrame verdict seen
+seen-verdict sheet bank frame =
+    mapped-first seen (meter.steps sheet bank frame) (meter.goodFrame sheet frame)
+    ∙ ap (firstCase (steps sheet bank frame)) (go (eqb (function frame) reads) (eqb (function frame) clears))
+  where
+    go : (read clear : Bool)
+        → seen (cond read (GoodRead (firstPlace sheet frame) (count frame)) (cond clear GoodClear (GoodWrite (firstPlace sheet frame) (count frame)))) ≡ good
+    go true clear = refl
+    go false true = refl
+    go false false = refl
+
+-- ---- a frame that no step stops
+
+isGood : Verdict → Bool
+isGood silence = false
+isGood (error code) = false
+isGood good = true
+
+module _ (sheet bank frame : List ℕ) where
+  no-step : isGood (verdict sheet bank frame) ≡ true → NoneOf (conditions (steps sheet bank frame))
+  unfolding verdict isGood each
+  no-step e = none-holds isGood (steps sheet bank frame) good refl e
+
+  pub good-none : verdict sheet bank frame ≡ good → NoneOf (conditions (steps sheet bank frame))
+  unfolding isGood
+  good-none e = no-step (ap isGood e)
+
+  -- it is judged good, and its function is allowed
+  pub judged-good : NoneOf (conditions (steps sheet bank frame)) → meter.judgedFrame sheet bank frame ≡ meter.goodFrame sheet frame
+  unfolding meter.judgedFrame
+  judged-good none = first-none (meter.steps sheet bank frame) (meter.goodFrame sheet frame) none
+
+  pub good-allowed : NoneOf (conditions (steps sheet bank frame)) → functionAllowed sheet frame ≡ true
+  good-allowed none = not-false (functionAllowed sheet frame) (none .1 .1 .0)
+
+  -- a good frame reads, clears or writes
+  pub good-sorts : (P : Judged → Type 0) → functionAllowed sheet frame ≡ true
+      → (function frame ≡ reads → P (GoodRead (firstPlace sheet frame) (count frame)))
+      → (function frame ≡ clears → P GoodClear)
+      → (isWrite frame ≡ true → P (GoodWrite (firstPlace sheet frame) (count frame)))
+      → P (meter.goodFrame sheet frame)
+  good-sorts P permitted read clear write = go (eqb (function frame) reads) (eqb (function frame) clears) refl refl
+    where
+      go : (r c : Bool) → eqb (function frame) reads ≡ r → eqb (function frame) clears ≡ c
+          → P (cond r (GoodRead (firstPlace sheet frame) (count frame)) (cond c GoodClear (GoodWrite (firstPlace sheet frame) (count frame))))
+      go true c e f = read (eqb-true (function frame) reads e)
+      go false true e f = clear (eqb-true (function frame) clears f)
+      go false false e f = write (writes sheet bank frame permitted e f)
+
+-- ---- what is seen of each judgement
+
+top-bit : (byte : ℕ) → 0x80 ≤ topBitSet byte
+top-bit byte = go (ltb byte 0x80) refl
+  where
+    go : (low : Bool) → ltb byte 0x80 ≡ low → 0x80 ≤ cond low (byte + 0x80) byte
+    go true e = omega arith
+    go false e = ltb-false byte 0x80 e
+
+module _ (sheet bank frame buffer : List ℕ) where
+  Shown : Verdict → Handed → Type 0
+  Shown silence left = Silent bank buffer left
+  Shown (error code) left = IsError sheet bank frame buffer code left
+  Shown good left = IsGood left
+
+  abbrev becomes : Judged → Handed
+  becomes judged = handedOf (actedOn judged sheet bank frame buffer)
+
+  error-shown : (code : ℕ) (after : List ℕ)
+      → IsError sheet bank frame buffer code (handed 0 5 (rateOf sheet bank) after (laid (withCheck (errorReply frame code)) buffer))
+  error-shown code after = record { replied = refl; five = refl; rateBefore = refl; sent = refl }
+
+  stopped-shown : (judged : Judged) → isGood (seen judged) ≡ false → Shown (seen judged) (becomes judged)
+  unfolding actedOn replyTo storesOf withCheck stored seen isGood Shown
+  stopped-shown FailsCheck e = refl
+  stopped-shown OtherStation e = refl
+  stopped-shown FunctionNotAllowed e = error-shown 1 bank
+  stopped-shown WrongLength e = refl
+  stopped-shown WrongCount e = error-shown 3 bank
+  stopped-shown WrongAddress e = error-shown 2 bank
+  stopped-shown WrongValue e = error-shown 3 bank
+  stopped-shown (BadItem first stop) e = error-shown 3 (stored bank (storesOf (BadItem first stop) sheet frame))
+  stopped-shown (GoodRead first many) e = absurd (true≢false e)
+  stopped-shown GoodClear e = absurd (true≢false e)
+  stopped-shown (GoodWrite first many) e = absurd (true≢false e)
+
+  abbrev replied : List ℕ → List ℕ → Handed
+  replied reply after = handedOf (outcome (answeredWith (withCheck reply) (rateOf sheet bank)) after (laid (withCheck reply) buffer))
+
+  reply-shown : (code : ℕ) (more after : List ℕ) → code < 0x80 → IsGood (replied (station frame ∷ code ∷ more) after)
+  unfolding withCheck
+  reply-shown code more after low = record { replied = refl; noErrorBit = low }
+
+  -- the reply to 10 is its first six bytes again, as the echo of 06 is
+  pub write-echo : writeReply frame ≡ echo frame
+  write-echo = go (eqb (function frame) writesMany) refl
+    where
+      go : (many : Bool) → eqb (function frame) writesMany ≡ many
+          → cond many (station frame ∷ writesMany ∷ wordBytes (start frame) ++ wordBytes (second frame)) (echo frame) ≡ echo frame
+      go true e =
+          ap (λ (code : ℕ). station frame ∷ code ∷ wordBytes (start frame) ++ wordBytes (second frame)) (sym (eqb-true (function frame) writesMany e))
+      go false e = refl
+
+  writes-low : isWrite frame ≡ true → function frame < 0x80
+  writes-low write = go (eqb (function frame) writesOne) refl write
+    where
+      go : (one : Bool) → eqb (function frame) writesOne ≡ one → (one || eqb (function frame) writesMany) ≡ true → function frame < 0x80
+      go true e write = omega (arith, eqb-true (function frame) writesOne e)
+      go false e write = omega (arith, eqb-true (function frame) writesMany write)
+
+  good-shown : functionAllowed sheet frame ≡ true → IsGood (becomes (meter.goodFrame sheet frame))
+  unfolding actedOn replyTo
+  good-shown permitted =
+      good-sorts sheet bank frame (λ judged. IsGood (becomes judged)) permitted
+      (λ read. reply-shown reads (2 * count frame ∷ bankRun bank (upFrom (firstPlace sheet frame) (count frame)))
+      (stored bank (storesOf (GoodRead (firstPlace sheet frame) (count frame)) sheet frame)) (omega arith))
+      (λ clear. reply-shown (function frame) (wordBytes (start frame) ++ wordBytes (second frame)) (stored bank (storesOf GoodClear sheet frame)) (omega arith))
+      (λ write. let after : List ℕ = stored bank (storesOf (GoodWrite (firstPlace sheet frame) (count frame)) sheet frame) in
+      subst (λ (reply : List ℕ). IsGood (replied reply after)) (sym write-echo)
+      (reply-shown (function frame) (wordBytes (start frame) ++ wordBytes (second frame)) after (writes-low write)))
+
+  -- the first step that holds says what is seen
+  shown : Shown (verdict sheet bank frame) (becomes (meter.judgedFrame sheet bank frame))
+  unfolding Shown verdict
+  shown = go (isGood (verdict sheet bank frame)) refl
+    where
+      go : (fine : Bool) → isGood (verdict sheet bank frame) ≡ fine → Shown (verdict sheet bank frame) (becomes (meter.judgedFrame sheet bank frame))
+      go false e =
+          subst (λ (v : Verdict). Shown v (becomes (meter.judgedFrame sheet bank frame))) (seen-verdict sheet bank frame)
+          (stopped-shown (meter.judgedFrame sheet bank frame) (ap isGood (seen-verdict sheet bank frame) ∙ e))
+      go true e =
+          let none = no-step sheet bank frame e in
+          subst (λ (v : Verdict). Shown v (becomes (meter.judgedFrame sheet bank frame))) (sym (first-none (steps sheet bank frame) good none))
+          (subst (λ (judged : Judged). IsGood (becomes judged)) (sym (judged-good sheet bank frame none)) (good-shown (good-allowed sheet bank frame none)))
+
+  -- ---- and only that is seen
+
+  module _ (left : Handed) where
+    silent-number : Silent bank buffer left → left .number ≡ 1
+    silent-number e = ap (λ (h : Handed). h .number) e
+
+    error-byte : {code : ℕ} → IsError sheet bank frame buffer code left → 0x80 ≤ byteAt (left .buffer) 1
+    unfolding withCheck
+    error-byte {code} e = subst (λ (b : List ℕ). 0x80 ≤ byteAt b 1) (sym (e .sent)) (top-bit (function frame))
+
+    same-code : {code other : ℕ} → IsError sheet bank frame buffer code left → IsError sheet bank frame buffer other left → code ≡ other
+    unfolding withCheck
+    same-code e f = ap (λ (b : List ℕ). byteAt b 2) (sym (e .sent) ∙ f .sent)
+
+    only-silence : (v : Verdict) → Shown v left → Silent bank buffer left → v ≡ silence
+    unfolding Shown
+    only-silence silence s e = refl
+    only-silence (error code) s e = absurd (omega (arith, silent-number e, s .replied))
+    only-silence good s e = absurd (omega (arith, silent-number e, s .replied))
+
+    only-error : (v : Verdict) (code : ℕ) → Shown v left → IsError sheet bank frame buffer code left → v ≡ error code
+    unfolding Shown
+    only-error silence code s e = absurd (omega (arith, silent-number s, e .replied))
+    only-error (error other) code s e = ap error (same-code s e)
+    only-error good code s e = absurd (omega (arith, s .noErrorBit, error-byte e))
+
+    only-good : (v : Verdict) → Shown v left → IsGood left → v ≡ good
+    unfolding Shown
+    only-good silence s e = absurd (omega (arith, silent-number s, e .replied))
+    only-good (error code) s e = absurd (omega (arith, e .noErrorBit, error-byte s))
+    only-good good s e = refl
+
+    shown-of : {v w : Verdict} → Shown v left → v ≡ w → Shown w left
+    shown-of s e = subst (λ (v : Verdict). Shown v left) e s
+
+-- demand 2, what comes back
+pub record Exactly (sheet bank frame buffer : List ℕ) (left : Handed) : Type 0 where
+  pub bySilence : Silent bank buffer left ↔ (verdict sheet bank frame ≡ silence)
+  pub byError : (code : ℕ) → IsError sheet bank frame buffer code left ↔ (verdict sheet bank frame ≡ error code)
+  pub byReply : IsGood left ↔ (verdict sheet bank frame ≡ good)
+
+pub frame-answered : (sheet bank frame buffer : List ℕ) {left : Handed} → Accepted sheet bank buffer → Answers sheet bank frame buffer left
+    → Exactly sheet bank frame buffer left
+unfolding Shown
+frame-answered sheet bank frame buffer {left} accepted call =
+    record {
+      bySilence = (only-silence sheet bank frame buffer left here is, shown-of sheet bank frame buffer left is);
+      byError = λ code. (only-error sheet bank frame buffer left here code is, shown-of sheet bank frame buffer left is);
+      byReply = (only-good sheet bank frame buffer left here is, shown-of sheet bank frame buffer left is);
+    }
+  where
+    here : Verdict
+    here = verdict sheet bank frame
+
+    is : Shown sheet bank frame buffer (verdict sheet bank frame) left
+    is = subst (Shown sheet bank frame buffer (verdict sheet bank frame)) (sym (acted sheet bank frame buffer accepted call)) (shown sheet bank frame buffer)

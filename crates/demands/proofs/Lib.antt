@@ -1,0 +1,5 @@
+pub mod Calls
+pub mod Refusals
+pub mod Frames
+pub mod Registers
+pub mod Silence

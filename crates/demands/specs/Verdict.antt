@@ -1,0 +1,69 @@
+-- What the customer sees of a call with one frame, and which of 01's steps decides it. Assumes nothing.
+use mathlib.Core.Path.{_≡_}
+use mathlib.Core.Bool.{Bool, true}
+use mathlib.Core.List.{List, [], _∷_}
+use Prim.Native.Nat.{ℕ, _≤_, _<_}
+use lib.ListN.{length}
+use Rattle.words.specs.Words.{byteAt}
+use Rattle.sheet.specs.Rules.{sound}
+use Rattle.bank.specs.Bank.{fits, bankSound, rateOf}
+use Rattle.bank.specs.Cases.{Case, when, firstCase}
+use Rattle.meter.specs.Steps.{failsCheck, otherStation, functionNotAllowed, wrongLength, wrongCount, wrongAddress, wrongValue, badWrite}
+use Rattle.meter.specs.Reply.{errorReply, withCheck}
+use Rattle.meter.specs.Answer.{leastBuffer, laid}
+use Rattle.cedarskein.specs.Door.{Handed, handed}
+
+-- "a sound sheet, sound bank and buffer of at least 100 bytes": what no refusal meets
+pub record Accepted (sheet bank buffer : List ℕ) : Type 0 where
+  pub sheetSound : sound sheet ≡ true
+  pub bankFits : fits sheet bank ≡ true
+  pub bankWhole : bankSound sheet bank ≡ true
+  pub bufferLong : leastBuffer ≤ length buffer
+
+-- ---- what is seen: silence, an error, or a reply without the error bit
+
+-- number 1, length and rate 0, nothing written
+abbrev pub Silent : List ℕ → List ℕ → Handed → Type 0
+Silent bank buffer left = left ≡ handed 1 0 0 bank buffer
+
+-- the five bytes of an error reply, at the rate before the frame, and the buffer beyond as before
+pub record IsError (sheet bank frame buffer : List ℕ) (code : ℕ) (left : Handed) : Type 0 where
+  pub replied : left .number ≡ 0
+  pub five : left .length ≡ 5
+  pub rateBefore : left .rate ≡ rateOf sheet bank
+  pub sent : left .buffer ≡ laid (withCheck (errorReply frame code)) buffer
+
+-- a reply whose function byte has not its top bit set
+pub record IsGood (left : Handed) : Type 0 where
+  pub replied : left .number ≡ 0
+  pub noErrorBit : byteAt (left .buffer) 1 < 0x80
+
+-- ---- what 01's steps say
+
+pub data Verdict : Type 0 where
+  silence : Verdict
+  error : ℕ → Verdict
+  good : Verdict
+
+-- 01, "Order of judgement for a frame", steps 1 to 7, each with what it gives
+abbrev pub steps : List ℕ → List ℕ → List ℕ → List (Case Verdict)
+steps sheet bank frame =
+    when (failsCheck frame) silence
+    ∷ when (otherStation sheet bank frame) silence
+    ∷ when (functionNotAllowed sheet frame) (error 1)
+    ∷ when (wrongLength frame) silence
+    ∷ when (wrongCount frame) (error 3)
+    ∷ when (wrongAddress sheet frame) (error 2)
+    ∷ when (wrongValue frame) (error 3)
+    ∷ when (badWrite sheet bank frame) (error 3)
+    ∷ []
+
+-- the first step whose condition holds decides
+unfoldable pub verdict : List ℕ → List ℕ → List ℕ → Verdict
+verdict sheet bank frame = firstCase (steps sheet bank frame) good
+
+-- the steps in front of the judgement of a write's items
+abbrev pub earlierSteps : List ℕ → List ℕ → List ℕ → List Bool
+earlierSteps sheet bank frame =
+    failsCheck frame ∷ otherStation sheet bank frame ∷ functionNotAllowed sheet frame ∷ wrongLength frame ∷ wrongCount frame
+    ∷ wrongAddress sheet frame ∷ wrongValue frame ∷ []
