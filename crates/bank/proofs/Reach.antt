@@ -1,8 +1,8 @@
 -- How far addresses reach: an area's words are below 10000, so nothing lies above FFFF. Assumes nothing.
-use mathlib.Core.Path.{_≡_, refl, sym, ap, ap₂, _∙_}
+use mathlib.Core.Path.{_≡_, refl, sym, ap, _∙_}
 use mathlib.Core.Bool.{Bool, true, false, _&&_, and-false, cond}
 use mathlib.Core.Logic.{_⊎_, inl, inr}
-use mathlib.Core.List.{List, [], _∷_}
+use mathlib.Core.List.{List}
 use Prim.Native.Nat.{ℕ, zero, suc, _+_, _*_, _-_, _≤_, _<_}
 use native.Mathlib.Omega.{arith}
 use native.Mathlib.Nat.{not-suc-le-zero}
@@ -10,7 +10,6 @@ use lib.Dec.{leb, ltb}
 use borrow.Author.Tests.{lt-leb, ltb-true, ltb-false}
 use Rattle.words.specs.Words.{byteAt, wordAt}
 use Rattle.sheet.specs.declared.Area.{Area}
-use Rattle.sheet.specs.declared.Lies.{Lies}
 use Rattle.sheet.specs.declared.Lies.the-variants.{At, Nowhere}
 use Rattle.sheet.specs.Rows.{rows, areaAt, areaCount, areas}
 use Rattle.sheet.specs.Rules.{each, upFrom, inArea}

@@ -1,22 +1,21 @@
 -- What the tests of a call say of its refusals: which reason is the first that holds. Assumes nothing.
 use mathlib.Core.Path.{_≡_, refl, sym, ap, _∙_}
-use mathlib.Core.Bool.{Bool, true, false, not, cond, true≢false}
+use mathlib.Core.Bool.{Bool, true, false, not, true≢false}
 use mathlib.Core.Logic.{⊎-elim}
 use mathlib.Core.List.{List, [], _∷_}
 use Prim.Native.Nat.{ℕ, suc}
 use native.Mathlib.Omega.{arith}
 use types.Run.{OneOf}
 use denote.Enum.Declared.{tagOf}
-use borrow.Author.Tests.{not-true, not-false}
 use Rattle.sheet.specs.declared.SheetJudged.{SheetJudged}
 use Rattle.sheet.specs.declared.SheetJudged.the-variants.{Sound, BreaksRule}
 use Rattle.sheet.specs.Rules.{sound, soundOrBroken, judgedSheet}
 use Rattle.bank.specs.declared.Answer.{Answer}
 use Rattle.bank.specs.declared.Answer.the-variants.{Done, SheetBreaksRule, BankMisfits, BankNotSound, NotReadOnly, BadInput}
 use Rattle.bank.specs.Stores.{Store, stored}
-use Rattle.bank.specs.Bank.{fits, bankSound, freshStores, emptyOrOdd, postStores, markStores}
+use Rattle.bank.specs.Bank.{fits, bankSound}
 use Rattle.bank.specs.Cases.{Case, when, firstCase}
-use Rattle.bank.specs.Calls.{isDone, outcome, outcomeOf, checkAnswer, markAnswer, postAnswer, markOutcome, postOutcome}
+use Rattle.bank.specs.Calls.{isDone, outcome, outcomeOf, checkAnswer}
 use Rattle.bank.proofs.Answer as enum
 
 -- the answer of the sheet's check, read back

@@ -1,13 +1,12 @@
 -- 01, "The bank": its size, the value of an item, a sound bank, and the stores of a fresh bank, of posting and of setting the mark.
 -- Assumes nothing.
 use Prim.Native.Nat.{ℕ, _+_, _*_, _/_, _%_}
-use mathlib.Core.Bool.{Bool, true, false, cond, _&&_, _||_}
+use mathlib.Core.Bool.{Bool, false, cond, _&&_, _||_}
 use mathlib.Core.List.{List, [], _∷_, _++_, map}
 use lib.Dec.{leb, eqb}
 use lib.ListN.{length}
 use Rattle.words.specs.Words.{wordAt}
 use Rattle.range.specs.Range.{inRange}
-use Rattle.sheet.specs.declared.Area.{Area}
 use Rattle.sheet.specs.declared.Item.{Item}
 use Rattle.sheet.specs.declared.Lies.{Lies}
 use Rattle.sheet.specs.declared.Lies.the-variants.{At, Nowhere}

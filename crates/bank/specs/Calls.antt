@@ -8,7 +8,7 @@ use Rattle.bank.specs.declared.Answer.{Answer}
 use Rattle.bank.specs.declared.Answer.the-variants.{Done, SheetBreaksRule, BankMisfits, BankNotSound, NotReadOnly, BadInput}
 use Rattle.bank.specs.Stores.{Store, stored}
 use Rattle.bank.specs.Bank.{fits, bankSound, freshStores, postedRun, allReadOnly, postStores, emptyOrOdd, markStores}
-use Rattle.bank.specs.Cases.{Case, when, firstCase}
+use Rattle.bank.specs.Cases.{when, firstCase}
 
 -- 01's number for each answer
 abbrev pub numberOf : Answer → ℕ

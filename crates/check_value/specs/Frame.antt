@@ -1,7 +1,7 @@
 -- 01, "The check value": where a frame holds its check, a frame that passes, and the sealing of a reply. Assumes nothing.
 use Prim.Native.Nat.{ℕ, _+_, _-_, _*_, _/_, _%_}
-use mathlib.Core.Bool.{Bool, true, false, _&&_, cond}
-use mathlib.Core.List.{List, []}
+use mathlib.Core.Bool.{Bool, _&&_, cond}
+use mathlib.Core.List.{List}
 use lib.Dec.{leb, eqb}
 use lib.ListN.{length, take, set}
 use Rattle.words.specs.Words.{byteAt}

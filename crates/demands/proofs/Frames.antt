@@ -2,8 +2,8 @@
 -- sheet, a sound bank and a buffer of at least 100 bytes: silence exactly where the first step that holds gives silence, error k exactly
 -- where it gives error k, and a reply without the error bit exactly where no step holds. Assumes nothing.
 use mathlib.Core.Path.{_≡_, refl, sym, ap, subst, _∙_}
-use mathlib.Core.Bool.{Bool, true, false, not, cond, _&&_, _||_, false≢true, true≢false}
-use mathlib.Core.List.{List, [], _∷_, _++_}
+use mathlib.Core.Bool.{Bool, true, false, cond, _||_, true≢false}
+use mathlib.Core.List.{List, _∷_, _++_}
 use mathlib.Core.Logic.{_↔_}
 use Prim.Native.Nat.{ℕ, _+_, _*_, _≤_, _<_}
 use native.Mathlib.Omega.{arith}
@@ -12,20 +12,20 @@ use lib.ListN.{length}
 use borrow.Author.Tests.{eqb-true, le-ltb, ltb-false, not-false}
 use Rattle.words.specs.Words.{byteAt}
 use Rattle.sheet.specs.Rules.{each, upFrom}
-use Rattle.bank.specs.Bank.{fits, bankSound, rateOf}
-use Rattle.bank.specs.Cases.{Case, when, firstCase}
+use Rattle.bank.specs.Bank.{rateOf}
+use Rattle.bank.specs.Cases.{firstCase}
 use Rattle.bank.specs.Stores.{stored}
-use Rattle.bank.proofs.Numbers.{NoneOf, FirstAfter, conditions, mapped-first, first-none, first-after, none-holds}
+use Rattle.bank.proofs.Numbers.{NoneOf, conditions, mapped-first, first-none, none-holds}
 use Rattle.meter.specs.declared.Judged.{Judged}
 use Rattle.meter.specs.declared.Judged.the-variants.{FailsCheck, OtherStation, FunctionNotAllowed, WrongLength, WrongCount, WrongAddress, WrongValue, BadItem, GoodRead, GoodClear, GoodWrite}
 use Rattle.meter.specs.Frame.{reads, clears, writesOne, writesMany, station, function, start, second, isWrite, count, functionAllowed}
-use Rattle.meter.specs.Write.{firstPlace, stopPlace}
+use Rattle.meter.specs.Write.{firstPlace}
 use Rattle.meter.specs.Steps as meter
 use Rattle.meter.specs.Reply.{wordBytes, bankRun, echo, writeReply, errorReply, topBitSet, withCheck, replyTo, storesOf}
 use Rattle.meter.specs.Answer.{laid, leastBuffer, outcome, answeredWith, actedOn, answerOutcome}
 use Rattle.meter.proofs.Soundness.{writes}
 use Rattle.cedarskein.specs.Door.{Handed, handed, handedOf}
-use Rattle.demands.specs.Verdict.{Accepted, Silent, IsError, IsGood, Verdict, silence, error, good, steps, verdict, earlierSteps}
+use Rattle.demands.specs.Verdict.{Accepted, Silent, IsError, IsGood, Verdict, silence, error, good, steps, verdict}
 use Rattle.demands.proofs.Calls.{Answers, answers-is}
 
 -- where nothing is refused, the frame is acted on

@@ -3,3 +3,4 @@ pub mod Refusals
 pub mod Frames
 pub mod Registers
 pub mod Silence
+pub mod Witness

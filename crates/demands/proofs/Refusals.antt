@@ -1,19 +1,19 @@
 -- Demand 1: "A sheet that breaks its rules, a bank that does not fit it, or a buffer under 100 bytes is refused by number, with nothing
 -- written." For any call that a contract of the door allows: one of 01's numbers is handed back; each refusal's number exactly if its
 -- condition holds and none does that comes before it in 01's order; and with a refusal nothing is written. Assumes nothing.
-use mathlib.Core.Path.{_≡_, refl, sym, ap, subst, _∙_}
-use mathlib.Core.Bool.{Bool, true, false, not, cond}
-use mathlib.Core.List.{List, [], _∷_, _++_, map}
+use mathlib.Core.Path.{_≡_, refl, sym, subst, _∙_}
+use mathlib.Core.Bool.{Bool, true, false, not}
+use mathlib.Core.List.{List, [], _∷_}
 use mathlib.Core.Logic.{_↔_}
-use Prim.Native.Nat.{ℕ, suc, _≤_}
+use Prim.Native.Nat.{ℕ, _≤_}
 use native.Mathlib.Omega.{arith}
-use Rattle.sheet.specs.Rules.{sound, soundOrBroken, judgedSheet, sheetNumber}
+use Rattle.sheet.specs.Rules.{sound, soundOrBroken, sheetNumber}
 use Rattle.sheet.proofs.Among.{Among, here, there}
 use Rattle.bank.specs.declared.Answer.{Answer}
 use Rattle.bank.specs.Stores.{Store}
 use Rattle.bank.specs.Bank.{emptyOrOdd, freshStores, postStores, markStores, rateOf}
 use Rattle.bank.specs.Cases.{Case, when, firstCase}
-use Rattle.bank.specs.Calls.{numberOf, brokenSheet, misfittingBank, unsoundBank, badMark, badAddress, checkAnswer, freshAnswer, postAnswer, markAnswer, outcomeOf, freshOutcome, postOutcome, markOutcome}
+use Rattle.bank.specs.Calls.{numberOf, brokenSheet, misfittingBank, unsoundBank, badMark, badAddress, freshAnswer, postAnswer, markAnswer, outcomeOf, freshOutcome, postOutcome, markOutcome}
 use Rattle.bank.proofs.Numbers as numbers
 use Rattle.bank.proofs.Numbers.{FirstAfter, numbersOf, told-among, told-in-order, differ, check-numbers, fresh-numbers, post-numbers, mark-numbers}
 use Rattle.bank.proofs.Changes.{refused-as-before}

@@ -4,41 +4,44 @@
 use mathlib.Core.Path.{_≡_, refl, sym, ap, subst, _∙_}
 use mathlib.Core.Bool.{Bool, true, false, not, cond, _&&_, _||_, false≢true, true≢false}
 use mathlib.Core.List.{List, [], _∷_, _++_, append-assoc}
-use Prim.Native.Nat.{ℕ, zero, suc, _+_, _-_, _*_, _/_, _%_, _≤_, _<_}
+use mathlib.Core.Logic.{_⊎_, inl, inr}
+use Prim.Native.Nat.{ℕ, zero, suc, _+_, _-_, _*_, _≤_, _<_}
 use native.Mathlib.Omega.{arith}
-use lib.Dec.{leb, ltb, eqb}
-use lib.ListN.{length, drop, getD}
-use borrow.Author.Tests.{eq-eqb, eqb-true, le-leb, lt-ltb, not-true, not-false}
+use lib.Dec.{ltb, eqb}
+use lib.ListN.{length, take}
+use borrow.Author.Tests.{eq-eqb, eqb-true, lt-ltb, ltb-true, not-true, not-false}
 use Rattle.words.specs.Words.{byteAt, wordAt, upper, lower}
-use Rattle.check_value.specs.Check.{valueOf}
 use Rattle.sheet.specs.declared.Lies.the-variants.{At}
 use Rattle.sheet.specs.declared.Item.{Item}
-use Rattle.sheet.specs.Rows.{areas, items, clearAddress}
+use Rattle.sheet.specs.Rows.{areas, items}
 use Rattle.sheet.specs.Rules.{upFrom}
 use Rattle.sheet.specs.Lookup.{liesIn}
+use Rattle.sheet.proofs.Tests.{first-of, second-of}
 use Rattle.sheet.proofs.Among.{Among}
 use Rattle.bank.specs.Stores.{wordOf, stored}
+use Rattle.bank.specs.Cases.{when}
 use Rattle.bank.specs.Bank.{placeIn, rateOf, goodBy, markPlace, markStores}
 use Rattle.bank.proofs.Numbers.{NoneOf, FirstAfter, conditions, first-after}
-use Rattle.bank.proofs.Latest.{latest, words-left}
-use Rattle.bank.proofs.Inside.{mark-stores-inside}
+use Rattle.bank.proofs.Changes.{mark-there, mark-apart}
 use Rattle.meter.specs.declared.Judged.{Judged}
-use Rattle.meter.specs.declared.Judged.the-variants.{FailsCheck, OtherStation, FunctionNotAllowed, WrongLength, WrongCount, WrongAddress, WrongValue, BadItem, GoodRead, GoodClear, GoodWrite}
+use Rattle.meter.specs.declared.Judged.the-variants.{BadItem, GoodRead, GoodClear, GoodWrite}
 use Rattle.meter.specs.declared.runs.Purpose.the-variants.{Read, Write}
-use Rattle.meter.specs.Frame.{reads, clears, writesOne, writesMany, station, function, start, second, isWrite, count, run, sent, functionAllowed}
+use Rattle.meter.specs.Frame.{reads, clears, writesOne, writesMany, station, function, start, second, isWrite, count, run, sent}
 use Rattle.meter.specs.Runs.{allOpen}
-use Rattle.meter.specs.Write.{firstPlace, inRun, wouldBe, touched, badItem, someBad, stopPlace, runStores}
+use Rattle.meter.specs.Write.{firstPlace, inRun, wouldBe, touched, badItem, someBad, stopIn, stopPlace, runStores}
 use Rattle.meter.specs.Steps as meter
-use Rattle.meter.specs.Reply.{wordBytes, bankRun, readReply, withCheck, replyTo, storesOf}
-use Rattle.meter.specs.Answer.{laid, actedOn}
+use Rattle.meter.specs.Reply.{bankRun, readReply, withCheck, replyTo, storesOf}
+use Rattle.meter.specs.Answer.{actedOn}
 use Rattle.meter.proofs.Reading.{check-length, read-length}
 use Rattle.meter.proofs.Written.{run-place, each-open}
+use Rattle.meter.proofs.Judging.{run-test, run-above}
+use Rattle.meter.proofs.Stopping.{run-below, stop-some}
 use Rattle.meter.proofs.Soundness.{OpenWrite, open-write, stops-at-end}
 use Rattle.meter.proofs.Keeping as keeping
 use Rattle.cedarskein.specs.Door.{Handed, handedOf}
-use Rattle.demands.specs.Verdict.{Accepted, Verdict, good, steps, verdict, earlierSteps}
+use Rattle.demands.specs.Verdict.{Accepted, IsError, error, good, steps, verdict, earlierSteps}
 use Rattle.demands.proofs.Calls.{Answers}
-use Rattle.demands.proofs.Frames.{acted, judged-good, good-allowed, good-sorts, good-none}
+use Rattle.demands.proofs.Frames.{acted, good-none, judged-good, frame-answered}
 
 -- the address of the k-th register of a run lies at a place of the bank
 abbrev pub LiesAt : List ℕ → List ℕ → ℕ → ℕ → Type 0
@@ -80,24 +83,24 @@ sent-word bank first many i a b c check rest less =
 -- ---- which judgement a good frame has, by its function
 
 module _ (sheet frame : List ℕ) where
-  abbrev goodBy' : ℕ → Judged
-  goodBy' code =
+  abbrev goodFor : ℕ → Judged
+  goodFor code =
       cond (eqb code reads) (GoodRead (firstPlace sheet frame) (count frame))
       (cond (eqb code clears) GoodClear (GoodWrite (firstPlace sheet frame) (count frame)))
 
   good-read : function frame ≡ reads → meter.goodFrame sheet frame ≡ GoodRead (firstPlace sheet frame) (count frame)
-  good-read e = ap goodBy' e
+  good-read e = ap goodFor e
 
   good-clear : function frame ≡ clears → meter.goodFrame sheet frame ≡ GoodClear
-  good-clear e = ap goodBy' e
+  good-clear e = ap goodFor e
 
   good-write : isWrite frame ≡ true → meter.goodFrame sheet frame ≡ GoodWrite (firstPlace sheet frame) (count frame)
   good-write write = go (eqb (function frame) writesOne) refl write
     where
       go : (one : Bool) → eqb (function frame) writesOne ≡ one → (one || eqb (function frame) writesMany) ≡ true
           → meter.goodFrame sheet frame ≡ GoodWrite (firstPlace sheet frame) (count frame)
-      go true e write = ap goodBy' (eqb-true (function frame) writesOne e)
-      go false e write = ap goodBy' (eqb-true (function frame) writesMany write)
+      go true e write = ap goodFor (eqb-true (function frame) writesOne e)
+      go false e write = ap goodFor (eqb-true (function frame) writesMany write)
 
 -- ---- (b) a good read
 
@@ -162,3 +165,225 @@ module _ (sheet bank frame buffer : List ℕ) where
       all =
           read-open (eqb (function frame) reads) (ltb meter.mostRead (second frame)) (allOpen Read sheet (run frame)) _ _
           (none .1 .1 .1 .1 .1 .0) (eq-eqb (function frame) reads read)
+
+-- ---- the words that a write leaves
+
+module _ (sheet bank frame buffer : List ℕ) (accepted : Accepted sheet bank buffer) (opened : OpenWrite sheet frame) where
+  abbrev begin : ℕ
+  begin = firstPlace sheet frame
+
+  abbrev stop : ℕ
+  stop = stopPlace sheet bank frame
+
+  abbrev after : List ℕ
+  after = stored bank (runStores frame begin stop)
+
+  words : (place : ℕ) → wordOf after place ≡ wouldBe begin (stop - begin) bank frame place
+  words = keeping.written sheet bank frame (accepted .sheetSound) (accepted .bankFits) (accepted .bankWhole) (opened .all)
+
+  bound : stop ≤ begin + count frame
+  bound = keeping.bound sheet bank frame (accepted .sheetSound) (accepted .bankFits) (accepted .bankWhole) (opened .all)
+
+  -- a register of the run lies at its place, and only there
+  lies-there : (k : ℕ) → k < count frame → LiesAt sheet frame k (begin + k)
+  lies-there k less =
+      let one = each-open Write sheet (accepted .sheetSound) (start frame) (count frame) (opened .all) k less in (
+        one .access,
+        one .at ∙ ap (λ (n : ℕ). At n (one .access)) (run-place Write sheet (accepted .sheetSound) (start frame) (count frame) (opened .all) k less),
+      )
+
+  only-there : (k place : ℕ) → k < count frame → LiesAt sheet frame k place → place ≡ begin + k
+  only-there k place less lies = ap placeIn (sym (lies .1) ∙ lies-there k less .1)
+
+  in-front : (k place : ℕ) → k < count frame → LiesAt sheet frame k place → place < stop → wordOf after place ≡ sent frame k
+  in-front k place less lies front =
+      words place ∙ within (inRun begin (stop - begin) place) refl
+    where
+      at : place ≡ begin + k
+      at = only-there k place less lies
+
+      inside : inRun begin (stop - begin) place ≡ true
+      inside =
+          sym (run-test begin (stop - begin) place (omega (arith, at))) ∙ lt-ltb (place - begin) (stop - begin) (omega (arith, at))
+
+      within : (b : Bool) → inRun begin (stop - begin) place ≡ b → cond b (sent frame (place - begin)) (wordOf bank place) ≡ sent frame k
+      within true e = ap (sent frame) (let same : place - begin ≡ k = omega (arith, at) in same)
+      within false e = absurd (true≢false (sym inside ∙ e))
+
+  elsewhere : (place : ℕ) → ((k : ℕ) → k < count frame → LiesAt sheet frame k place → place < stop → ⊥) → wordOf after place ≡ wordOf bank place
+  elsewhere place unwritten =
+      words place
+      ∙ keeping.outside begin (stop - begin) bank frame place
+      (λ within. let low = run-above begin (stop - begin) place within in
+      let high = run-below begin (stop - begin) place within in
+      let k : ℕ = place - begin in
+      let less : k < count frame = omega (arith, bound) in
+      let same : begin + k ≡ place = omega arith in
+      unwritten k less (subst (LiesAt sheet frame k) same (lies-there k less)) (omega arith))
+
+-- ---- (c) a good write
+
+-- every written address holds the word sent; every other word, and the mark, are as before
+pub record WriteStored (sheet bank frame : List ℕ) (left : Handed) : Type 0 where
+  pub replied : left .number ≡ 0
+  pub stored : (k : ℕ) → k < count frame → (place : ℕ) × LiesAt sheet frame k place × (wordOf (left .bank) place ≡ sent frame k)
+  pub othersBefore : (place : ℕ) → ((k : ℕ) → k < count frame → LiesAt sheet frame k place → ⊥) → wordOf (left .bank) place ≡ wordOf bank place
+  pub markBefore : wordOf (left .bank) (markPlace sheet) ≡ wordOf bank (markPlace sheet)
+
+module _ (sheet bank frame buffer : List ℕ) {left : Handed} (accepted : Accepted sheet bank buffer)
+    (call : Answers sheet bank frame buffer left) where
+  pub good-write-stores : verdict sheet bank frame ≡ good → isWrite frame ≡ true → WriteStored sheet bank frame left
+  unfolding actedOn storesOf
+  good-write-stores fine write =
+      record {
+        replied = frame-answered sheet bank frame buffer accepted call .byReply .1 fine .replied;
+        stored = λ k less. let place : ℕ = firstPlace sheet frame + k in
+            let lies = lies-there sheet bank frame buffer accepted opened k less in
+            (place, lies, here place ∙ in-front sheet bank frame buffer accepted opened k place less lies (omega (arith, end)));
+        othersBefore = λ place unwritten. here place
+            ∙ elsewhere sheet bank frame buffer accepted opened place (λ k less lies front. unwritten k less lies);
+        markBefore = here (markPlace sheet)
+            ∙ keeping.mark-kept sheet bank frame (accepted .sheetSound) (accepted .bankFits) (accepted .bankWhole) (opened .all);
+      }
+    where
+      none : NoneOf (conditions (steps sheet bank frame))
+      none = good-none sheet bank frame fine
+
+      opened : OpenWrite sheet frame
+      opened = open-write sheet bank frame write (none .1 .1 .1 .1 .1 .0)
+
+      no-bad : someBad sheet bank frame ≡ false
+      no-bad = ap (λ (b : Bool). b && someBad sheet bank frame) (sym write) ∙ none .1 .1 .1 .1 .1 .1 .1 .0
+
+      end : stopPlace sheet bank frame ≡ firstPlace sheet frame + count frame
+      end = stops-at-end sheet bank frame no-bad
+
+      is : left .bank ≡ stored bank (runStores frame (firstPlace sheet frame) (stopPlace sheet bank frame))
+      is =
+          ap (λ (h : Handed). h .bank) (acted sheet bank frame buffer accepted call)
+          ∙ ap (λ (judged : Judged). stored bank (storesOf judged sheet frame)) (judged-good sheet bank frame none ∙ good-write sheet frame write)
+          ∙ ap (λ (n : ℕ). stored bank (runStores frame (firstPlace sheet frame) n)) (sym end)
+
+      here : (place : ℕ) → wordOf (left .bank) place
+          ≡ wordOf (stored bank (runStores frame (firstPlace sheet frame) (stopPlace sheet bank frame))) place
+      here place = ap (λ (b : List ℕ). wordOf b place) is
+
+-- ---- (d) a write stopped by a bad item
+
+-- error 03; there is a first bad item, out of range as judged; every written address in front of it holds the word sent; every other word,
+-- and the mark, are as before
+pub record WriteStopped (sheet bank frame buffer : List ℕ) (left : Handed) : Type 0 where
+  pub answered : IsError sheet bank frame buffer 3 left
+  pub bad : Item
+  pub itsRow : Among bad (items sheet)
+  pub isTouched : touched (firstPlace sheet frame) (count frame) bad ≡ true
+  pub outOfRange : goodBy (wouldBe (firstPlace sheet frame) (count frame) bank frame) bad ≡ false
+  pub isFirst : (item : Item) → Among item (items sheet) → touched (firstPlace sheet frame) (count frame) item ≡ true → item .place < bad .place
+      → goodBy (wouldBe (firstPlace sheet frame) (count frame) bank frame) item ≡ true
+  pub storedInFront : (k place : ℕ) → k < count frame → LiesAt sheet frame k place → place < bad .place
+      → wordOf (left .bank) place ≡ sent frame k
+  pub othersBefore : (place : ℕ) → ((k : ℕ) → k < count frame → LiesAt sheet frame k place → place < bad .place → ⊥)
+      → wordOf (left .bank) place ≡ wordOf bank place
+  pub markBefore : wordOf (left .bank) (markPlace sheet) ≡ wordOf bank (markPlace sheet)
+
+-- the bad item that a write stops at
+pub record StopsAt (sheet bank frame : List ℕ) : Type 0 where
+  pub item : Item
+  pub among : Among item (items sheet)
+  pub bad : badItem (firstPlace sheet frame) (count frame) bank frame item ≡ true
+  pub there : item .place ≡ stopPlace sheet bank frame
+
+stops-at : (sheet bank frame : List ℕ) → someBad sheet bank frame ≡ true → StopsAt sheet bank frame
+unfolding stopPlace someBad
+stops-at sheet bank frame some-bad = go (keeping.stop-at (firstPlace sheet frame) (count frame) bank frame (items sheet))
+  where
+    first : ℕ
+    first = firstPlace sheet frame
+
+    go : (stopIn (firstPlace sheet frame) (count frame) bank frame (items sheet) ≡ firstPlace sheet frame + count frame)
+        ⊎ ((item : Item) × Among item (items sheet) × (badItem (firstPlace sheet frame) (count frame) bank frame item ≡ true)
+        × (item .place ≡ stopIn (firstPlace sheet frame) (count frame) bank frame (items sheet)))
+        → StopsAt sheet bank frame
+    go (inl end) =
+        let before = ltb-true (stopIn (firstPlace sheet frame) (count frame) bank frame (items sheet)) (firstPlace sheet frame + count frame)
+        (stop-some (firstPlace sheet frame) (count frame) bank frame (items sheet) ∙ some-bad) in
+        absurd (omega (arith, end, before))
+    go (inr found) = record { item = found .0; among = found .1; bad = found .2; there = found .3 }
+
+module _ (sheet bank frame buffer : List ℕ) {left : Handed} (accepted : Accepted sheet bank buffer)
+    (call : Answers sheet bank frame buffer left) where
+  pub bad-item-stops : FirstAfter (earlierSteps sheet bank frame) (meter.badWrite sheet bank frame) → WriteStopped sheet bank frame buffer left
+  unfolding actedOn storesOf verdict meter.judgedFrame badItem
+  bad-item-stops first =
+      record {
+        answered = frame-answered sheet bank frame buffer accepted call .byError 3 .1 by-item;
+        bad = at .item;
+        itsRow = at .among;
+        isTouched = first-of (touched begin (count frame) (at .item)) (not (goodBy (wouldBe begin (count frame) bank frame) (at .item))) (at .bad);
+        outOfRange = not-true (goodBy (wouldBe begin (count frame) bank frame) (at .item))
+            (second-of (touched begin (count frame) (at .item)) (not (goodBy (wouldBe begin (count frame) bank frame) (at .item))) (at .bad));
+        isFirst = λ item m touch front. not-false (goodBy (wouldBe begin (count frame) bank frame) item)
+            (ap (λ (b : Bool). b && not (goodBy (wouldBe begin (count frame) bank frame) item)) (sym touch)
+            ∙ keeping.front-fine sheet bank frame (accepted .sheetSound) (accepted .bankFits) (accepted .bankWhole) (opened .all) m
+            (omega (arith, front, at .there)));
+        storedInFront = λ k place less lies front. here place
+            ∙ in-front sheet bank frame buffer accepted opened k place less lies (omega (arith, front, at .there));
+        othersBefore = λ place unwritten. here place
+            ∙ elsewhere sheet bank frame buffer accepted opened place (λ k less lies front. unwritten k less lies (omega (arith, front, at .there)));
+        markBefore = here (markPlace sheet)
+            ∙ keeping.mark-kept sheet bank frame (accepted .sheetSound) (accepted .bankFits) (accepted .bankWhole) (opened .all);
+      }
+    where
+      begin : ℕ
+      begin = firstPlace sheet frame
+
+      write : isWrite frame ≡ true
+      write = first-of (isWrite frame) (someBad sheet bank frame) (first .1)
+
+      opened : OpenWrite sheet frame
+      opened = open-write sheet bank frame write (first .0 .1 .1 .1 .1 .1 .0)
+
+      at : StopsAt sheet bank frame
+      at = stops-at sheet bank frame (second-of (isWrite frame) (someBad sheet bank frame) (first .1))
+
+      by-item : verdict sheet bank frame ≡ error 3
+      by-item = first-after (take 7 (steps sheet bank frame)) (when (meter.badWrite sheet bank frame) (error 3)) [] good first
+
+      is : left .bank ≡ stored bank (runStores frame (firstPlace sheet frame) (stopPlace sheet bank frame))
+      is =
+          ap (λ (h : Handed). h .bank) (acted sheet bank frame buffer accepted call)
+          ∙ ap (λ (judged : Judged). stored bank (storesOf judged sheet frame))
+          (first-after (take 7 (meter.steps sheet bank frame))
+          (when (meter.badWrite sheet bank frame) (BadItem (firstPlace sheet frame) (stopPlace sheet bank frame))) [] (meter.goodFrame sheet frame) first)
+
+      here : (place : ℕ) → wordOf (left .bank) place
+          ≡ wordOf (stored bank (runStores frame (firstPlace sheet frame) (stopPlace sheet bank frame))) place
+      here place = ap (λ (b : List ℕ). wordOf b place) is
+
+-- ---- (e) a good 05
+
+-- the mark is 0, and all words are as before
+pub record MarkCleared (sheet bank : List ℕ) (left : Handed) : Type 0 where
+  pub replied : left .number ≡ 0
+  pub cleared : wordOf (left .bank) (markPlace sheet) ≡ 0
+  pub othersBefore : (place : ℕ) → (markPlace sheet ≡ place → ⊥) → wordOf (left .bank) place ≡ wordOf bank place
+
+module _ (sheet bank frame buffer : List ℕ) {left : Handed} (accepted : Accepted sheet bank buffer)
+    (call : Answers sheet bank frame buffer left) where
+  pub good-clear-clears : verdict sheet bank frame ≡ good → function frame ≡ clears → MarkCleared sheet bank left
+  unfolding actedOn storesOf
+  good-clear-clears fine clear =
+      record {
+        replied = frame-answered sheet bank frame buffer accepted call .byReply .1 fine .replied;
+        cleared = here (markPlace sheet) ∙ mark-there sheet bank (accepted .sheetSound) (accepted .bankFits) 0;
+        othersBefore = λ place apart. here place ∙ mark-apart sheet bank (accepted .sheetSound) (accepted .bankFits) 0 place apart;
+      }
+    where
+      is : left .bank ≡ stored bank (markStores sheet 0)
+      is =
+          ap (λ (h : Handed). h .bank) (acted sheet bank frame buffer accepted call)
+          ∙ ap (λ (judged : Judged). stored bank (storesOf judged sheet frame))
+          (judged-good sheet bank frame (good-none sheet bank frame fine) ∙ good-clear sheet frame clear)
+
+      here : (place : ℕ) → wordOf (left .bank) place ≡ wordOf (stored bank (markStores sheet 0)) place
+      here place = ap (λ (b : List ℕ). wordOf b place) is

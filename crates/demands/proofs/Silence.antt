@@ -1,6 +1,6 @@
 -- Demand 3: "A frame of 4 to 100 bytes with a right check, for any station, its length kept, that has one, two or three bits changed, or any
 -- number, at least one, within one run of sixteen in the order sent: the meter stays silent, bank and buffer untouched." Assumes nothing.
-use mathlib.Core.Path.{_≡_, ap, _∙_}
+use mathlib.Core.Path.{_≡_, ap}
 use mathlib.Core.Bool.{true, not}
 use mathlib.Core.List.{List}
 use Prim.Native.Nat.{ℕ}
@@ -11,7 +11,7 @@ use Rattle.bank.specs.Cases.{when}
 use Rattle.meter.specs.Steps.{failsCheck}
 use Rattle.meter.proofs.Order.{step-stops}
 use Rattle.cedarskein.specs.Door.{Handed, handed}
-use Rattle.demands.specs.Verdict.{Accepted, Verdict, silence, good, verdict}
+use Rattle.demands.specs.Verdict.{Accepted, silence, good, verdict}
 use Rattle.demands.proofs.Calls.{Answers}
 use Rattle.demands.proofs.Frames.{frame-answered}
 

@@ -1,7 +1,7 @@
 -- What becomes of a judged frame, from what was stored and what was sent. Assumes nothing.
 use mathlib.Core.Path.{_≡_, refl, sym, ap, ap₂, _∙_}
 use mathlib.Core.Bool.{Bool, true, false, cond}
-use mathlib.Core.List.{List, [], _∷_, _++_, map}
+use mathlib.Core.List.{List, _∷_, _++_, map}
 use Prim.Native.Nat.{ℕ, _+_, _-_}
 use native.Mathlib.Omega.{arith}
 use lib.Dec.{eqb}
@@ -14,7 +14,7 @@ use Rattle.meter.specs.declared.Judged.{Judged}
 use Rattle.meter.specs.Frame.{writesMany, station, function, start, second}
 use Rattle.meter.specs.Write.{runStore, runStores}
 use Rattle.meter.specs.Reply.{wordBytes, echo, writeReply, replyTo, storesOf}
-use Rattle.meter.specs.Answer.{Outcome, outcome, actedOn, answeredWith, laid}
+use Rattle.meter.specs.Answer.{outcome, actedOn, answeredWith, laid}
 use Rattle.meter.specs.Sending.{Sent, sent, sending}
 
 module _ (sheet bank frame buffer : List ℕ) {rate : ℕ} (rated : rate ≡ rateOf sheet bank) {judged : Judged} (told : Judged) (is : judged ≡ told) where

@@ -8,10 +8,9 @@ use Rattle.sheet.specs.Rules.{sound}
 use Rattle.bank.specs.declared.Answer.{Answer}
 use Rattle.bank.specs.declared.Answer.the-variants.{Done, SheetBreaksRule, BankMisfits, BankNotSound, NotReadOnly, BadInput}
 use Rattle.bank.specs.Bank.{fits, bankSound}
-use Rattle.bank.specs.Cases.{Case, when, firstCase}
+use Rattle.bank.specs.Cases.{when, firstCase}
 use Rattle.bank.specs.Calls.{checkAnswer}
 use Rattle.bank.proofs.Refusals.{reasons, answerOf}
-use Rattle.meter.specs.declared.Answered.{Answered}
 use Rattle.meter.specs.declared.Answered.the-variants as answered
 use Rattle.meter.specs.Steps.{judgedFrame}
 use Rattle.meter.specs.Answer.{Outcome, outcome, smallBuffer, actedOn, answerOutcome}

@@ -1,10 +1,9 @@
 -- Case set P of 01, "Both sides of each line", as one table under one statement. Frames and replies are typed from 01, with their checks
 -- behind them; the words that change are typed from 01 at their addresses. Assumes nothing.
 use mathlib.Core.Path.{_≡_, refl}
-use mathlib.Core.Bool.{Bool, true, cond, _&&_}
+use mathlib.Core.Bool.{Bool, cond, _&&_}
 use mathlib.Core.List.{List, [], _∷_, _++_}
 use Prim.Native.Nat.{ℕ, suc, _+_, _-_}
-use lib.Bits.{bitXor}
 use lib.Dec.{eqb}
 use lib.ListN.{length, drop, set, replicate}
 use Rattle.words.specs.Words.{wordAt, withWord, upper, lower}

@@ -1,10 +1,9 @@
 -- Laying a reply in the answer buffer, byte by byte, word by word, and then its check. Assumes nothing.
-use mathlib.Core.Path.{_≡_, refl, sym, ap, ap₂, _∙_}
-use mathlib.Core.Bool.{cond}
+use mathlib.Core.Path.{_≡_, refl, sym, ap, _∙_}
 use mathlib.Core.List.{List, [], _∷_, _++_, append-assoc}
 use Prim.Native.Nat.{ℕ, suc, _+_, _/_, _%_, _≤_, _<_}
 use native.Mathlib.Omega.{arith}
-use lib.ListN.{length, getD, take, drop, set, length-append, length-drop, length-set, take-append-drop}
+use lib.ListN.{length, getD, take, drop, set, length-append, length-drop, take-append-drop}
 use lib.Seq.{drop-cons, set-at, take-at, length-take-le, drop-append-add, drop-drop}
 use borrow.Author.Tests.{lt-ltb, le-leb}
 use Rattle.words.specs.Words.{withByte, withWord, upper, lower}

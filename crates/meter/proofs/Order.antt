@@ -4,12 +4,12 @@ use mathlib.Core.Path.{_≡_, refl, sym, ap, ap₂, _∙_}
 use mathlib.Core.Bool.{Bool, true, false, not, cond, _&&_, _||_, or-false}
 use mathlib.Core.List.{List, [], _∷_}
 use Prim.Native.Nat.{ℕ, _+_, _*_}
-use lib.Dec.{leb, ltb, eqb}
+use lib.Dec.{ltb, eqb}
 use lib.ListN.{length}
 use borrow.Author.Tests.{ne-eqb, eqb-true}
 use Rattle.sheet.specs.Rows.{clearAddress}
 use Rattle.sheet.specs.Rules.{allowed, bitOf03, bitOf05, bitOf06, bitOf10}
-use Rattle.bank.specs.Cases.{Case, when, firstCase}
+use Rattle.bank.specs.Cases.{Case, firstCase}
 use Rattle.meter.specs.declared.runs.Purpose.the-variants.{Read, Write}
 use Rattle.meter.specs.Frame.{reads, clears, writesOne, writesMany, function, start, second, byteCount, isWrite, count, run, codeAllowed}
 use Rattle.meter.specs.Runs.{allOpen}

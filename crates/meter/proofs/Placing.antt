@@ -1,12 +1,12 @@
 -- A place that an address gives is below 257, so that sums of places and counts are small. Assumes nothing.
 use mathlib.Core.Path.{_≡_, refl}
-use mathlib.Core.Bool.{Bool, true}
+use mathlib.Core.Bool.{true}
 use mathlib.Core.List.{List}
 use Prim.Native.Nat.{ℕ, _≤_}
 use native.Mathlib.Omega.{arith}
 use Rattle.sheet.specs.declared.Lies.{Lies}
 use Rattle.sheet.specs.declared.Lies.the-variants.{At, Nowhere}
-use Rattle.sheet.specs.Rows.{areas, bankWords}
+use Rattle.sheet.specs.Rows.{areas}
 use Rattle.sheet.specs.Rules.{sound}
 use Rattle.sheet.specs.Lookup.{liesIn}
 use Rattle.sheet.proofs.Sound.{sound-numbers}

@@ -2,13 +2,11 @@
 use mathlib.Core.Path.{_≡_, refl, sym, ap, ap₂, _∙_}
 use mathlib.Core.Bool.{Bool, true, false, not, cond, _&&_, _||_, or-false}
 use mathlib.Core.List.{List, [], _∷_}
-use Prim.Native.Nat.{ℕ, _+_, _*_, _≤_}
+use Prim.Native.Nat.{ℕ}
 use lib.Dec.{leb, ltb, eqb}
-use lib.ListN.{length}
 use borrow.Author.Tests.{eqb-true, le-leb, ltb-false}
-use Rattle.check_value.specs.Frame.{passes}
 use Rattle.sheet.specs.Rows.{clearAddress}
-use Rattle.bank.specs.Cases.{Case, when, firstCase}
+use Rattle.bank.specs.Cases.{when, firstCase}
 use Rattle.meter.specs.declared.Judged.{Judged}
 use Rattle.meter.specs.declared.Judged.the-variants.{FailsCheck, OtherStation, FunctionNotAllowed, WrongLength, WrongCount, WrongAddress, WrongValue, BadItem, GoodRead, GoodClear, GoodWrite}
 use Rattle.meter.specs.declared.runs.Purpose.the-variants.{Read, Write}
@@ -17,7 +15,7 @@ use Rattle.meter.specs.Runs.{allOpen}
 use Rattle.meter.specs.Write.{firstPlace, someBad, stopPlace}
 use Rattle.meter.specs.Steps.{failsCheck, otherStation, functionNotAllowed, wrongLength, wrongCount, wrongAddress, wrongValue, badWrite, mostRead, goodFrame, judgedFrom, judgedFrame}
 use Rattle.meter.specs.Answer.{readFits}
-use Rattle.meter.proofs.Order.{step-stops, step-passes, step-none, Asks, asks-for, address-is, value-is, bad-is, write-is}
+use Rattle.meter.proofs.Order.{step-stops, step-passes, step-none, Asks, asks-for, address-is, value-is, bad-is}
 
 module _ (sheet bank frame : List ℕ) where
   -- ---- the steps, one after another

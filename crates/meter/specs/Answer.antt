@@ -6,7 +6,7 @@ use lib.Dec.{leb, ltb}
 use lib.ListN.{length, drop}
 use Rattle.bank.specs.Stores.{stored}
 use Rattle.bank.specs.Bank.{rateOf}
-use Rattle.bank.specs.Cases.{Case, when, firstCase}
+use Rattle.bank.specs.Cases.{when, firstCase}
 use Rattle.bank.specs.Calls.{brokenSheet, misfittingBank, unsoundBank}
 use Rattle.meter.specs.declared.Answered.{Answered}
 use Rattle.meter.specs.declared.Answered.the-variants.{Reply, Silence, SheetBreaksRule, BankMisfits, BankNotSound, SmallBuffer}

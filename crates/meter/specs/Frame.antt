@@ -1,7 +1,7 @@
 -- The parts of a frame that 01's order of judgement speaks of. Total: a byte past the end is 0. Assumes nothing.
 use Prim.Native.Nat.{ℕ, _+_, _*_}
 use mathlib.Core.Bool.{Bool, cond, _&&_, _||_}
-use mathlib.Core.List.{List, []}
+use mathlib.Core.List.{List}
 use lib.Dec.{eqb}
 use lib.ListN.{length}
 use Rattle.words.specs.Words.{byteAt, wordAt}

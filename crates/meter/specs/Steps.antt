@@ -1,8 +1,8 @@
 -- 01, "Order of judgement for a frame": the conditions of steps 1 to 7, step 7 as two; the first that holds wins. Assumes nothing.
 use Prim.Native.Nat.{ℕ, _+_, _*_}
-use mathlib.Core.Bool.{Bool, false, not, cond, _&&_, _||_}
+use mathlib.Core.Bool.{Bool, not, cond, _&&_, _||_}
 use mathlib.Core.List.{List, [], _∷_}
-use lib.Dec.{leb, ltb, eqb}
+use lib.Dec.{ltb, eqb}
 use lib.ListN.{length, drop}
 use Rattle.check_value.specs.Frame.{passes}
 use Rattle.sheet.specs.Rows.{clearAddress}
@@ -10,7 +10,7 @@ use Rattle.bank.specs.Bank.{stationOf}
 use Rattle.bank.specs.Cases.{Case, when, firstCase}
 use Rattle.meter.specs.declared.Judged.{Judged}
 use Rattle.meter.specs.declared.Judged.the-variants.{FailsCheck, OtherStation, FunctionNotAllowed, WrongLength, WrongCount, WrongAddress, WrongValue, BadItem, GoodRead, GoodClear, GoodWrite}
-use Rattle.meter.specs.Frame.{reads, clears, writesOne, writesMany, station, function, start, second, byteCount, isWrite, count, run, functionAllowed}
+use Rattle.meter.specs.Frame.{reads, clears, writesMany, station, function, start, second, byteCount, isWrite, count, run, functionAllowed}
 use Rattle.meter.specs.declared.runs.Purpose.the-variants.{Read, Write}
 use Rattle.meter.specs.Runs.{allOpen}
 use Rattle.meter.specs.Write.{firstPlace, someBad, stopPlace}

@@ -1,14 +1,14 @@
 -- The number that a value stands for, by cases on the kind, and that it fits a signed number of 64 bits. Assumes nothing.
-use mathlib.Core.Path.{_≡_, refl, ap}
+use mathlib.Core.Path.{_≡_, refl}
 use mathlib.Core.Bool.{Bool, true, false, cond}
 use Prim.Native.Nat.{ℕ, zero, suc, _-_, _≤_, _<_, _^_}
 use native.Mathlib.Omega.{arith}
-use lib.Dec.{ltb, lit<}
-use lib.IntN.{ℤ, pos, negsuc, _-ℤ_}
+use lib.Dec.{ltb}
+use lib.IntN.{pos, negsuc, _-ℤ_}
 use mir.Syntax.{w64}
-use mir.Val.{SFits, toZ, hbits}
-use borrow.Author.Tests.{lt-ltb, le-ltb, ltb-true, ltb-false}
-use Rattle.range.specs.Range.{signedOf, numberOf, signedWord}
+use mir.Val.{SFits, toZ}
+use borrow.Author.Tests.{lt-ltb, le-ltb}
+use Rattle.range.specs.Range.{numberOf, signedWord}
 
 -- every kind but the signed word: the number is the value
 pub number-plain : (kind value : ℕ) → (kind ≡ signedWord → ⊥) → numberOf kind value ≡ pos value

@@ -1,7 +1,7 @@
 -- 01, "The sheet", item rows: the kinds, the number that a value stands for, and the judgement of a value between its bounds.
 -- A value is the item's word or, for a pair, "upper word first", the upper word * 65536 + the lower word. Assumes nothing.
 use Prim.Native.Nat.{ℕ, zero, suc}
-use mathlib.Core.Bool.{Bool, true, false, _&&_, cond}
+use mathlib.Core.Bool.{Bool, _&&_, cond}
 use lib.Dec.{ltb}
 use lib.IntN.{ℤ, pos, _-ℤ_}
 use lib.Signed.{leZ}

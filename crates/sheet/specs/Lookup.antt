@@ -1,8 +1,8 @@
 -- What lies at an address, the address of a place, and the item that holds a place, over the areas and items of a sheet. Assumes nothing.
 use Prim.Native.Nat.{ℕ, _+_, _-_}
-use mathlib.Core.Bool.{Bool, true, false, _&&_, _||_, cond}
+use mathlib.Core.Bool.{Bool, _&&_, _||_, cond}
 use mathlib.Core.List.{List, [], _∷_}
-use lib.Dec.{leb, eqb}
+use lib.Dec.{eqb}
 use Rattle.sheet.specs.declared.Area.{Area}
 use Rattle.sheet.specs.declared.Item.{Item}
 use Rattle.sheet.specs.declared.Lies.{Lies}

@@ -1,5 +1,5 @@
 -- What it means that a promise determines its outcome: any two outcomes that it allows at the same arguments look alike. Assumes nothing.
-use mathlib.Core.Path.{_≡_, sym, _∙_}
+use mathlib.Core.Path.{_≡_}
 use mathlib.Core.List.{List}
 use Prim.Native.Nat.{ℕ}
 use contract.Lifetimes.{Lfts}

@@ -1,7 +1,7 @@
 -- Bytes and sixteen-bit words of a list of bytes, each total. 01, "The sheet": "16-bit words, two bytes each, upper byte first".
 -- A read past the end gives 0; a store that does not fit changes nothing. Assumes nothing.
 use Prim.Native.Nat.{ℕ, _+_, _*_, _/_, _%_}
-use mathlib.Core.Bool.{Bool, true, false, cond}
+use mathlib.Core.Bool.{cond}
 use mathlib.Core.List.{List}
 use lib.Dec.{ltb}
 use lib.ListN.{length, getD, set}

@@ -8,9 +8,6 @@ use lib.ListN.{length}
 use borrow.Author.Needs.{needs}
 use Rattle.bank.proofs.fits.Statement.{statement}
 use Rattle.bank.proofs.fits.Tie as tie
-use Rattle.bank.proofs.fits.Reads as reads
-use Rattle.bank.proofs.fits.Lts as lts
-use Rattle.sheet.proofs.bank_words.Reads as bank-words-reads
 
 -- src/lib.rt:55:24
 bank-words-requires : tie.Need-bank-words-requires

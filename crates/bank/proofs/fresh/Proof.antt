@@ -1,29 +1,16 @@
 -- `bank::fresh` meets its contract: the refusals, then the stores of a fresh bank.
 -- Assumes nothing.
-use native.Mathlib.Omega.{arith}
-use Prim.Native.Nat.{ℕ, _+_, _*_}
-use mathlib.Core.Path.{_≡_, refl, _∙_, sym, ap, ap₂}
-use mathlib.Core.List.{List, [], _∷_, _++_, map}
+use mathlib.Core.Path.{refl, _∙_, sym}
 use borrow.Author.Tests.{not-true, not-false}
 use denote.Ref.{now}
-use Rattle.words.specs.Words.{withWord}
-use Rattle.sheet.specs.Rows.{bankWords, addressPlace, ratePlace, items}
-use Rattle.sheet.specs.Rules.{upFrom}
-use Rattle.bank.specs.declared.Answer.the-variants.{Done, SheetBreaksRule, BankMisfits}
-use Rattle.bank.specs.Stores.{Store, stored}
-use Rattle.bank.specs.Bank.{zeroAt, lowStores, freshStores}
+use Rattle.bank.specs.declared.Answer.the-variants.{SheetBreaksRule, BankMisfits}
+use Rattle.bank.specs.Bank.{freshStores}
 use Rattle.bank.specs.Cases.{firstCase}
 use Rattle.bank.specs.Calls.{freshAnswer, freshOutcome}
-use Rattle.bank.proofs.Stores.{stored-append}
 use Rattle.bank.proofs.Refusals.{sheet-sound, sheet-broken, outcome-refused, outcome-done}
 use borrow.Author.Needs.{needs}
 use Rattle.bank.proofs.fresh.Statement.{statement}
 use Rattle.bank.proofs.fresh.Tie as tie
-use Rattle.bank.proofs.fresh.Reads as reads
-use Rattle.bank.proofs.fresh.Lts as lts
-use Rattle.bank.proofs.fits.Reads as fits-reads
-use Rattle.bank.proofs.fresh_words.store_fresh.Reads as store-fresh-reads
-use Rattle.sheet.proofs.judged.Reads as judged-reads
 
 -- src/lib.rt:77:30
 judged-requires : tie.Need-judged-requires

@@ -7,11 +7,6 @@ use Rattle.bank.proofs.Refusals.{sheet-sound, sheet-broken, refused-she
 use borrow.Author.Needs.{needs}
 use Rattle.bank.proofs.judged.Statement.{statement}
 use Rattle.bank.proofs.judged.Tie as tie
-use Rattle.bank.proofs.judged.Reads as reads
-use Rattle.bank.proofs.judged.Lts as lts
-use Rattle.bank.proofs.fits.Reads as fits-reads
-use Rattle.bank.proofs.sound.Reads as sound-reads
-use Rattle.sheet.proofs.judged.Reads as judged-reads
 
 -- src/lib.rt:61:30
 judged-requires : tie.Need-judged-requires

@@ -1,15 +1,14 @@
 -- `bank::post` meets its contract: the check's refusals first, then 7, then 6, then the stores.
 -- Assumes nothing.
 use native.Mathlib.Omega.{arith}
-use Prim.Native.Nat.{ℕ, _+_, _/_, _%_, _≤_, _<_}
-use mathlib.Core.Path.{_≡_, refl, _∙_, sym, ap}
-use mathlib.Core.Bool.{Bool, true, false, not}
+use Prim.Native.Nat.{ℕ, _/_, _%_, _<_}
+use mathlib.Core.Path.{refl, _∙_, sym}
 use mathlib.Core.List.{List, [], _∷_}
 use borrow.Author.Tests.{eq-eqb, ne-eqb, not-true, not-false}
 use denote.Ref.{now}
 use lib.ListN.{length}
 use Rattle.bank.specs.declared.Answer.{Answer}
-use Rattle.bank.specs.declared.Answer.the-variants.{Done, BadInput, NotReadOnly}
+use Rattle.bank.specs.declared.Answer.the-variants.{BadInput, NotReadOnly}
 use Rattle.bank.specs.Bank.{emptyOrOdd, postStores}
 use Rattle.bank.specs.Cases.{Case, when, firstCase}
 use Rattle.bank.specs.Calls.{badAddress, postAnswer, postOutcome}
@@ -18,11 +17,6 @@ use Rattle.bank.proofs.Reach.{read-only-run}
 use borrow.Author.Needs.{needs}
 use Rattle.bank.proofs.post.Statement.{statement}
 use Rattle.bank.proofs.post.Tie as tie
-use Rattle.bank.proofs.post.Reads as reads
-use Rattle.bank.proofs.post.Lts as lts
-use Rattle.bank.proofs.judged.Reads as judged-reads
-use Rattle.bank.proofs.post_words.all_read_only.Reads as all-read-only-reads
-use Rattle.bank.proofs.post_words.store_posted.Reads as store-posted-reads
 
 -- the reasons behind the bank's own check
 abbrev further : List ℕ → ℕ → List ℕ → List (Case Answer)

@@ -1,14 +1,13 @@
 -- `bank::set_mark` meets its contract: the check's refusals first, then the mark's own, then the store.
 -- Assumes nothing.
 use native.Mathlib.Omega.{arith}
-use Prim.Native.Nat.{ℕ, _*_, _%_, _<_, _≤_}
-use mathlib.Core.Path.{_≡_, refl, _∙_, sym, ap, ap₂}
-use mathlib.Core.List.{List, [], _∷_}
+use Prim.Native.Nat.{ℕ, _*_, _%_, _≤_}
+use mathlib.Core.Path.{_≡_, refl, _∙_, ap₂}
+use mathlib.Core.List.{[], _∷_}
 use borrow.Author.Tests.{le-leb, lt-leb}
 use denote.Ref.{now}
 use Rattle.words.specs.Words.{withWord}
-use Rattle.bank.specs.declared.Answer.{Answer}
-use Rattle.bank.specs.declared.Answer.the-variants.{Done, BadInput}
+use Rattle.bank.specs.declared.Answer.the-variants.{BadInput}
 use Rattle.bank.specs.Stores.{stored}
 use Rattle.bank.specs.Bank.{markStores}
 use Rattle.bank.specs.Cases.{when, firstCase}
@@ -17,11 +16,6 @@ use Rattle.bank.proofs.Refusals.{not-done, check-refuses, check-passes,
 use borrow.Author.Needs.{needs}
 use Rattle.bank.proofs.set_mark.Statement.{statement}
 use Rattle.bank.proofs.set_mark.Tie as tie
-use Rattle.bank.proofs.set_mark.Reads as reads
-use Rattle.bank.proofs.set_mark.Lts as lts
-use Rattle.bank.proofs.judged.Reads as judged-reads
-use Rattle.sheet.proofs.bank_words.Reads as bank-words-reads
-use Rattle.words.proofs.store_word.Reads as store-word-reads
 
 -- src/lib.rt:115:9
 judged-requires : tie.Need-judged-requires

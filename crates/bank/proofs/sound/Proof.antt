@@ -4,31 +4,19 @@ use Rattle.bank.proofs.Good.{good-told}
 use borrow.Author.Needs.{needs}
 use native.Mathlib.Omega.{arith}
 use Prim.Native.Nat.{ℕ, _+_, _*_, _-_, _≤_, _<_}
-use mathlib.Core.Path.{_≡_, refl, _∙_, sym, ap, ap₂}
-use mathlib.Core.Bool.{Bool, true, false, _&&_}
-use mathlib.Core.List.{List}
+use mathlib.Core.Path.{_≡_, _∙_, ap}
 use borrow.Author.Tests.{not-true, not-false}
 use denote.Ref.{now}
 use lib.Dec.{leb}
 use Rattle.words.specs.Words.{wordAt}
-use Rattle.range.specs.Range.{inRange}
-use Rattle.sheet.specs.declared.Item.{Item}
-use Rattle.sheet.specs.Rows.{itemCount, itemAt, rows, items, bankWords}
+use Rattle.sheet.specs.Rows.{itemCount, itemAt, rows, items}
 use Rattle.sheet.specs.Rules.{each}
 use Rattle.sheet.proofs.Rows.{rows-on, rows-end, rows-all, items-rows}
 use Rattle.bank.specs.Stores.{wordOf}
-use Rattle.bank.specs.Bank.{valueBy, goodBy, bankSound}
+use Rattle.bank.specs.Bank.{goodBy, bankSound}
 use Rattle.bank.proofs.Walks.{each-goes-on, each-stops, each-ends}
 use Rattle.bank.proofs.sound.Statement.{statement}
 use Rattle.bank.proofs.sound.Tie as tie
-use Rattle.bank.proofs.sound.Reads as reads
-use Rattle.bank.proofs.sound.Lts as lts
-use Rattle.bank.proofs.value_in.Reads as value-in-reads
-use Rattle.range.proofs.in_range.Reads as in-range-reads
-use Rattle.sheet.proofs.bank_words.Reads as bank-words-reads
-use Rattle.sheet.proofs.item_at.Reads as item-at-reads
-use Rattle.sheet.proofs.item_count.Reads as item-count-reads
-use Rattle.words.proofs.word_at.Reads as word-at-reads
 
 abbrev Inv-loop : tie.InvT-loop
 Inv-loop sheet bank count k₀ k =

@@ -10,9 +10,6 @@ use Rattle.bank.proofs.Stores.{next-place}
 use borrow.Author.Needs.{needs}
 use Rattle.bank.proofs.value_in.Statement.{statement}
 use Rattle.bank.proofs.value_in.Tie as tie
-use Rattle.bank.proofs.value_in.Reads as reads
-use Rattle.bank.proofs.value_in.Lts as lts
-use Rattle.words.proofs.word_at.Reads as word-at-reads
 
 -- src/lib.rt:27:19
 cast-at : tie.Need-cast-at

@@ -1,17 +1,13 @@
 -- `cases::act_within` is safe: the bank that is used is a part of the lent one.
 -- Assumes nothing.
 use native.Mathlib.Omega.{arith}
-use Prim.Native.Nat.{ℕ, _+_, _*_, _-_, _≤_, _<_}
-use mathlib.Core.Path.{_≡_, refl, sym, _∙_}
+use Prim.Native.Nat.{_-_}
+use mathlib.Core.Path.{sym}
 use denote.Ref.{now}
-use lib.ListN.{length}
 use lib.Seq.{length-take-le}
 use borrow.Author.Needs.{needs}
 use Rattle.cases.proofs.act_within.Statement.{statement}
 use Rattle.cases.proofs.act_within.Tie as tie
-use Rattle.cases.proofs.act_within.Reads as reads
-use Rattle.cases.proofs.act_within.Lts as lts
-use Rattle.cases.proofs.act.Reads as act-reads
 
 -- src/main.rt:171:26
 slice-relend-prefix-act : tie.Need-slice-relend-prefix-act

@@ -1,16 +1,13 @@
 -- `cases::front` is safe and ends.
 -- Assumes nothing.
 use native.Mathlib.Omega.{arith}
-use Prim.Native.Nat.{ℕ, _+_, _*_, _-_, _≤_, _<_}
-use mathlib.Core.Path.{_≡_, refl, sym, _∙_}
+use Prim.Native.Nat.{_-_}
+use mathlib.Core.Path.{sym}
 use denote.Ref.{now}
-use lib.ListN.{length, length-set}
 use lib.Seq.{length-take-le}
 use borrow.Author.Needs.{needs}
 use Rattle.cases.proofs.front.Statement.{statement}
 use Rattle.cases.proofs.front.Tie as tie
-use Rattle.cases.proofs.front.Reads as reads
-use Rattle.cases.proofs.front.Lts as lts
 
 -- src/main.rt:43:9
 slice-aggregate-result : tie.Need-slice-aggregate-result

@@ -1,21 +1,13 @@
 -- `cases::number_within` is safe: the buffer that is answered in is a part of the lent one.
 -- Assumes nothing.
 use native.Mathlib.Omega.{arith}
-use Prim.Native.Nat.{ℕ, _+_, _*_, _-_, _≤_, _<_}
-use mathlib.Core.Path.{_≡_, refl, sym, _∙_}
+use Prim.Native.Nat.{_-_}
+use mathlib.Core.Path.{sym}
 use denote.Ref.{now}
-use lib.ListN.{length}
 use lib.Seq.{length-take-le}
 use borrow.Author.Needs.{needs}
 use Rattle.cases.proofs.number_within.Statement.{statement}
 use Rattle.cases.proofs.number_within.Tie as tie
-use Rattle.cases.proofs.number_within.Reads as reads
-use Rattle.cases.proofs.number_within.Lts as lts
-use Rattle.cases.proofs.fields.after.Reads as after-reads
-use Rattle.cases.proofs.rest.Reads as rest-reads
-use Rattle.cases.proofs.rows.number.Reads as number-reads
-use Rattle.cases.proofs.rows.say.Reads as say-reads
-use Rattle.cases.proofs.word_of.Reads as word-of-reads
 
 -- src/main.rt:105:16
 word-of-requires : tie.Need-word-of-requires

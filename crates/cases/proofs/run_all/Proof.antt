@@ -1,19 +1,12 @@
 -- `cases::run_all` is safe and ends: what is left of the text gets shorter with every line.
 -- Assumes nothing.
 use native.Mathlib.Omega.{arith}
-use Prim.Native.Nat.{ℕ, _+_, _*_, _-_, _≤_, _<_}
-use mathlib.Core.Path.{_≡_, refl, sym, _∙_}
-use denote.Ref.{now}
+use Prim.Native.Nat.{_-_}
+use mathlib.Core.Path.{_≡_, refl}
 use lib.ListN.{length}
 use borrow.Author.Needs.{needs}
 use Rattle.cases.proofs.run_all.Statement.{statement}
 use Rattle.cases.proofs.run_all.Tie as tie
-use Rattle.cases.proofs.run_all.Reads as reads
-use Rattle.cases.proofs.run_all.Lts as lts
-use Rattle.cases.proofs.fields.line_end.Reads as line-end-reads
-use Rattle.cases.proofs.front.Reads as front-reads
-use Rattle.cases.proofs.rest.Reads as rest-reads
-use Rattle.cases.proofs.run_line.Reads as run-line-reads
 
 abbrev Inv-loop : tie.InvT-loop
 Inv-loop text sheet₀ bank₀ sizes₀ at₀ sheet bank sizes at =

@@ -1,18 +1,13 @@
 -- `cases::start` is safe: the bank that is made fresh is a part of the lent one.
 -- Assumes nothing.
 use native.Mathlib.Omega.{arith}
-use Prim.Native.Nat.{ℕ, _+_, _*_, _≤_}
-use mathlib.Core.Path.{_≡_, sym}
+use Prim.Native.Nat.{_+_, _*_}
+use mathlib.Core.Path.{sym}
 use denote.Ref.{now}
 use lib.Seq.{length-take-le}
 use borrow.Author.Needs.{needs}
 use Rattle.cases.proofs.start.Statement.{statement}
 use Rattle.cases.proofs.start.Tie as tie
-use Rattle.cases.proofs.start.Reads as reads
-use Rattle.cases.proofs.start.Lts as lts
-use Rattle.bank.proofs.fresh.Reads as fresh-reads
-use Rattle.cases.proofs.rows.fill.Reads as fill-reads
-use Rattle.sheet.proofs.bank_words.Reads as bank-words-reads
 
 -- src/main.rt:147:5
 fill-requires : tie.Need-fill-requires

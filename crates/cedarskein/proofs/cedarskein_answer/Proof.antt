@@ -7,12 +7,6 @@ use Rattle.cedarskein.specs.Door.{handed, handedOf}
 use borrow.Author.Needs.{needs}
 use Rattle.cedarskein.proofs.cedarskein_answer.Statement.{statement}
 use Rattle.cedarskein.proofs.cedarskein_answer.Tie as tie
-use Rattle.cedarskein.proofs.cedarskein_answer.Reads as reads
-use Rattle.cedarskein.proofs.cedarskein_answer.Lts as lts
-use Rattle.cedarskein.proofs.numbers.length_of.Reads as length-of-reads
-use Rattle.cedarskein.proofs.numbers.of_answered.Reads as of-answered-reads
-use Rattle.cedarskein.proofs.numbers.rate_of.Reads as rate-of-reads
-use Rattle.meter.proofs.answer.Reads as answer-reads
 
 -- src/lib.rt:91:9
 answer-requires : tie.Need-answer-requires

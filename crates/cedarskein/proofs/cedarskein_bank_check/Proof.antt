@@ -5,10 +5,6 @@ use Rattle.bank.specs.Calls.{numberOf}
 use borrow.Author.Needs.{needs}
 use Rattle.cedarskein.proofs.cedarskein_bank_check.Statement.{statement}
 use Rattle.cedarskein.proofs.cedarskein_bank_check.Tie as tie
-use Rattle.cedarskein.proofs.cedarskein_bank_check.Reads as reads
-use Rattle.cedarskein.proofs.cedarskein_bank_check.Lts as lts
-use Rattle.bank.proofs.judged.Reads as judged-reads
-use Rattle.cedarskein.proofs.numbers.of_answer.Reads as of-answer-reads
 
 -- src/lib.rt:51:24
 judged-requires : tie.Need-judged-requires

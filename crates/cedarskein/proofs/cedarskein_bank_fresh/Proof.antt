@@ -6,10 +6,6 @@ use Rattle.cedarskein.proofs.Telling.{number-told}
 use borrow.Author.Needs.{needs}
 use Rattle.cedarskein.proofs.cedarskein_bank_fresh.Statement.{statement}
 use Rattle.cedarskein.proofs.cedarskein_bank_fresh.Tie as tie
-use Rattle.cedarskein.proofs.cedarskein_bank_fresh.Reads as reads
-use Rattle.cedarskein.proofs.cedarskein_bank_fresh.Lts as lts
-use Rattle.bank.proofs.fresh.Reads as fresh-reads
-use Rattle.cedarskein.proofs.numbers.of_answer.Reads as of-answer-reads
 
 -- src/lib.rt:59:24
 fresh-requires : tie.Need-fresh-requires

@@ -5,10 +5,6 @@ use Rattle.check_value.specs.declared.Check.{Check}
 use borrow.Author.Needs.{needs}
 use Rattle.cedarskein.proofs.cedarskein_check_take.Statement.{statement}
 use Rattle.cedarskein.proofs.cedarskein_check_take.Tie as tie
-use Rattle.cedarskein.proofs.cedarskein_check_take.Reads as reads
-use Rattle.cedarskein.proofs.cedarskein_check_take.Lts as lts
-use Rattle.check_value.proofs.Check.take.Reads as take-reads
-use Rattle.check_value.proofs.Check.value.Reads as value-reads
 
 -- src/lib.rt:27:5
 take-requires : tie.Need-take-requires

@@ -6,10 +6,6 @@ use Rattle.cedarskein.proofs.Telling.{number-told}
 use borrow.Author.Needs.{needs}
 use Rattle.cedarskein.proofs.cedarskein_post.Statement.{statement}
 use Rattle.cedarskein.proofs.cedarskein_post.Tie as tie
-use Rattle.cedarskein.proofs.cedarskein_post.Reads as reads
-use Rattle.cedarskein.proofs.cedarskein_post.Lts as lts
-use Rattle.bank.proofs.post.Reads as post-reads
-use Rattle.cedarskein.proofs.numbers.of_answer.Reads as of-answer-reads
 
 -- src/lib.rt:67:24
 post-requires : tie.Need-post-requires

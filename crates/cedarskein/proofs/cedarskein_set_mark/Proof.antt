@@ -6,10 +6,6 @@ use Rattle.cedarskein.proofs.Telling.{number-told}
 use borrow.Author.Needs.{needs}
 use Rattle.cedarskein.proofs.cedarskein_set_mark.Statement.{statement}
 use Rattle.cedarskein.proofs.cedarskein_set_mark.Tie as tie
-use Rattle.cedarskein.proofs.cedarskein_set_mark.Reads as reads
-use Rattle.cedarskein.proofs.cedarskein_set_mark.Lts as lts
-use Rattle.bank.proofs.set_mark.Reads as set-mark-reads
-use Rattle.cedarskein.proofs.numbers.of_answer.Reads as of-answer-reads
 
 -- src/lib.rt:75:24
 set-mark-requires : tie.Need-set-mark-requires

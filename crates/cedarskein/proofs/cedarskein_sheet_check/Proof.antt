@@ -5,10 +5,6 @@ use Rattle.sheet.specs.Rules.{sheetNumber}
 use borrow.Author.Needs.{needs}
 use Rattle.cedarskein.proofs.cedarskein_sheet_check.Statement.{statement}
 use Rattle.cedarskein.proofs.cedarskein_sheet_check.Tie as tie
-use Rattle.cedarskein.proofs.cedarskein_sheet_check.Reads as reads
-use Rattle.cedarskein.proofs.cedarskein_sheet_check.Lts as lts
-use Rattle.cedarskein.proofs.numbers.of_sheet.Reads as of-sheet-reads
-use Rattle.sheet.proofs.judged.Reads as judged-reads
 
 -- src/lib.rt:43:23
 judged-requires : tie.Need-judged-requires

@@ -9,8 +9,6 @@ use Rattle.check_value.proofs.Entries.{entries, rules-agree}
 use borrow.Author.Needs.{needs}
 use Rattle.check_value.proofs.eight_shifts.Statement.{statement}
 use Rattle.check_value.proofs.eight_shifts.Tie as tie
-use Rattle.check_value.proofs.eight_shifts.Reads as reads
-use Rattle.check_value.proofs.eight_shifts.Lts as lts
 
 -- src/lib.rt:19:15
 cast-odd : tie.Need-cast-odd

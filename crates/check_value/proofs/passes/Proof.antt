@@ -1,9 +1,8 @@
 -- `check_value::passes` meets its contract: each return answers one test of the definition.
 -- Assumes nothing.
 use native.Mathlib.Omega.{arith}
-use Prim.Native.Nat.{ℕ, _+_, _*_, _-_, _≤_, _<_}
+use Prim.Native.Nat.{ℕ, _+_, _*_, _-_}
 use mathlib.Core.Path.{sym, ap₂}
-use mathlib.Core.Bool.{_&&_}
 use lib.Dec.{eqb}
 use lib.ListN.{length}
 use lib.Seq.{length-take-le}
@@ -13,10 +12,6 @@ use Rattle.check_value.specs.Frame.{passes, longest, shortest}
 use borrow.Author.Needs.{needs}
 use Rattle.check_value.proofs.passes.Statement.{statement}
 use Rattle.check_value.proofs.passes.Tie as tie
-use Rattle.check_value.proofs.passes.Reads as reads
-use Rattle.check_value.proofs.passes.Lts as lts
-use Rattle.check_value.proofs.value_of.Reads as value-of-reads
-use Rattle.words.proofs.byte_at.Reads as byte-at-reads
 
 -- src/lib.rt:68:9
 returns : tie.Need-returns

@@ -1,7 +1,7 @@
 -- `check_value::seal` meets its contract: it stores where both bytes fit, and else nothing.
 -- Assumes nothing.
 use native.Mathlib.Omega.{arith}
-use Prim.Native.Nat.{ℕ, _+_, _/_, _%_, _≤_, _<_}
+use Prim.Native.Nat.{ℕ, _+_, _/_, _%_}
 use mathlib.Core.Path.{sym, ap}
 use lib.ListN.{length, set, length-set}
 use lib.Seq.{length-take-le}
@@ -11,9 +11,6 @@ use Rattle.check_value.specs.Frame.{sealed, checkBytes}
 use borrow.Author.Needs.{needs}
 use Rattle.check_value.proofs.seal.Statement.{statement}
 use Rattle.check_value.proofs.seal.Tie as tie
-use Rattle.check_value.proofs.seal.Reads as reads
-use Rattle.check_value.proofs.seal.Lts as lts
-use Rattle.check_value.proofs.value_of.Reads as value-of-reads
 
 -- src/lib.rt:83:9
 returns : tie.Need-returns

@@ -11,11 +11,6 @@ use Rattle.check_value.specs.Check.{stateAfter, valueOf}
 use Rattle.check_value.proofs.Running.{after-step, after-end}
 use Rattle.check_value.proofs.value_of.Statement.{statement}
 use Rattle.check_value.proofs.value_of.Tie as tie
-use Rattle.check_value.proofs.value_of.Reads as reads
-use Rattle.check_value.proofs.value_of.Lts as lts
-use Rattle.check_value.proofs.Check.start.Reads as start-reads
-use Rattle.check_value.proofs.Check.take.Reads as take-reads
-use Rattle.check_value.proofs.Check.value.Reads as value-reads
 
 abbrev Inv-loop : tie.InvT-loop
 Inv-loop bytes check₀ at₀ check at = (at ≤ length bytes) × (stateAfter (check .state) (drop at bytes) ≡ valueOf bytes)

@@ -1,9 +1,7 @@
 -- `meter::answer` meets its contract: the refusals in their order, then what becomes of the judged frame.
 -- Assumes nothing.
-use native.Mathlib.Omega.{arith}
-use Prim.Native.Nat.{ℕ, _≤_, _<_}
-use mathlib.Core.Path.{_≡_, refl, _∙_, sym, ap, ap₂}
-use mathlib.Core.Bool.{Bool, true, false, cond}
+use mathlib.Core.Path.{_∙_, sym, ap}
+use mathlib.Core.Bool.{Bool, cond}
 use borrow.Author.Tests.{lt-ltb, le-ltb}
 use denote.Ref.{now}
 use lib.ListN.{length}
@@ -17,11 +15,6 @@ use Rattle.meter.proofs.Staging.{judged-fits}
 use borrow.Author.Needs.{needs}
 use Rattle.meter.proofs.answer.Statement.{statement}
 use Rattle.meter.proofs.answer.Tie as tie
-use Rattle.meter.proofs.answer.Reads as reads
-use Rattle.meter.proofs.answer.Lts as lts
-use Rattle.bank.proofs.judged.Reads as judged-reads
-use Rattle.meter.proofs.replies.acted.Reads as acted-reads
-use Rattle.meter.proofs.stages.judged.Reads as stages-judged-reads
 
 -- src/lib.rt:77:11
 judged-requires : tie.Need-judged-requires

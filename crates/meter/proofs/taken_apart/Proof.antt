@@ -1,23 +1,14 @@
 -- `meter::taken_apart` meets its contract: a frame that passes, part by part.
 -- Assumes nothing.
-use native.Mathlib.Omega.{arith}
-use Prim.Native.Nat.{ℕ, _+_, _*_, _/_, _%_, _≤_, _<_}
-use mathlib.Core.Path.{_≡_, refl, _∙_, sym, ap, ap₂}
-use mathlib.Core.Bool.{Bool, true, false, not, cond, _&&_, _||_, or-false}
-use borrow.Author.Tests.{eq-eqb, ne-eqb, le-leb, lt-leb, lt-ltb, le-ltb, not-true, not-false}
+use mathlib.Core.Path.{_∙_, sym}
+use borrow.Author.Tests.{not-true, not-false}
 use denote.Ref.{now}
 use lib.ListN.{length}
-use Rattle.meter.specs.declared.Parts.{Parts}
 use Rattle.meter.specs.declared.Passed.the-variants.{Frame}
 use Rattle.meter.specs.Frame.{passedFrame}
 use borrow.Author.Needs.{needs}
 use Rattle.meter.proofs.taken_apart.Statement.{statement}
 use Rattle.meter.proofs.taken_apart.Tie as tie
-use Rattle.meter.proofs.taken_apart.Reads as reads
-use Rattle.meter.proofs.taken_apart.Lts as lts
-use Rattle.check_value.proofs.passes.Reads as passes-reads
-use Rattle.words.proofs.byte_at.Reads as byte-at-reads
-use Rattle.words.proofs.word_at.Reads as word-at-reads
 
 -- src/lib.rt:59:9
 passes-requires : tie.Need-passes-requires

@@ -5,9 +5,6 @@ use Rattle.range.specs.Range.{inRange}
 use borrow.Author.Needs.{needs}
 use Rattle.range.proofs.in_range.Statement.{statement}
 use Rattle.range.proofs.in_range.Tie as tie
-use Rattle.range.proofs.in_range.Reads as reads
-use Rattle.range.proofs.in_range.Lts as lts
-use Rattle.range.proofs.not_above.Reads as not-above-reads
 
 -- src/lib.rt:29:8
 not-above-requires : tie.Need-not-above-requires

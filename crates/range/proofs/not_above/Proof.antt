@@ -9,9 +9,6 @@ use Rattle.range.specs.Range.{notAbove}
 use borrow.Author.Needs.{needs}
 use Rattle.range.proofs.not_above.Statement.{statement}
 use Rattle.range.proofs.not_above.Tie as tie
-use Rattle.range.proofs.not_above.Reads as reads
-use Rattle.range.proofs.not_above.Lts as lts
-use Rattle.range.proofs.number.Reads as number-reads
 
 -- src/lib.rt:22:5
 number-requires : tie.Need-number-requires

@@ -3,14 +3,12 @@
 use mathlib.Core.Path.{_∙_, sym, ap}
 use lib.IntN.{ℤ, pos, _-ℤ_}
 use mir.Syntax.{w64}
-use mir.Val.{toZ, ofZ, SFits}
+use mir.Val.{toZ, ofZ}
 use mir.ValLaws.{toZ-ofZ}
 use Rattle.range.proofs.Numbers.{number-plain, number-low, number-high, cast-value, less-fits}
 use borrow.Author.Needs.{needs}
 use Rattle.range.proofs.number.Statement.{statement}
 use Rattle.range.proofs.number.Tie as tie
-use Rattle.range.proofs.number.Reads as reads
-use Rattle.range.proofs.number.Lts as lts
 
 -- src/lib.rt:10:16
 cast-result : tie.Need-cast-result

@@ -9,13 +9,6 @@ use lib.Seq.{length-take-le}
 use borrow.Author.Needs.{needs}
 use Rattle.vectors.proofs.compare_frame.Statement.{statement}
 use Rattle.vectors.proofs.compare_frame.Tie as tie
-use Rattle.vectors.proofs.compare_frame.Reads as reads
-use Rattle.vectors.proofs.compare_frame.Lts as lts
-use Rattle.check_value.proofs.passes.Reads as passes-reads
-use Rattle.check_value.proofs.value_of.Reads as value-of-reads
-use Rattle.vectors.proofs.compare.Reads as compare-reads
-use Rattle.vectors.proofs.say.Reads as say-reads
-use Rattle.words.proofs.byte_at.Reads as byte-at-reads
 
 -- src/main.rt:43:13
 slice-aggregate-say : tie.Need-slice-aggregate-say

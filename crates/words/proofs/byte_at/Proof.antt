@@ -4,8 +4,6 @@ use lib.ListN.{List·getD-eq-default}
 use borrow.Author.Needs.{needs}
 use Rattle.words.proofs.byte_at.Statement.{statement}
 use Rattle.words.proofs.byte_at.Tie as tie
-use Rattle.words.proofs.byte_at.Reads as reads
-use Rattle.words.proofs.byte_at.Lts as lts
 
 -- src/lib.rt:10:27
 shared-slice-read-result : tie.Need-shared-slice-read-result

@@ -6,8 +6,6 @@ use lib.Seq.{set-out}
 use borrow.Author.Needs.{needs}
 use Rattle.words.proofs.store_byte.Statement.{statement}
 use Rattle.words.proofs.store_byte.Tie as tie
-use Rattle.words.proofs.store_byte.Reads as reads
-use Rattle.words.proofs.store_byte.Lts as lts
 
 -- src/lib.rt:34:9
 slice-write-bytes : tie.Need-slice-write-bytes

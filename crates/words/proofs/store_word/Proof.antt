@@ -9,8 +9,6 @@ use Rattle.words.specs.Words.{withWord}
 use borrow.Author.Needs.{needs}
 use Rattle.words.proofs.store_word.Statement.{statement}
 use Rattle.words.proofs.store_word.Tie as tie
-use Rattle.words.proofs.store_word.Reads as reads
-use Rattle.words.proofs.store_word.Lts as lts
 
 -- src/lib.rt:43:9
 returns : tie.Need-returns

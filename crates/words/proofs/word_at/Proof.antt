@@ -2,14 +2,12 @@
 -- Assumes nothing.
 use native.Mathlib.Omega.{arith}
 use Prim.Native.Nat.{_+_}
-use lib.ListN.{length, getD, List·getD-eq-default}
+use lib.ListN.{List·getD-eq-default}
 use denote.Ref.{now}
 use Rattle.words.specs.Words.{wordAt}
 use borrow.Author.Needs.{needs}
 use Rattle.words.proofs.word_at.Statement.{statement}
 use Rattle.words.proofs.word_at.Tie as tie
-use Rattle.words.proofs.word_at.Reads as reads
-use Rattle.words.proofs.word_at.Lts as lts
 
 -- src/lib.rt:18:9
 returns : tie.Need-returns

@@ -2,7 +2,7 @@
 -- Assumes nothing.
 use Prim.Native.Nat.{ℕ, _+_, _*_}
 use mathlib.Core.Path.{_∙_, ap}
-use mathlib.Core.List.{List, map}
+use mathlib.Core.List.{map}
 use denote.Ref.{now}
 use Rattle.words.specs.Words.{withWord}
 use Rattle.sheet.specs.Rules.{upFrom}
@@ -12,14 +12,6 @@ use Rattle.bank.proofs.Making.{fresh-made}
 use borrow.Author.Needs.{needs}
 use Rattle.bank.proofs.fresh_words.store_fresh.Statement.{statement}
 use Rattle.bank.proofs.fresh_words.store_fresh.Tie as tie
-use Rattle.bank.proofs.fresh_words.store_fresh.Reads as reads
-use Rattle.bank.proofs.fresh_words.store_fresh.Lts as lts
-use Rattle.bank.proofs.fresh_words.store_lows.Reads as store-lows-reads
-use Rattle.bank.proofs.fresh_words.zero_words.Reads as zero-words-reads
-use Rattle.sheet.proofs.address_place.Reads as address-place-reads
-use Rattle.sheet.proofs.bank_words.Reads as bank-words-reads
-use Rattle.sheet.proofs.rate_place.Reads as rate-place-reads
-use Rattle.words.proofs.store_word.Reads as store-word-reads
 
 -- src/fresh_words.rt:51:22
 bank-words-requires : tie.Need-bank-words-requires

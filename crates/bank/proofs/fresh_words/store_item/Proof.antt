@@ -1,10 +1,9 @@
 -- `bank::fresh_words::store_item` meets its contract: a word's store, or for a pair two.
 -- Assumes nothing.
-use Prim.Native.Nat.{ℕ, _+_, _*_, _/_, _%_}
+use Prim.Native.Nat.{ℕ, _%_}
 use mathlib.Core.List.{List}
-use mathlib.Core.Path.{_∙_, ap, ap₂}
+use mathlib.Core.Path.{_∙_, ap₂}
 use borrow.Author.Tests.{eq-eqb, ne-eqb}
-use denote.Ref.{now}
 use Rattle.words.specs.Words.{withWord}
 use Rattle.range.specs.Range.{unsignedPair}
 use Rattle.bank.specs.Stores.{stored}
@@ -12,9 +11,6 @@ use Rattle.bank.proofs.Stores.{next-place}
 use borrow.Author.Needs.{needs}
 use Rattle.bank.proofs.fresh_words.store_item.Statement.{statement}
 use Rattle.bank.proofs.fresh_words.store_item.Tie as tie
-use Rattle.bank.proofs.fresh_words.store_item.Reads as reads
-use Rattle.bank.proofs.fresh_words.store_item.Lts as lts
-use Rattle.words.proofs.store_word.Reads as store-word-reads
 
 -- src/fresh_words.rt:25:19
 cast-at : tie.Need-cast-at

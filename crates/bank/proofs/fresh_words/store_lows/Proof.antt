@@ -4,23 +4,18 @@
 use borrow.Author.Needs.{needs}
 use native.Mathlib.Omega.{arith}
 use Prim.Native.Nat.{ℕ, _+_, _-_, _≤_, _<_}
-use mathlib.Core.Path.{_≡_, refl, _∙_, sym, ap, subst}
+use mathlib.Core.Path.{_≡_, refl, _∙_, sym, ap}
 use mathlib.Core.List.{List, _∷_}
 use denote.Ref.{now}
 use lib.ListN.{length}
 use Rattle.sheet.specs.declared.Item.{Item}
 use Rattle.sheet.specs.Rows.{itemCount, itemAt, rows, items}
 use Rattle.sheet.proofs.Rows.{rows-on, rows-end, rows-all, items-rows}
-use Rattle.bank.specs.Stores.{Store, stored}
+use Rattle.bank.specs.Stores.{stored}
 use Rattle.bank.specs.Bank.{itemStores, lowStores}
 use Rattle.bank.proofs.Stores.{stored-append, stored-length}
 use Rattle.bank.proofs.fresh_words.store_lows.Statement.{statement}
 use Rattle.bank.proofs.fresh_words.store_lows.Tie as tie
-use Rattle.bank.proofs.fresh_words.store_lows.Reads as reads
-use Rattle.bank.proofs.fresh_words.store_lows.Lts as lts
-use Rattle.bank.proofs.fresh_words.store_item.Reads as store-item-reads
-use Rattle.sheet.proofs.item_at.Reads as item-at-reads
-use Rattle.sheet.proofs.item_count.Reads as item-count-reads
 
 abbrev Inv-loop : tie.InvT-loop
 Inv-loop sheet bank₀ count k₀ bank k =

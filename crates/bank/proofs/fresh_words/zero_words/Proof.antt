@@ -3,21 +3,18 @@
 -- Assumes nothing.
 use borrow.Author.Needs.{needs}
 use native.Mathlib.Omega.{arith}
-use Prim.Native.Nat.{ℕ, _+_, _*_, _-_, _≤_}
-use mathlib.Core.Path.{_≡_, refl, _∙_, sym, ap}
-use mathlib.Core.List.{List, map}
+use Prim.Native.Nat.{_*_, _-_, _≤_}
+use mathlib.Core.Path.{_≡_, refl, _∙_, ap}
+use mathlib.Core.List.{map}
 use denote.Ref.{now}
 use lib.ListN.{length}
 use Rattle.words.proofs.Stores.{word-length}
 use Rattle.sheet.specs.Rules.{upFrom}
-use Rattle.bank.specs.Stores.{Store, stored}
+use Rattle.bank.specs.Stores.{stored}
 use Rattle.bank.specs.Bank.{zeroAt}
 use Rattle.bank.proofs.Walks.{storesFrom, stores-start, stores-go-on, stores-end}
 use Rattle.bank.proofs.fresh_words.zero_words.Statement.{statement}
 use Rattle.bank.proofs.fresh_words.zero_words.Tie as tie
-use Rattle.bank.proofs.fresh_words.zero_words.Reads as reads
-use Rattle.bank.proofs.fresh_words.zero_words.Lts as lts
-use Rattle.words.proofs.store_word.Reads as store-word-reads
 
 abbrev Inv-loop : tie.InvT-loop
 Inv-loop bank₀ count place₀ bank place = (place ≤ count) × (length bank ≡ length bank₀) × (stored bank (storesFrom zeroAt place count) ≡ stored bank₀ (map zeroAt (upFrom 0 count)))

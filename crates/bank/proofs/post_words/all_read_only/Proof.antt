@@ -2,24 +2,19 @@
 -- Assumes nothing.
 use borrow.Author.Needs.{needs}
 use native.Mathlib.Omega.{arith}
-use Prim.Native.Nat.{ℕ, _+_, _-_, _≤_, _<_}
-use mathlib.Core.Path.{_≡_, refl, _∙_, sym, ap}
-use mathlib.Core.Bool.{Bool, true}
-use mathlib.Core.List.{List}
+use Prim.Native.Nat.{ℕ, _+_, _-_, _≤_}
+use mathlib.Core.Path.{_≡_, _∙_, sym, ap}
+use mathlib.Core.Bool.{Bool}
 use borrow.Author.Tests.{not-true, not-false}
 use denote.Ref.{now}
 use Rattle.sheet.specs.Rows.{areas}
-use Rattle.sheet.specs.Rules.{each, upFrom}
+use Rattle.sheet.specs.Rules.{upFrom}
 use Rattle.sheet.specs.Lookup.{liesIn}
 use Rattle.bank.specs.Bank.{isReadOnly, allReadOnly}
 use Rattle.bank.proofs.Walks.{up-on, up-end, up-all, each-goes-on, each-stops, each-ends}
 use Rattle.bank.proofs.Reach.{read-only-below}
 use Rattle.bank.proofs.post_words.all_read_only.Statement.{statement}
 use Rattle.bank.proofs.post_words.all_read_only.Tie as tie
-use Rattle.bank.proofs.post_words.all_read_only.Reads as reads
-use Rattle.bank.proofs.post_words.all_read_only.Lts as lts
-use Rattle.bank.proofs.post_words.is_read_only.Reads as is-read-only-reads
-use Rattle.sheet.proofs.lies_at.Reads as lies-at-reads
 
 abbrev Inv-loop : tie.InvT-loop
 Inv-loop sheet address count next₀ k₀ next k = (k ≤ count) × (allReadOnly sheet (upFrom next (count - k)) ≡ allReadOnly sheet (upFrom address count))

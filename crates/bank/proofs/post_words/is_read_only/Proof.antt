@@ -5,8 +5,6 @@ use Rattle.bank.specs.Bank.{isReadOnly}
 use borrow.Author.Needs.{needs}
 use Rattle.bank.proofs.post_words.is_read_only.Statement.{statement}
 use Rattle.bank.proofs.post_words.is_read_only.Tie as tie
-use Rattle.bank.proofs.post_words.is_read_only.Reads as reads
-use Rattle.bank.proofs.post_words.is_read_only.Lts as lts
 
 -- src/post_words.rt:17:30
 enum-known-lies : tie.Need-enum-known-lies

@@ -3,28 +3,19 @@
 -- Assumes nothing.
 use borrow.Author.Needs.{needs}
 use native.Mathlib.Omega.{arith}
-use Prim.Native.Nat.{ℕ, _+_, _*_, _-_, _/_, _≤_, _<_}
-use mathlib.Core.Path.{_≡_, refl, _∙_, sym, ap, ap₂}
-use mathlib.Core.List.{List, map}
+use Prim.Native.Nat.{ℕ, _+_, _*_, _-_, _/_, _≤_}
+use mathlib.Core.Path.{_≡_, refl, _∙_, ap, ap₂}
 use denote.Ref.{now}
 use lib.ListN.{length}
-use Rattle.words.specs.Words.{wordAt, withWord}
+use Rattle.words.specs.Words.{withWord}
 use Rattle.words.proofs.Stores.{word-length}
-use Rattle.sheet.specs.declared.Lies.{Lies}
 use Rattle.sheet.specs.Rows.{areas}
-use Rattle.sheet.specs.Rules.{upFrom}
 use Rattle.sheet.specs.Lookup.{liesIn}
-use Rattle.bank.specs.Stores.{Store, stored}
+use Rattle.bank.specs.Stores.{stored}
 use Rattle.bank.specs.Bank.{placeIn, postStore, postStores}
 use Rattle.bank.proofs.Walks.{storesFrom, stores-start, stores-go-on, stores-end}
 use Rattle.bank.proofs.post_words.store_posted.Statement.{statement}
 use Rattle.bank.proofs.post_words.store_posted.Tie as tie
-use Rattle.bank.proofs.post_words.store_posted.Reads as reads
-use Rattle.bank.proofs.post_words.store_posted.Lts as lts
-use Rattle.bank.proofs.post_words.place_in.Reads as place-in-reads
-use Rattle.sheet.proofs.lies_at.Reads as lies-at-reads
-use Rattle.words.proofs.store_word.Reads as store-word-reads
-use Rattle.words.proofs.word_at.Reads as word-at-reads
 
 abbrev Inv-loop : tie.InvT-loop
 Inv-loop sheet bank₀ address bytes count next₀ k₀ bank next k =

@@ -1,18 +1,12 @@
 -- `cases::fields::bytes_at` is safe and ends.
 -- Assumes nothing.
 use native.Mathlib.Omega.{arith}
-use Prim.Native.Nat.{ℕ, _+_, _*_, _-_, _≤_, _<_}
-use mathlib.Core.Path.{_≡_, refl, sym, _∙_}
-use denote.Ref.{now}
+use Prim.Native.Nat.{_-_, _≤_}
+use mathlib.Core.Path.{_≡_, refl}
 use lib.ListN.{length, length-set}
-use lib.Seq.{length-take-le}
 use borrow.Author.Needs.{needs}
 use Rattle.cases.proofs.fields.bytes_at.Statement.{statement}
 use Rattle.cases.proofs.fields.bytes_at.Tie as tie
-use Rattle.cases.proofs.fields.bytes_at.Reads as reads
-use Rattle.cases.proofs.fields.bytes_at.Lts as lts
-use Rattle.cases.proofs.fields.after.Reads as after-reads
-use Rattle.cases.proofs.fields.byte_of.Reads as byte-of-reads
 
 abbrev Inv-loop : tie.InvT-loop
 Inv-loop line from into₀ at₀ count₀ into at count = (count ≤ length into) × (length into ≡ length into₀)

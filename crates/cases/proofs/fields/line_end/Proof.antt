@@ -1,17 +1,11 @@
 -- `cases::fields::line_end` is safe and ends.
 -- Assumes nothing.
 use native.Mathlib.Omega.{arith}
-use Prim.Native.Nat.{ℕ, _+_, _*_, _-_, _≤_, _<_}
-use mathlib.Core.Path.{_≡_, refl, sym, _∙_}
-use denote.Ref.{now}
-use lib.ListN.{length, length-set}
-use lib.Seq.{length-take-le}
+use Prim.Native.Nat.{_-_}
+use lib.ListN.{length}
 use borrow.Author.Needs.{needs}
 use Rattle.cases.proofs.fields.line_end.Statement.{statement}
 use Rattle.cases.proofs.fields.line_end.Tie as tie
-use Rattle.cases.proofs.fields.line_end.Reads as reads
-use Rattle.cases.proofs.fields.line_end.Lts as lts
-use Rattle.words.proofs.byte_at.Reads as byte-at-reads
 
 abbrev Inv-loop : tie.InvT-loop
 Inv-loop text from at₀ at = Unit {0}

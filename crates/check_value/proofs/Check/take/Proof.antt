@@ -1,16 +1,13 @@
 -- `check_value::Check::take` meets its contract: eight shifts bring the upper byte down as it is, and shift the lower byte out.
 -- Assumes nothing.
 use mathlib.Core.Path.{_∙_, sym, ap}
-use Prim.Native.Nat.{ℕ, _/_, _%_}
+use Prim.Native.Nat.{ℕ, _/_}
 use lib.Bits.{bitXor}
 use Rattle.check_value.specs.Check.{bitsOfByte, taken, checkAt}
 use Rattle.check_value.proofs.Shift.{times-apart}
 use borrow.Author.Needs.{needs}
 use Rattle.check_value.proofs.Check.take.Statement.{statement}
 use Rattle.check_value.proofs.Check.take.Tie as tie
-use Rattle.check_value.proofs.Check.take.Reads as reads
-use Rattle.check_value.proofs.Check.take.Lts as lts
-use Rattle.check_value.proofs.eight_shifts.Reads as eight-shifts-reads
 
 -- src/lib.rt:35:19
 cast-low : tie.Need-cast-low

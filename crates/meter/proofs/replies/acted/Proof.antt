@@ -1,15 +1,12 @@
 -- `meter::replies::acted` meets its contract, case by case: what was stored, and what was sent.
 -- Assumes nothing.
-use native.Mathlib.Omega.{arith}
-use Prim.Native.Nat.{ℕ, _+_, _*_, _-_, _≤_}
-use mathlib.Core.Path.{_≡_, refl, _∙_, sym, ap, ap₂}
+use Prim.Native.Nat.{ℕ, _*_, _-_}
+use mathlib.Core.Path.{refl, _∙_, sym, ap}
 use mathlib.Core.List.{List}
-use mathlib.Core.Bool.{Bool, true}
 use borrow.Author.Tests.{leb-true}
 use denote.Ref.{now}
 use Rattle.words.specs.Words.{wordAt, withWord}
 use Rattle.bank.specs.Stores.{stored}
-use Rattle.meter.specs.declared.Judged.{Judged}
 use Rattle.meter.specs.declared.Judged.the-variants.{FailsCheck, OtherStation, FunctionNotAllowed, WrongLength, WrongCount, WrongAddress, WrongValue, BadItem, GoodRead, GoodClear, GoodWrite}
 use Rattle.meter.specs.Steps.{mostRead}
 use Rattle.meter.specs.Reply.{replyTo, storesOf, withCheck}
@@ -19,17 +16,6 @@ use Rattle.meter.proofs.Acting.{acted-sent, write-echo, run-stores, man
 use borrow.Author.Needs.{needs}
 use Rattle.meter.proofs.replies.acted.Statement.{statement}
 use Rattle.meter.proofs.replies.acted.Tie as tie
-use Rattle.meter.proofs.replies.acted.Reads as reads
-use Rattle.meter.proofs.replies.acted.Lts as lts
-use Rattle.meter.proofs.replies.count_to.Reads as count-to-reads
-use Rattle.meter.proofs.replies.reply_echo.Reads as reply-echo-reads
-use Rattle.meter.proofs.replies.reply_error.Reads as reply-error-reads
-use Rattle.meter.proofs.replies.reply_read.Reads as reply-read-reads
-use Rattle.meter.proofs.values.store_run.Reads as store-run-reads
-use Rattle.sheet.proofs.bank_words.Reads as bank-words-reads
-use Rattle.sheet.proofs.rate_place.Reads as rate-place-reads
-use Rattle.words.proofs.store_word.Reads as store-word-reads
-use Rattle.words.proofs.word_at.Reads as word-at-reads
 
 -- src/replies.rt:98:42
 rate-place-requires : tie.Need-rate-place-requires

@@ -1,11 +1,9 @@
 -- `meter::replies::reply_echo` meets its contract: two bytes, two words and their check, laid one after another.
 -- Assumes nothing.
 use native.Mathlib.Omega.{arith}
-use Prim.Native.Nat.{ℕ}
-use mathlib.Core.Path.{_≡_, refl, _∙_, sym, ap, ap₂}
-use mathlib.Core.List.{List, [], _∷_, _++_}
+use mathlib.Core.Path.{refl, _∙_, ap}
+use mathlib.Core.List.{[], _∷_}
 use denote.Ref.{now}
-use lib.ListN.{length}
 use Rattle.words.specs.Words.{withByte, withWord}
 use Rattle.meter.specs.declared.Answered.the-variants.{Reply}
 use Rattle.meter.specs.Frame.{station, function, start, second}
@@ -15,13 +13,6 @@ use Rattle.meter.proofs.Laying.{then-byte, then-word, then-sealed}
 use borrow.Author.Needs.{needs}
 use Rattle.meter.proofs.replies.reply_echo.Statement.{statement}
 use Rattle.meter.proofs.replies.reply_echo.Tie as tie
-use Rattle.meter.proofs.replies.reply_echo.Reads as reads
-use Rattle.meter.proofs.replies.reply_echo.Lts as lts
-use Rattle.check_value.proofs.seal.Reads as seal-reads
-use Rattle.words.proofs.byte_at.Reads as byte-at-reads
-use Rattle.words.proofs.store_byte.Reads as store-byte-reads
-use Rattle.words.proofs.store_word.Reads as store-word-reads
-use Rattle.words.proofs.word_at.Reads as word-at-reads
 
 -- src/replies.rt:42:34
 byte-at-requires : tie.Need-byte-at-requires

@@ -1,11 +1,9 @@
 -- `meter::replies::reply_error` meets its contract: three bytes and their check, laid one after another.
 -- Assumes nothing.
 use native.Mathlib.Omega.{arith}
-use Prim.Native.Nat.{ℕ}
-use mathlib.Core.Path.{_≡_, refl, _∙_, sym, ap, ap₂}
-use mathlib.Core.List.{List, [], _∷_}
+use mathlib.Core.Path.{refl, _∙_, ap}
+use mathlib.Core.List.{[], _∷_}
 use denote.Ref.{now}
-use lib.ListN.{length}
 use Rattle.words.specs.Words.{withByte}
 use Rattle.meter.specs.declared.Answered.the-variants.{Reply}
 use Rattle.meter.specs.Frame.{station, function}
@@ -15,12 +13,6 @@ use Rattle.meter.proofs.Laying.{then-byte, then-sealed}
 use borrow.Author.Needs.{needs}
 use Rattle.meter.proofs.replies.reply_error.Statement.{statement}
 use Rattle.meter.proofs.replies.reply_error.Tie as tie
-use Rattle.meter.proofs.replies.reply_error.Reads as reads
-use Rattle.meter.proofs.replies.reply_error.Lts as lts
-use Rattle.check_value.proofs.seal.Reads as seal-reads
-use Rattle.meter.proofs.replies.top_bit_set.Reads as top-bit-set-reads
-use Rattle.words.proofs.byte_at.Reads as byte-at-reads
-use Rattle.words.proofs.store_byte.Reads as store-byte-reads
 
 -- src/replies.rt:30:34
 byte-at-requires : tie.Need-byte-at-requires

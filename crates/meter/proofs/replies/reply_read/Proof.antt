@@ -2,13 +2,13 @@
 -- Assumes nothing.
 use borrow.Author.Needs.{needs}
 use native.Mathlib.Omega.{arith}
-use Prim.Native.Nat.{ℕ, _+_, _*_, _-_, _≤_, _<_}
+use Prim.Native.Nat.{ℕ, _+_, _*_, _-_, _≤_}
 use mathlib.Core.Path.{_≡_, refl, _∙_, sym, ap, ap₂}
 use mathlib.Core.List.{List, [], _∷_, _++_, append-assoc, append-nil}
 use denote.Ref.{now}
-use lib.ListN.{length, take, length-append, length-set}
-use lib.Seq.{length-take-le, take-at}
-use Rattle.words.specs.Words.{withByte, withWord, wordAt}
+use lib.ListN.{length, take, length-append}
+use lib.Seq.{length-take-le}
+use Rattle.words.specs.Words.{withByte, withWord}
 use Rattle.words.proofs.Stores.{word-length}
 use Rattle.sheet.specs.Rules.{upFrom}
 use Rattle.bank.specs.Stores.{wordOf}
@@ -21,13 +21,6 @@ use Rattle.meter.proofs.Laying.{then-byte, then-word, then-sealed, laid
 use Rattle.meter.proofs.Reading.{run-more, run-length, check-length, read-length}
 use Rattle.meter.proofs.replies.reply_read.Statement.{statement}
 use Rattle.meter.proofs.replies.reply_read.Tie as tie
-use Rattle.meter.proofs.replies.reply_read.Reads as reads
-use Rattle.meter.proofs.replies.reply_read.Lts as lts
-use Rattle.check_value.proofs.seal.Reads as seal-reads
-use Rattle.words.proofs.byte_at.Reads as byte-at-reads
-use Rattle.words.proofs.store_byte.Reads as store-byte-reads
-use Rattle.words.proofs.store_word.Reads as store-word-reads
-use Rattle.words.proofs.word_at.Reads as word-at-reads
 
 abbrev Inv-loop : tie.InvT-loop
 Inv-loop bank frame buffer₀ first many rate k₀ buffer k =

@@ -4,8 +4,6 @@ use borrow.Author.Tests.{lt-ltb, le-ltb}
 use borrow.Author.Needs.{needs}
 use Rattle.meter.proofs.replies.top_bit_set.Statement.{statement}
 use Rattle.meter.proofs.replies.top_bit_set.Tie as tie
-use Rattle.meter.proofs.replies.top_bit_set.Reads as reads
-use Rattle.meter.proofs.replies.top_bit_set.Lts as lts
 
 -- src/replies.rt:19:9
 add-result : tie.Need-add-result

@@ -1,20 +1,13 @@
 -- `meter::stages::function_allowed` meets its contract: function by function.
 -- Assumes nothing.
-use native.Mathlib.Omega.{arith}
-use Prim.Native.Nat.{ℕ, _+_, _*_, _/_, _%_, _≤_, _<_}
-use mathlib.Core.Path.{_≡_, refl, _∙_, sym, ap, ap₂}
-use mathlib.Core.Bool.{Bool, true, false, not, cond, _&&_, _||_, or-false}
-use borrow.Author.Tests.{eq-eqb, ne-eqb, le-leb, lt-leb, lt-ltb, le-ltb, not-true, not-false}
+use Prim.Native.Nat.{ℕ, _/_, _%_}
+use mathlib.Core.Path.{_∙_, sym, ap}
 use denote.Ref.{now}
 use lib.Dec.{eqb}
-use Rattle.sheet.specs.Rules.{allowed, bitOf03, bitOf05, bitOf06, bitOf10}
 use Rattle.meter.proofs.Order.{code-read, code-clear, code-one, code-many, code-none}
 use borrow.Author.Needs.{needs}
 use Rattle.meter.proofs.stages.function_allowed.Statement.{statement}
 use Rattle.meter.proofs.stages.function_allowed.Tie as tie
-use Rattle.meter.proofs.stages.function_allowed.Reads as reads
-use Rattle.meter.proofs.stages.function_allowed.Lts as lts
-use Rattle.sheet.proofs.functions.Reads as functions-reads
 
 -- src/stages.rt:20:9
 functions-requires : tie.Need-functions-requires

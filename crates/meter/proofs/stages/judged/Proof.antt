@@ -1,30 +1,19 @@
 -- `meter::stages::judged` meets its contract: steps 1 to 3.
 -- Assumes nothing.
-use native.Mathlib.Omega.{arith}
-use Prim.Native.Nat.{ℕ, _+_, _*_, _/_, _%_, _≤_, _<_}
-use mathlib.Core.Path.{_≡_, refl, _∙_, sym, ap, ap₂}
-use mathlib.Core.Bool.{Bool, true, false, not, cond, _&&_, _||_, or-false}
-use borrow.Author.Tests.{eq-eqb, ne-eqb, le-leb, lt-leb, lt-ltb, le-ltb, not-true, not-false}
+use Prim.Native.Nat.{ℕ, _*_}
+use mathlib.Core.Path.{_∙_, sym, ap}
+use mathlib.Core.Bool.{not}
+use borrow.Author.Tests.{eq-eqb, ne-eqb, not-true, not-false}
 use denote.Ref.{now}
 use Rattle.words.specs.Words.{wordAt}
-use Rattle.check_value.specs.Frame.{passes}
 use Rattle.meter.specs.declared.Parts.{Parts}
-use Rattle.meter.specs.declared.Passed.{Passed}
-use Rattle.meter.specs.declared.Passed.the-variants.{Frame, Fails}
-use Rattle.meter.specs.Frame.{station, function, partsOf, codeAllowed, functionAllowed}
+use Rattle.meter.specs.Frame.{station, function, codeAllowed}
 use Rattle.bank.specs.Bank.{stationOf}
 use Rattle.meter.proofs.Passing.{passed-parts, passed-true, passed-false}
 use Rattle.meter.proofs.Staging.{stops-check, stops-station, stops-function, passes-function}
 use borrow.Author.Needs.{needs}
 use Rattle.meter.proofs.stages.judged.Statement.{statement}
 use Rattle.meter.proofs.stages.judged.Tie as tie
-use Rattle.meter.proofs.stages.judged.Reads as reads
-use Rattle.meter.proofs.stages.judged.Lts as lts
-use Rattle.meter.proofs.stages.function_allowed.Reads as function-allowed-reads
-use Rattle.meter.proofs.stages.judged_length.Reads as judged-length-reads
-use Rattle.meter.proofs.taken_apart.Reads as taken-apart-reads
-use Rattle.sheet.proofs.address_place.Reads as address-place-reads
-use Rattle.words.proofs.word_at.Reads as word-at-reads
 
 -- src/stages.rt:41:32
 taken-apart-requires : tie.Need-taken-apart-requires

@@ -1,23 +1,17 @@
 -- `meter::stages::judged_clear` meets its contract: steps 6 and 7 for a clear.
 -- Assumes nothing.
 use borrow.Author.Needs.{needs}
-use native.Mathlib.Omega.{arith}
-use Prim.Native.Nat.{ℕ, _+_, _*_, _≤_, _<_}
-use mathlib.Core.Path.{_≡_, refl, _∙_, sym, ap, ap₂}
-use mathlib.Core.Bool.{Bool, true, false, not, cond, _&&_, _||_}
-use borrow.Author.Tests.{eq-eqb, ne-eqb, le-leb, lt-leb, lt-ltb, le-ltb, not-true, not-false}
+use mathlib.Core.Path.{_∙_, sym, ap}
+use mathlib.Core.Bool.{not}
+use borrow.Author.Tests.{eq-eqb, ne-eqb}
 use denote.Ref.{now}
 use Rattle.sheet.specs.Rows.{clearAddress}
 use Rattle.meter.specs.declared.Parts.{Parts}
-use Rattle.meter.specs.Frame.{function, start, second, byteCount, partsOf}
-use Rattle.meter.specs.Steps.{wrongLength, wrongCount, wrongAddress, wrongValue, badWrite, mostRead}
+use Rattle.meter.specs.Frame.{function, start, second}
 use Rattle.meter.proofs.Staging.{clear-address, clear-value, stops-address, stops-value, good-clear}
 use borrow.Author.Needs.{needs}
 use Rattle.meter.proofs.stages.judged_clear.Statement.{statement}
 use Rattle.meter.proofs.stages.judged_clear.Tie as tie
-use Rattle.meter.proofs.stages.judged_clear.Reads as reads
-use Rattle.meter.proofs.stages.judged_clear.Lts as lts
-use Rattle.sheet.proofs.clear_address.Reads as clear-address-reads
 
 -- src/stages.rt:124:23
 clear-address-requires : tie.Need-clear-address-requires

@@ -1,25 +1,19 @@
 -- `meter::stages::judged_count` meets its contract: step 5, by the function.
 -- Assumes nothing.
 use borrow.Author.Needs.{needs}
-use native.Mathlib.Omega.{arith}
-use Prim.Native.Nat.{ℕ, _+_, _*_, _/_, _%_, _≤_, _<_}
-use mathlib.Core.Path.{_≡_, refl, _∙_, sym, ap, ap₂}
-use mathlib.Core.Bool.{Bool, true, false, not, cond, _&&_, _||_, or-false}
-use borrow.Author.Tests.{eq-eqb, ne-eqb, le-leb, lt-leb, lt-ltb, le-ltb, not-true, not-false}
+use Prim.Native.Nat.{_*_}
+use mathlib.Core.Path.{_∙_, sym, ap, ap₂}
+use mathlib.Core.Bool.{Bool, not, _||_, or-false}
+use borrow.Author.Tests.{eq-eqb, ne-eqb}
 use denote.Ref.{now}
 use lib.Dec.{eqb}
 use Rattle.meter.specs.declared.Parts.{Parts}
-use Rattle.meter.specs.Frame.{reads, clears, writesOne, writesMany, function, second, byteCount, isWrite}
+use Rattle.meter.specs.Frame.{reads, clears, writesOne, writesMany, function, second, byteCount}
 use Rattle.meter.proofs.Order.{asks-for, count-is, write-is, last-function}
 use Rattle.meter.proofs.Staging.{stops-count, passes-count}
 use borrow.Author.Needs.{needs}
 use Rattle.meter.proofs.stages.judged_count.Statement.{statement}
 use Rattle.meter.proofs.stages.judged_count.Tie as tie
-use Rattle.meter.proofs.stages.judged_count.Reads as reads
-use Rattle.meter.proofs.stages.judged_count.Lts as lts
-use Rattle.meter.proofs.stages.judged_clear.Reads as judged-clear-reads
-use Rattle.meter.proofs.stages.judged_read.Reads as judged-read-reads
-use Rattle.meter.proofs.stages.judged_write.Reads as judged-write-reads
 
 -- src/stages.rt:81:13
 returns : tie.Need-returns

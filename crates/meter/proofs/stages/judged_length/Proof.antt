@@ -2,26 +2,20 @@
 -- Assumes nothing.
 use borrow.Author.Needs.{needs}
 use native.Mathlib.Omega.{arith}
-use Prim.Native.Nat.{ℕ, _+_, _*_, _≤_, _<_}
-use mathlib.Core.Path.{_≡_, refl, _∙_, sym, ap, ap₂}
-use mathlib.Core.Bool.{Bool, true, false, not, cond, _&&_, _||_}
-use borrow.Author.Tests.{eq-eqb, ne-eqb, le-leb, lt-leb, lt-ltb, le-ltb, not-true, not-false}
+use Prim.Native.Nat.{_+_}
+use mathlib.Core.Path.{_∙_, sym, ap, ap₂}
+use mathlib.Core.Bool.{Bool, not, _||_}
+use borrow.Author.Tests.{eq-eqb, ne-eqb, lt-ltb, le-ltb}
 use denote.Ref.{now}
-use Rattle.sheet.specs.Rows.{clearAddress}
 use Rattle.meter.specs.declared.Parts.{Parts}
-use Rattle.meter.specs.Frame.{function, start, second, byteCount, partsOf}
-use Rattle.meter.specs.Steps.{wrongLength, wrongCount, wrongAddress, wrongValue, badWrite, mostRead}
-use lib.Dec.{ltb, eqb}
+use Rattle.meter.specs.Frame.{function, byteCount}
+use lib.Dec.{eqb}
 use lib.ListN.{length}
-use Rattle.meter.specs.Frame.{writesMany}
 use Rattle.meter.proofs.Order.{other-length, many-length}
 use Rattle.meter.proofs.Staging.{stops-length, passes-length}
 use borrow.Author.Needs.{needs}
 use Rattle.meter.proofs.stages.judged_length.Statement.{statement}
 use Rattle.meter.proofs.stages.judged_length.Tie as tie
-use Rattle.meter.proofs.stages.judged_length.Reads as reads
-use Rattle.meter.proofs.stages.judged_length.Lts as lts
-use Rattle.meter.proofs.stages.judged_count.Reads as judged-count-reads
 
 -- src/stages.rt:61:13
 returns : tie.Need-returns

@@ -2,10 +2,10 @@
 -- Assumes nothing.
 use borrow.Author.Needs.{needs}
 use native.Mathlib.Omega.{arith}
-use Prim.Native.Nat.{ℕ, _+_, _*_, _/_, _%_, _≤_, _<_}
-use mathlib.Core.Path.{_≡_, refl, _∙_, sym, ap, ap₂}
-use mathlib.Core.Bool.{Bool, true, false, not, cond, _&&_, _||_}
-use borrow.Author.Tests.{eq-eqb, ne-eqb, le-leb, lt-leb, lt-ltb, le-ltb, not-true, not-false}
+use Prim.Native.Nat.{ℕ}
+use mathlib.Core.Path.{_∙_, sym, ap, ap₂}
+use mathlib.Core.Bool.{Bool, not, _||_}
+use borrow.Author.Tests.{lt-ltb, le-ltb, not-true, not-false}
 use denote.Ref.{now}
 use Rattle.meter.specs.declared.Parts.{Parts}
 use Rattle.sheet.specs.Rows.{areas}
@@ -16,17 +16,12 @@ use Rattle.meter.specs.declared.Judged.the-variants.{GoodRead}
 use Rattle.meter.specs.declared.runs.Purpose.the-variants.{Read}
 use Rattle.meter.specs.Frame.{reads, function, start, second, run}
 use Rattle.meter.specs.Runs.{allOpen}
-use Rattle.meter.specs.Write.{firstPlace}
 use Rattle.meter.specs.Steps.{mostRead}
 use Rattle.meter.proofs.Order.{asks-for, many-is}
 use Rattle.meter.proofs.Staging.{read-address, stops-address, good-read}
 use borrow.Author.Needs.{needs}
 use Rattle.meter.proofs.stages.judged_read.Statement.{statement}
 use Rattle.meter.proofs.stages.judged_read.Tie as tie
-use Rattle.meter.proofs.stages.judged_read.Reads as reads
-use Rattle.meter.proofs.stages.judged_read.Lts as lts
-use Rattle.meter.proofs.runs.all_open.Reads as all-open-reads
-use Rattle.meter.proofs.runs.place_of.Reads as place-of-reads
 
 -- src/stages.rt:107:9
 returns : tie.Need-returns

@@ -3,20 +3,19 @@ use Rattle.meter.proofs.Placing.{place-small}
 -- Assumes nothing.
 use borrow.Author.Needs.{needs}
 use native.Mathlib.Omega.{arith}
-use Prim.Native.Nat.{ℕ, _+_, _*_, _/_, _%_, _≤_, _<_}
-use mathlib.Core.Path.{_≡_, refl, _∙_, sym, ap, ap₂}
-use mathlib.Core.Bool.{Bool, true, false, not, cond, _&&_, _||_}
-use borrow.Author.Tests.{eq-eqb, ne-eqb, le-leb, lt-leb, lt-ltb, le-ltb, not-true, not-false}
+use Prim.Native.Nat.{ℕ, _+_, _≤_, _<_}
+use mathlib.Core.Path.{_∙_, sym, ap, ap₂}
+use mathlib.Core.Bool.{not}
+use borrow.Author.Tests.{lt-ltb, le-ltb, not-true, not-false}
 use denote.Ref.{now}
 use Rattle.meter.specs.declared.Parts.{Parts}
-use lib.Dec.{ltb}
 use Rattle.sheet.specs.Rows.{areas, items}
 use Rattle.sheet.specs.Rules.{upFrom}
 use Rattle.sheet.specs.Lookup.{liesIn}
 use Rattle.bank.specs.Bank.{placeIn}
 use Rattle.meter.specs.declared.Judged.the-variants.{BadItem, GoodWrite}
 use Rattle.meter.specs.declared.runs.Purpose.the-variants.{Write}
-use Rattle.meter.specs.Frame.{manyOf, count, run}
+use Rattle.meter.specs.Frame.{manyOf, count}
 use Rattle.meter.specs.Runs.{allOpen}
 use Rattle.meter.specs.Write.{firstPlace, someBad, stopIn, stopPlace}
 use Rattle.meter.proofs.Staging.{stops-address, stops-item, good-write, write-address, write-value, write-bad}
@@ -24,13 +23,6 @@ use Rattle.meter.proofs.Stopping.{stop-some}
 use borrow.Author.Needs.{needs}
 use Rattle.meter.proofs.stages.judged_write.Statement.{statement}
 use Rattle.meter.proofs.stages.judged_write.Tie as tie
-use Rattle.meter.proofs.stages.judged_write.Reads as reads
-use Rattle.meter.proofs.stages.judged_write.Lts as lts
-use Rattle.meter.proofs.runs.all_open.Reads as all-open-reads
-use Rattle.meter.proofs.runs.place_of.Reads as place-of-reads
-use Rattle.meter.proofs.stages.many_of.Reads as many-of-reads
-use Rattle.meter.proofs.values.stop_place.Reads as stop-place-reads
-use Rattle.meter.proofs.values.values_at.Reads as values-at-reads
 
 -- src/stages.rt:150:9
 many-of-requires : tie.Need-many-of-requires

@@ -1,16 +1,8 @@
 -- `meter::stages::many_of` meets its contract: one for 06, else the count.
 -- Assumes nothing.
-use borrow.Author.Needs.{needs}
-use native.Mathlib.Omega.{arith}
-use Prim.Native.Nat.{ℕ, _+_, _*_, _≤_, _<_}
-use mathlib.Core.Path.{_≡_, refl, _∙_, sym, ap, ap₂}
-use mathlib.Core.Bool.{Bool, true, false, not, cond, _&&_, _||_}
-use borrow.Author.Tests.{eq-eqb, ne-eqb, le-leb, lt-leb, lt-ltb, le-ltb, not-true, not-false}
-use denote.Ref.{now}
+use borrow.Author.Tests.{eq-eqb, ne-eqb}
 use Rattle.meter.proofs.stages.many_of.Statement.{statement}
 use Rattle.meter.proofs.stages.many_of.Tie as tie
-use Rattle.meter.proofs.stages.many_of.Reads as reads
-use Rattle.meter.proofs.stages.many_of.Lts as lts
 
 -- src/stages.rt:134:1
 returns : tie.Need-returns

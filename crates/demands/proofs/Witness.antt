@@ -1,0 +1,165 @@
+-- No statement of the demands is empty: on the UX sheet and a fresh bank, one frame for each sort of damage, and one undamaged frame that
+-- gets a reply; one frame for each step of the judgement; and for each refusal number of each call an input that gets it. Assumes nothing.
+use mathlib.Core.Path.{_≡_, refl}
+use mathlib.Core.Bool.{true}
+use mathlib.Core.List.{List, [], _∷_, _++_, map}
+use Prim.Native.Nat.{ℕ}
+use native.Mathlib.Omega.{arith}
+use lib.ListN.{drop, replicate}
+use Rattle.words.specs.Words.{wordAt, withWord}
+use Rattle.check_value.specs.Check.{valueOf}
+use Rattle.check_value.specs.Frame.{passes}
+use Rattle.check_value.proofs.Witness.{frameSent, framesReceived, AllDamaged, sent-passes, received-damaged}
+use Rattle.range.specs.Range.{inRange}
+use Rattle.sheet.specs.Rows.{areas, items}
+use Rattle.sheet.specs.Rules.{sound, headerSound, areasSound, itemsSound, settingsSound, each, some, upFrom, samePlaces, itemPlaces, writablePlaces, placesFollow, areasAscend, lengthsSum, judgedSheet, sheetNumber}
+use Rattle.sheet.specs.Lookup.{liesIn}
+use Rattle.makers.specs.Maps.{ux}
+use Rattle.makers.specs.Sheets.{sheetOf}
+use Rattle.bank.specs.Stores.{stored}
+use Rattle.bank.specs.Bank.{bankSound, goodBy, lowStores, freshStores, postStores, allReadOnly}
+use Rattle.bank.specs.Cases.{firstCase}
+use Rattle.bank.specs.Calls.{numberOf, checkAnswer, freshAnswer, postAnswer, markAnswer, freshOutcome, postOutcome, markOutcome}
+use Rattle.meter.specs.Runs.{allOpen}
+use Rattle.meter.specs.Write.{badItem, someBad, stopIn, stopPlace, runStores}
+use Rattle.meter.specs.Steps.{judgedFrame}
+use Rattle.meter.specs.Reply.{bankRun, withCheck, replyTo, storesOf}
+use Rattle.meter.specs.Answer.{actedOn, answerOutcome}
+use Rattle.meter.proofs.CaseSet.{uxMeter, bytesOf}
+use Rattle.cedarskein.specs.Door.{Handed, handed, handedOf, toldOf}
+use Rattle.demands.specs.Verdict.{Accepted, silence, error, good, verdict}
+
+abbrev uxSheet : List ℕ
+uxSheet = sheetOf ux
+
+-- the words of a fresh UX bank, as case set P has them
+abbrev freshBank : List ℕ
+freshBank = bytesOf (uxMeter .fresh)
+
+abbrev answerBuffer : List ℕ
+answerBuffer = replicate 100 0xA5
+
+-- it is what the call for a fresh bank makes of any 70 bytes, here of FF
+pub fresh-bank-made : toldOf (freshOutcome uxSheet (replicate 70 0xFF)) .bank ≡ freshBank
+unfolding freshOutcome freshAnswer freshStores lowStores stored bytesOf firstCase bankSound goodBy sound headerSound areasSound itemsSound settingsSound each some upFrom samePlaces itemPlaces writablePlaces placesFollow areasAscend lengthsSum areas items wordAt withWord inRange sheetOf
+fresh-bank-made = refl
+
+pub accepted : Accepted uxSheet freshBank answerBuffer
+unfolding bytesOf firstCase bankSound goodBy sound headerSound areasSound itemsSound settingsSound each some upFrom samePlaces itemPlaces writablePlaces placesFollow areasAscend lengthsSum areas items wordAt withWord inRange sheetOf
+accepted = record { sheetSound = refl; bankFits = refl; bankWhole = refl; bufferLong = omega arith }
+
+-- ---- demand 3: one bit, two, three far apart, and sixteen in a run over three bytes
+
+pub damage : AllDamaged frameSent framesReceived
+damage = received-damaged
+
+pub undamaged-passes : passes frameSent ≡ true
+undamaged-passes = sent-passes
+
+-- what the meter answers
+abbrev answerTo : List ℕ → Handed
+answerTo frame = handedOf (answerOutcome uxSheet freshBank frame answerBuffer)
+
+pub damaged-answers : map answerTo framesReceived ≡ map (λ frame. handed 1 0 0 freshBank answerBuffer) framesReceived
+unfolding allOpen answerOutcome actedOn judgedFrame replyTo storesOf bankRun withCheck runStores stopPlace stopIn badItem someBad stored passes valueOf liesIn bytesOf firstCase bankSound goodBy sound headerSound areasSound itemsSound settingsSound each some upFrom samePlaces itemPlaces writablePlaces placesFollow areasAscend lengthsSum areas items wordAt withWord inRange sheetOf
+damaged-answers = refl
+
+pub undamaged-answer : answerTo frameSent ≡ handed 0 9 1 freshBank ((0x01 ∷ 0x03 ∷ 0x04 ∷ 0x00 ∷ 0x00 ∷ 0x00 ∷ 0x00 ∷ 0xFA ∷ 0x33 ∷ []) ++ drop 9 answerBuffer)
+unfolding allOpen answerOutcome actedOn judgedFrame replyTo storesOf bankRun withCheck runStores stopPlace stopIn badItem someBad stored passes valueOf liesIn bytesOf firstCase bankSound goodBy sound headerSound areasSound itemsSound settingsSound each some upFrom samePlaces itemPlaces writablePlaces placesFollow areasAscend lengthsSum areas items wordAt withWord inRange sheetOf
+undamaged-answer = refl
+
+-- ---- demand 2: a frame for each step, and good ones
+
+abbrev judgedFrames : List (List ℕ)
+judgedFrames =
+    -- step 1: two bits changed
+    (0x00 ∷ 0x03 ∷ 0x01 ∷ 0x01 ∷ 0x00 ∷ 0x02 ∷ 0x94 ∷ 0xB7 ∷ [])
+    -- step 2: another station
+    ∷ (0x02 ∷ 0x03 ∷ 0x01 ∷ 0x01 ∷ 0x00 ∷ 0x02 ∷ 0x94 ∷ 0x04 ∷ [])
+    -- step 3: function 04
+    ∷ (0x01 ∷ 0x04 ∷ 0x01 ∷ 0x01 ∷ 0x00 ∷ 0x02 ∷ 0x21 ∷ 0xF7 ∷ [])
+    -- step 4: a 03 of 9 bytes
+    ∷ (0x01 ∷ 0x03 ∷ 0x01 ∷ 0x01 ∷ 0x00 ∷ 0x02 ∷ 0x00 ∷ 0x36 ∷ 0xAF ∷ [])
+    -- step 5: count 0
+    ∷ (0x01 ∷ 0x03 ∷ 0x01 ∷ 0x01 ∷ 0x00 ∷ 0x00 ∷ 0x15 ∷ 0xF6 ∷ [])
+    -- step 6: 020B lies in no area
+    ∷ (0x01 ∷ 0x03 ∷ 0x02 ∷ 0x00 ∷ 0x00 ∷ 0x0C ∷ 0x44 ∷ 0x77 ∷ [])
+    -- step 7: a clear with another value than 0
+    ∷ (0x01 ∷ 0x05 ∷ 0x03 ∷ 0x00 ∷ 0xFF ∷ 0x00 ∷ 0x8C ∷ 0x7E ∷ [])
+    -- step 7: station 0 is out of its range
+    ∷ (0x01 ∷ 0x06 ∷ 0x01 ∷ 0x0E ∷ 0x00 ∷ 0x00 ∷ 0xE9 ∷ 0xF5 ∷ [])
+    -- a read
+    ∷ (0x01 ∷ 0x03 ∷ 0x01 ∷ 0x01 ∷ 0x00 ∷ 0x02 ∷ 0x94 ∷ 0x37 ∷ [])
+    -- a write
+    ∷ (0x01 ∷ 0x06 ∷ 0x01 ∷ 0x0E ∷ 0x00 ∷ 0x02 ∷ 0x68 ∷ 0x34 ∷ [])
+    -- a clear
+    ∷ (0x01 ∷ 0x05 ∷ 0x03 ∷ 0x00 ∷ 0x00 ∷ 0x00 ∷ 0xCD ∷ 0x8E ∷ [])
+    ∷ []
+
+pub steps-met : map (verdict uxSheet freshBank) judgedFrames
+    ≡ silence ∷ silence ∷ error 1 ∷ silence ∷ error 3 ∷ error 2 ∷ error 3 ∷ error 3 ∷ good ∷ good ∷ good ∷ []
+unfolding verdict allOpen answerOutcome actedOn judgedFrame replyTo storesOf bankRun withCheck runStores stopPlace stopIn badItem someBad stored passes valueOf liesIn bytesOf firstCase bankSound goodBy sound headerSound areasSound itemsSound settingsSound each some upFrom samePlaces itemPlaces writablePlaces placesFollow areasAscend lengthsSum areas items wordAt withWord inRange sheetOf
+steps-met = refl
+
+-- ---- demand 1: an input for each refusal of each call, and one that is not refused
+
+-- a bank whose mark is 2
+abbrev unsoundBank : List ℕ
+unsoundBank = withWord freshBank 68 2
+
+pub sheet-check-numbers : map (λ sheet. sheetNumber (judgedSheet sheet)) ([] ∷ uxSheet ∷ []) ≡ 2 ∷ 0 ∷ []
+unfolding bytesOf firstCase bankSound goodBy sound headerSound areasSound itemsSound settingsSound each some upFrom samePlaces itemPlaces writablePlaces placesFollow areasAscend lengthsSum areas items wordAt withWord inRange sheetOf
+sheet-check-numbers = refl
+
+abbrev bankChecks : List ℕ
+bankChecks =
+    numberOf (checkAnswer [] freshBank) ∷ numberOf (checkAnswer uxSheet []) ∷ numberOf (checkAnswer uxSheet unsoundBank)
+    ∷ numberOf (checkAnswer uxSheet freshBank) ∷ []
+
+pub bank-check-numbers : bankChecks ≡ 2 ∷ 3 ∷ 4 ∷ 0 ∷ []
+unfolding checkAnswer bytesOf firstCase bankSound goodBy sound headerSound areasSound itemsSound settingsSound each some upFrom samePlaces itemPlaces writablePlaces placesFollow areasAscend lengthsSum areas items wordAt withWord inRange sheetOf
+bank-check-numbers = refl
+
+abbrev freshCalls : List ℕ
+freshCalls =
+    toldOf (freshOutcome [] freshBank) .number ∷ toldOf (freshOutcome uxSheet []) .number ∷ toldOf (freshOutcome uxSheet unsoundBank) .number ∷ []
+
+pub fresh-numbers : freshCalls ≡ 2 ∷ 3 ∷ 0 ∷ []
+unfolding freshOutcome freshAnswer freshStores lowStores stored bytesOf firstCase bankSound goodBy sound headerSound areasSound itemsSound settingsSound each some upFrom samePlaces itemPlaces writablePlaces placesFollow areasAscend lengthsSum areas items wordAt withWord inRange sheetOf
+fresh-numbers = refl
+
+abbrev postCalls : List ℕ
+postCalls =
+    toldOf (postOutcome [] freshBank 0x0200 (0 ∷ 1 ∷ [])) .number
+    ∷ toldOf (postOutcome uxSheet [] 0x0200 (0 ∷ 1 ∷ [])) .number
+    ∷ toldOf (postOutcome uxSheet unsoundBank 0x0200 (0 ∷ 1 ∷ [])) .number
+    ∷ toldOf (postOutcome uxSheet freshBank 0x0200 (0 ∷ [])) .number
+    ∷ toldOf (postOutcome uxSheet freshBank 0x0100 (0 ∷ 1 ∷ [])) .number
+    ∷ toldOf (postOutcome uxSheet freshBank 0x0200 (0 ∷ 1 ∷ [])) .number ∷ []
+
+pub post-numbers : postCalls ≡ 2 ∷ 3 ∷ 4 ∷ 7 ∷ 6 ∷ 0 ∷ []
+unfolding postOutcome postAnswer postStores allReadOnly liesIn bytesOf firstCase bankSound goodBy sound headerSound areasSound itemsSound settingsSound each some upFrom samePlaces itemPlaces writablePlaces placesFollow areasAscend lengthsSum areas items wordAt withWord inRange sheetOf
+post-numbers = refl
+
+abbrev markCalls : List ℕ
+markCalls =
+    toldOf (markOutcome [] freshBank 1) .number ∷ toldOf (markOutcome uxSheet [] 1) .number
+    ∷ toldOf (markOutcome uxSheet unsoundBank 1) .number ∷ toldOf (markOutcome uxSheet freshBank 2) .number
+    ∷ toldOf (markOutcome uxSheet freshBank 1) .number ∷ []
+
+pub mark-numbers : markCalls ≡ 2 ∷ 3 ∷ 4 ∷ 7 ∷ 0 ∷ []
+unfolding markOutcome markAnswer bytesOf firstCase bankSound goodBy sound headerSound areasSound itemsSound settingsSound each some upFrom samePlaces itemPlaces writablePlaces placesFollow areasAscend lengthsSum areas items wordAt withWord inRange sheetOf
+mark-numbers = refl
+
+abbrev frameCalls : List ℕ
+frameCalls =
+    handedOf (answerOutcome [] freshBank frameSent answerBuffer) .number
+    ∷ handedOf (answerOutcome uxSheet [] frameSent answerBuffer) .number
+    ∷ handedOf (answerOutcome uxSheet unsoundBank frameSent answerBuffer) .number
+    ∷ handedOf (answerOutcome uxSheet freshBank frameSent (replicate 99 0)) .number
+    ∷ handedOf (answerOutcome uxSheet freshBank [] answerBuffer) .number
+    ∷ handedOf (answerOutcome uxSheet freshBank frameSent answerBuffer) .number ∷ []
+
+pub frame-numbers : frameCalls ≡ 2 ∷ 3 ∷ 4 ∷ 5 ∷ 1 ∷ 0 ∷ []
+unfolding allOpen answerOutcome actedOn judgedFrame replyTo storesOf bankRun withCheck runStores stopPlace stopIn badItem someBad stored passes valueOf liesIn bytesOf firstCase bankSound goodBy sound headerSound areasSound itemsSound settingsSound each some upFrom samePlaces itemPlaces writablePlaces placesFollow areasAscend lengthsSum areas items wordAt withWord inRange sheetOf
+frame-numbers = refl
