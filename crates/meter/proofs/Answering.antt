@@ -43,6 +43,22 @@ module _ (sheet bank frame buffer : List ℕ) {checked : Answer} (is : checked �
       (actedOn (judgedFrame sheet bank frame) sheet bank frame buffer)
       ∙ ap (λ (k : Answer). afterCheck k (smallBuffer buffer) bank buffer (actedOn (judgedFrame sheet bank frame) sheet bank frame buffer)) (sym is)
 
+  -- .. where the check is known to be one of its cases
+  pub answered-by : {told : Answer} → checked ≡ told
+      → afterCheck told (smallBuffer buffer) bank buffer (actedOn (judgedFrame sheet bank frame) sheet bank frame buffer)
+      ≡ answerOutcome sheet bank frame buffer
+  answered-by e =
+      sym (answer-after
+      ∙ ap (λ (k : Answer). afterCheck k (smallBuffer buffer) bank buffer (actedOn (judgedFrame sheet bank frame) sheet bank frame buffer)) e)
+
+  -- .. and then whether the buffer is small
+  pub answered-sized : {small : Bool} → checked ≡ Done → smallBuffer buffer ≡ small
+      → cond small (outcome answered.SmallBuffer bank buffer) (actedOn (judgedFrame sheet bank frame) sheet bank frame buffer)
+      ≡ answerOutcome sheet bank frame buffer
+  answered-sized done e =
+      ap (λ (small : Bool). cond small (outcome answered.SmallBuffer bank buffer) (actedOn (judgedFrame sheet bank frame) sheet bank frame buffer)) (sym e)
+      ∙ answered-by done
+
 -- a check that refuses nothing was made of a sound sheet
 pub done-sound : (sheet bank : List ℕ) (checked : Answer) → checked ≡ checkAnswer sheet bank → checked ≡ Done → sound sheet ≡ true
 unfolding checkAnswer firstCase

@@ -1,16 +1,12 @@
 -- `meter::answer` meets its contract: the refusals in their order, then what becomes of the judged frame.
 -- Assumes nothing.
-use mathlib.Core.Path.{_∙_, sym, ap}
-use mathlib.Core.Bool.{Bool, cond}
+use mathlib.Core.Path.{_∙_, ap}
 use borrow.Author.Tests.{lt-ltb, le-ltb}
 use denote.Ref.{now}
 use lib.ListN.{length}
-use Rattle.bank.specs.declared.Answer.{Answer}
 use Rattle.meter.specs.declared.Judged.{Judged}
-use Rattle.meter.specs.declared.Answered.the-variants.{SmallBuffer}
-use Rattle.meter.specs.Steps.{judgedFrame}
-use Rattle.meter.specs.Answer.{outcome, smallBuffer, leastBuffer, readFits, actedOn}
-use Rattle.meter.proofs.Answering.{afterCheck, answer-after, done-sound}
+use Rattle.meter.specs.Answer.{leastBuffer, readFits, actedOn}
+use Rattle.meter.proofs.Answering.{answered-by, answered-sized, done-sound}
 use Rattle.meter.proofs.Staging.{judged-fits}
 use borrow.Author.Needs.{needs}
 use Rattle.meter.proofs.answer.Statement.{statement}
@@ -35,12 +31,7 @@ same-length c = search needs
 returns : tie.Need-returns
 returns c =
     let a = c .before .before .before .before .before .before .before .before .args in
-    let sheet = now (a .sheet) in
-    let bank = now (a .bank) in
-    let frame = now (a .frame) in
-    let buffer = now (a .buffer) in
-    sym (answer-after sheet bank frame buffer (c .before .before .judged .ensures)
-    ∙ ap (λ (k : Answer). afterCheck k (smallBuffer buffer) bank buffer (actedOn (judgedFrame sheet bank frame) sheet bank frame buffer)) (c .enum-told2 .given .1))
+    answered-by (now (a .sheet)) (now (a .bank)) (now (a .frame)) (now (a .buffer)) (c .before .before .judged .ensures) (c .enum-told2 .given .1)
 
 -- src/lib.rt:80:32
 enum-told-3 : tie.Need-enum-told-3
@@ -54,12 +45,7 @@ same-length-2 c = search needs
 returns-2 : tie.Need-returns-2
 returns-2 c =
     let a = c .before .before .before .before .before .before .before .before .args in
-    let sheet = now (a .sheet) in
-    let bank = now (a .bank) in
-    let frame = now (a .frame) in
-    let buffer = now (a .buffer) in
-    sym (answer-after sheet bank frame buffer (c .before .before .judged .ensures)
-    ∙ ap (λ (k : Answer). afterCheck k (smallBuffer buffer) bank buffer (actedOn (judgedFrame sheet bank frame) sheet bank frame buffer)) (c .enum-told3 .given .1))
+    answered-by (now (a .sheet)) (now (a .bank)) (now (a .frame)) (now (a .buffer)) (c .before .before .judged .ensures) (c .enum-told3 .given .1)
 
 -- src/lib.rt:81:33
 enum-told-4 : tie.Need-enum-told-4
@@ -73,12 +59,7 @@ same-length-3 c = search needs
 returns-3 : tie.Need-returns-3
 returns-3 c =
     let a = c .before .before .before .before .before .before .before .before .args in
-    let sheet = now (a .sheet) in
-    let bank = now (a .bank) in
-    let frame = now (a .frame) in
-    let buffer = now (a .buffer) in
-    sym (answer-after sheet bank frame buffer (c .before .before .judged .ensures)
-    ∙ ap (λ (k : Answer). afterCheck k (smallBuffer buffer) bank buffer (actedOn (judgedFrame sheet bank frame) sheet bank frame buffer)) (c .enum-told4 .given .1))
+    answered-by (now (a .sheet)) (now (a .bank)) (now (a .frame)) (now (a .buffer)) (c .before .before .judged .ensures) (c .enum-told4 .given .1)
 
 -- src/lib.rt:82:32
 enum-told-5 : tie.Need-enum-told-5
@@ -92,12 +73,7 @@ same-length-4 c = search needs
 returns-4 : tie.Need-returns-4
 returns-4 c =
     let a = c .before .before .before .before .before .before .before .before .args in
-    let sheet = now (a .sheet) in
-    let bank = now (a .bank) in
-    let frame = now (a .frame) in
-    let buffer = now (a .buffer) in
-    sym (answer-after sheet bank frame buffer (c .before .before .judged .ensures)
-    ∙ ap (λ (k : Answer). afterCheck k (smallBuffer buffer) bank buffer (actedOn (judgedFrame sheet bank frame) sheet bank frame buffer)) (c .enum-told5 .given .1))
+    answered-by (now (a .sheet)) (now (a .bank)) (now (a .frame)) (now (a .buffer)) (c .before .before .judged .ensures) (c .enum-told5 .given .1)
 
 -- src/lib.rt:83:29
 enum-told-6 : tie.Need-enum-told-6
@@ -111,12 +87,7 @@ same-length-5 c = search needs
 returns-5 : tie.Need-returns-5
 returns-5 c =
     let a = c .before .before .before .before .before .before .before .before .args in
-    let sheet = now (a .sheet) in
-    let bank = now (a .bank) in
-    let frame = now (a .frame) in
-    let buffer = now (a .buffer) in
-    sym (answer-after sheet bank frame buffer (c .before .before .judged .ensures)
-    ∙ ap (λ (k : Answer). afterCheck k (smallBuffer buffer) bank buffer (actedOn (judgedFrame sheet bank frame) sheet bank frame buffer)) (c .enum-told6 .given .1))
+    answered-by (now (a .sheet)) (now (a .bank)) (now (a .frame)) (now (a .buffer)) (c .before .before .judged .ensures) (c .enum-told6 .given .1)
 
 -- src/lib.rt:86:9
 same-length-6 : tie.Need-same-length-6
@@ -126,13 +97,8 @@ same-length-6 c = search needs
 returns-6 : tie.Need-returns-6
 returns-6 c =
     let a = c .before .before .before .before .before .before .before .before .before .args in
-    let sheet = now (a .sheet) in
-    let bank = now (a .bank) in
-    let frame = now (a .frame) in
-    let buffer = now (a .buffer) in
-    sym (answer-after sheet bank frame buffer (c .before .before .before .judged .ensures)
-    ∙ ap (λ (k : Answer). afterCheck k (smallBuffer buffer) bank buffer (actedOn (judgedFrame sheet bank frame) sheet bank frame buffer)) (c .before .enum-told .given .1)
-    ∙ ap (λ (small : Bool). cond small (outcome SmallBuffer bank buffer) (actedOn (judgedFrame sheet bank frame) sheet bank frame buffer)) (lt-ltb (length buffer) leastBuffer (c .if1 .taken)))
+    answered-sized (now (a .sheet)) (now (a .bank)) (now (a .frame)) (now (a .buffer)) (c .before .before .before .judged .ensures) (c .before .enum-told .given .1)
+    (lt-ltb (length (now (a .buffer))) leastBuffer (c .if1 .taken))
 
 -- src/lib.rt:88:9
 judged-requires-2 : tie.Need-judged-requires-2
@@ -160,15 +126,12 @@ same-length-8 c = search needs
 returns-7 : tie.Need-returns-7
 returns-7 c =
     let a = c .before .before .before .before .before .before .before .before .before .before .before .before .before .before .before .before .before .before .args in
-    let sheet = now (a .sheet) in
-    let bank = now (a .bank) in
-    let frame = now (a .frame) in
-    let buffer = now (a .buffer) in
     c .before .before .before .before .acted .ensures
-    ∙ ap (λ (j : Judged). actedOn j sheet bank frame buffer) (c .before .before .before .before .before .before .before .judged2 .ensures)
-    ∙ sym (answer-after sheet bank frame buffer (c .before .before .before .before .before .before .before .before .before .before .before .before .judged .ensures)
-    ∙ ap (λ (k : Answer). afterCheck k (smallBuffer buffer) bank buffer (actedOn (judgedFrame sheet bank frame) sheet bank frame buffer)) (c .before .before .before .before .before .before .before .before .before .before .enum-told .given .1)
-    ∙ ap (λ (small : Bool). cond small (outcome SmallBuffer bank buffer) (actedOn (judgedFrame sheet bank frame) sheet bank frame buffer)) (le-ltb (length buffer) leastBuffer (c .before .before .before .before .before .before .before .before .before .if1 .left)))
+    ∙ ap (λ (j : Judged). actedOn j (now (a .sheet)) (now (a .bank)) (now (a .frame)) (now (a .buffer))) (c .before .before .before .before .before .before .before .judged2 .ensures)
+    ∙ answered-sized (now (a .sheet)) (now (a .bank)) (now (a .frame)) (now (a .buffer))
+    (c .before .before .before .before .before .before .before .before .before .before .before .before .judged .ensures)
+    (c .before .before .before .before .before .before .before .before .before .before .enum-told .given .1)
+    (le-ltb (length (now (a .buffer))) leastBuffer (c .before .before .before .before .before .before .before .before .before .if1 .left))
 
 pub answer-spec : {M : Type 1} → statement M
 answer-spec =
