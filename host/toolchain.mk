@@ -1,11 +1,13 @@
 # The compiler of the host tests, by the processor. The archive is x86-64 code: elsewhere a cross compiler links it, and an emulator runs it.
-ifeq ($(shell uname -m),x86_64)
+PROCESSOR := $(shell uname -m)
+ifeq ($(PROCESSOR),x86_64)
 CC := gcc
 CXX := g++
 NM := nm
 GCOV := gcov
 LINK :=
 RUN :=
+RUN_BUILT :=
 PACKAGES := gcc g++ libc6-dev
 else
 CC := x86_64-linux-gnu-gcc
@@ -14,6 +16,9 @@ NM := x86_64-linux-gnu-nm
 GCOV := x86_64-linux-gnu-gcov
 LINK := -static
 RUN := qemu-x86_64
+# The tests are linked statically. The programs that rt builds are not, and need the cross compiler's C library.
+LIBRARIES := /usr/x86_64-linux-gnu/lib
+RUN_BUILT := qemu-x86_64 $(LIBRARIES)/ld-linux-x86-64.so.2 --library-path $(LIBRARIES)
 PACKAGES := gcc-x86-64-linux-gnu g++-x86-64-linux-gnu libc6-dev-amd64-cross qemu-user
 endif
 
