@@ -131,13 +131,24 @@ static void nulls(void)
     expect_number(0xFFFF, cedarskein_check_value(NULL, 0), "check_value of nothing");
 }
 
-int main(void)
+static void all_sizes(void)
 {
     size_t i;
     for (i = 0; i < sizeof out_sizes / sizeof out_sizes[0]; i++)
         frames_into(out_sizes[i]);
-    for (i = 0; i < LENT_SHIFTS; i++)
-        shifted(i);
+}
+
+static void all_shifts(void)
+{
+    size_t shift;
+    for (shift = 0; shift < LENT_SHIFTS; shift++)
+        shifted(shift);
+}
+
+int main(void)
+{
+    all_sizes();
+    all_shifts();
     nulls();
     return told("frames of 0 to 300 bytes into buffers of 0, 1, 99, 100, 101 and 5000, every alignment, null for nothing");
 }

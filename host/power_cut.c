@@ -16,6 +16,8 @@ struct copy {
     uint8_t check[2];
 };
 
+#define WHOLE (2 * (unsigned)sizeof(struct copy))
+
 static struct copy first, second;
 
 /* Bytes that are still written before the power goes. */
@@ -57,16 +59,20 @@ static int is_good(const struct copy *copy)
 /* At start-up. Answers whether a copy was good; else the bank is fresh, and the meter has to be set up again. */
 static int restore(uint8_t *bank)
 {
-    int found = is_good(&first) || is_good(&second);
-    if (is_good(&first))
+    if (is_good(&first)) {
         memcpy(bank, first.bank, BANK);
-    else if (is_good(&second))
+        store_copy(&second, bank);
+        return 1;
+    }
+    if (is_good(&second)) {
         memcpy(bank, second.bank, BANK);
-    else
-        cedarskein_bank_fresh(SHEET, bank, BANK);
+        store_copy(&first, bank);
+        return 1;
+    }
+    cedarskein_bank_fresh(SHEET, bank, BANK);
     store_copy(&first, bank);
     store_copy(&second, bank);
-    return found;
+    return 0;
 }
 
 /* The bank before and after a frame that changes both words of the pair at 0103, from 0000 FFFF to 0001 0000. */
@@ -95,17 +101,20 @@ static void cut_within_the_pair(void)
     expect_number(CEDARSKEIN_BANK_NOT_SOUND, cedarskein_bank_check(SHEET, half, BANK), "bank_check");
 }
 
-static void cut_after(unsigned bytes)
+/* Both copies hold the bank before; keeping the one after is cut, then the first start-up is, and the second goes through. */
+static void cut_after(unsigned bytes, unsigned bytes_at_start)
 {
     uint8_t bank[BANK];
-    at_case("a cut after %u bytes", bytes);
-    bytes_left = 4 * sizeof first;
+    at_case("a cut after %u bytes, and after %u at start-up", bytes, bytes_at_start);
+    bytes_left = WHOLE;
     store_copy(&first, bank_before);
     store_copy(&second, bank_before);
     bytes_left = bytes;
     keep(bank_after);
-    bytes_left = 4 * sizeof first;
+    bytes_left = bytes_at_start;
     expect(restore(bank), "a copy is good");
+    bytes_left = WHOLE;
+    expect(restore(bank), "a copy is good at the second start-up");
     expect(memcmp(bank, bank_before, BANK) == 0 || memcmp(bank, bank_after, BANK) == 0, "the bank is that before or that after");
     if (bytes >= sizeof first)
         expect(memcmp(bank, bank_after, BANK) == 0, "the bank is that after");
@@ -118,18 +127,18 @@ static void nothing_kept(void)
     at_case("memory that was never written");
     memset(&first, 0xFF, sizeof first);
     memset(&second, 0xFF, sizeof second);
-    bytes_left = 4 * sizeof first;
+    bytes_left = WHOLE;
     expect(!restore(bank), "no copy is good");
     expect_number(0, cedarskein_bank_check(SHEET, bank, BANK), "the bank is fresh");
 }
 
 int main(void)
 {
-    unsigned bytes;
+    unsigned i;
     make_banks();
     cut_within_the_pair();
-    for (bytes = 0; bytes <= 2 * sizeof first; bytes++)
-        cut_after(bytes);
+    for (i = 0; i < (WHOLE + 1) * (WHOLE + 1); i++)
+        cut_after(i / (WHOLE + 1), i % (WHOLE + 1));
     nothing_kept();
-    return told("a power cut at every byte of the copies");
+    return told("a power cut at every byte of the copies, and another at start-up");
 }

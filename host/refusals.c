@@ -168,16 +168,32 @@ static void unsounds(void)
     unsound(MARK, 0x0100);
 }
 
-int main(void)
+static void all_breaks(void)
 {
     unsigned breaks;
-    size_t n;
     for (breaks = 0; breaks < ALL; breaks++)
         all_calls(breaks);
+}
+
+static void all_sheets(void)
+{
+    size_t n;
     for (n = 0; n <= 900; n++)
         sheet_of(n);
+}
+
+static void all_banks(void)
+{
+    size_t n;
     for (n = 0; n <= 600; n++)
         bank_of(n);
+}
+
+int main(void)
+{
+    all_breaks();
+    all_sheets();
+    all_banks();
     unsounds();
     posts();
     marks();

@@ -35,19 +35,22 @@
  * A power cut
  *
  *   A call stores a bank's words one after another. A cut between the two words of a pair can leave a pair that is out of
- *   its range: the bank is then not sound, and from then on every call but cedarskein_bank_fresh answers 4, which the
- *   line sees as silence. A cut between two items leaves half of a write. So a bank that lives in memory which outlasts
- *   a cut is not enough. Keep a last good copy:
+ *   its range: the bank is then not sound, and every call on it but cedarskein_bank_fresh answers 4 from then on, which
+ *   the line sees as silence. A cut between two items leaves half of a write. So it is not enough that the bank lies in
+ *   memory which outlasts a cut. Keep a last good copy:
  *
  *   - the bank at work lies in plain memory; two copies lie in memory that outlasts a cut, each followed by its check
  *     value (cedarskein_check_value over the copy's bytes);
  *   - after each call that answered 0, where the bank differs from the first copy, write the first copy and its check
- *     value, and when that is done the second. An error reply counts: it answers 0 too, and may have stored part;
+ *     value, and when that is done the second; then send the reply, which so tells of what is kept. An error reply
+ *     counts: it answers 0 too, and may have stored part. Readings that are posted again after start-up can wait;
  *   - at start-up put the first copy into the bank where its check value agrees and cedarskein_bank_check answers 0,
  *     else the second on the same terms, and write the other copy anew. A cut spoils one copy at most: where it hit the
  *     first, the second is the bank before that write, and where it hit the second, the first is the bank after it;
  *   - where neither copy is good, cedarskein_bank_fresh is the last resort: every setting is then at its low bound, at
  *     station 1 and 9600, and the meter has to be set up again. Report it.
+ *
+ *   host/power_cut.c has this as C, and tries a cut at every byte.
  */
 #ifndef CEDARSKEIN_H
 #define CEDARSKEIN_H
@@ -72,8 +75,8 @@ extern "C" {
 /* The numbers that a call hands back, and what the firmware does then. With any number but 0 the bank and out are as they
  * were. Where several would hold, the first of 2, 3, 4, 5, 7, 6 is told. */
 enum cedarskein_number {
-    /* Done. For a frame: send the first *length bytes of out at *rate, then keep the bank (see "A power cut") and go on
-     * at the bank's rate. An error reply is a reply. */
+    /* Done. Keep the bank (see "A power cut"). For a frame: then send the first *length bytes of out at *rate, and go on at
+     * the bank's rate. An error reply is a reply. */
     CEDARSKEIN_DONE = 0,
     /* Silence: send nothing, and wait for the next frame. */
     CEDARSKEIN_SILENCE = 1,
