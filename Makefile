@@ -1,9 +1,11 @@
 # Cedarskein: `make test` is the whole verdict. `make` alone says what there is.
 KIT := rattle-kit-5b logic 064da1ca440f63e7
 
-.PHONY: help test kit claims layout
+.PHONY: help test kit claims layout built host compare coverage
 help: kit
-	@echo "make test    the names that docs/CLAIMS.md cites, the layout of the files, then the gate: every proof, every must-fail edit, every program"
+	@echo "make test    the names that docs/CLAIMS.md cites, the layout of the files, the archive in C programs, then the gate: every proof, every must-fail edit, every program"
+	@echo "make host    the archive in C programs, alone"
+	@echo "make compare    the archive against a second implementation in C, on 2,000,000 calls; make coverage: the branches that it takes"
 
 # The proofs are held to one kit. Another may well prove them too, but its verdict is not the one recorded here.
 kit:
@@ -17,5 +19,16 @@ claims:
 layout:
 	@rt fmt --check
 
-test: kit claims layout
+# What the host tests look at. `rt` says much, which is shown where it fails.
+built: kit
+	@said=$$(rt staticlib cedarskein 2>&1 && rt check sheet_files 2>&1) || { echo "$$said"; exit 1; }
+
+host: built
+	@$(MAKE) -s -C host test
+
+compare coverage: built
+	@$(MAKE) -s -C host $@
+
+# The gate removes target/, so the host tests come before it.
+test: kit claims layout host
 	@exec rt ci

@@ -1,0 +1,154 @@
+/* Buffers of every size and at every alignment, frames of every length, and null pointers for nothing. */
+#include "calls.h"
+
+#include "cedarskein.h"
+#include "cedarskein_sheets.h"
+#include "expect.h"
+
+#define LONGEST_TRIED 300
+
+static const size_t out_sizes[] = { 0, 1, 99, 100, 101, 5000 };
+static struct meter meter;
+
+/* The number for a frame that gets an answer where it passes. */
+static uint32_t number_of(size_t out_n, int passes)
+{
+    if (out_n < CEDARSKEIN_LEAST_OUT)
+        return CEDARSKEIN_SMALL_OUT;
+    return passes ? CEDARSKEIN_DONE : CEDARSKEIN_SILENCE;
+}
+
+/* Noise behind a station and a function that no sheet allows, with a right check: error 01 where the length is 4 to 100. */
+static void unknown_function(size_t n)
+{
+    static const uint8_t error[3] = { 0x01, 0x87, 0x01 };
+    int passes = 4 <= n && n <= CEDARSKEIN_LONGEST_FRAME;
+    size_t i;
+    if (n > 1) {
+        meter.frame.bytes[0] = 1;
+        meter.frame.bytes[1] = 7;
+    }
+    seal(meter.frame.bytes, n);
+    expect_number(number_of(meter.out.n, passes), call_answer(&meter), "a right check");
+    if (!passes || meter.out.n < CEDARSKEIN_LEAST_OUT)
+        return;
+    expect_number(5, meter.length, "the length of error 01");
+    for (i = 0; i < sizeof error; i++)
+        expect_number(error[i], meter.out.bytes[i], "a byte of error 01");
+}
+
+static void silent(const char *what)
+{
+    expect_number(number_of(meter.out.n, 0), call_answer(&meter), what);
+}
+
+/* A frame of one length into a buffer of one size. */
+static void frame_of(size_t n, size_t out_n)
+{
+    size_t shift = (n + out_n) % LENT_SHIFTS;
+    at_case("a frame of %lu bytes, out of %lu bytes", (unsigned long)n, (unsigned long)out_n);
+    meter_fresh(&meter, cedarskein_ux_sheet, CEDARSKEIN_UX_SHEET_SIZE, shift);
+    lend(&meter.frame, n, shift);
+    lend(&meter.out, out_n, shift);
+    unknown_function(n);
+    if (n < 2)
+        return;
+    meter.frame.bytes[n - 1] ^= 0x80;
+    silent("a wrong check");
+    meter.frame.bytes[0] = 2;
+    seal(meter.frame.bytes, n);
+    silent("another station");
+}
+
+static void frames_into(size_t out_n)
+{
+    size_t n;
+    for (n = 0; n <= LONGEST_TRIED; n++)
+        frame_of(n, out_n);
+}
+
+/* Each buffer at its own alignment, every one of them. */
+static void shifted(size_t shift)
+{
+    static const uint8_t write_two[13] = { 0x01, 0x10, 0x01, 0x0F, 0x00, 0x02, 0x04, 0x00, 0x01, 0x13, 0x88 };
+    at_case("alignment %lu", (unsigned long)shift);
+    meter_fresh(&meter, cedarskein_ux_sheet, CEDARSKEIN_UX_SHEET_SIZE, shift);
+    meter_frame(&meter, write_two, sizeof write_two, (3 * shift + 1) % LENT_SHIFTS);
+    lend(&meter.out, 101, (5 * shift + 2) % LENT_SHIFTS);
+    lend(&meter.words, 22, (7 * shift + 3) % LENT_SHIFTS);
+    expect_number(0, call_answer(&meter), "answer");
+    expect_number(8, meter.length, "length");
+    expect_number(0x1388, word_at(meter.bank.bytes, 0x10), "0110 is then");
+    expect_number(0, call_post(&meter, 0x0200), "post");
+    expect_number(word_at(meter.words.bytes, 10), word_at(meter.bank.bytes, 33), "020A is then");
+    expect_number(0, call_set_mark(&meter, 1), "set_mark");
+    expect_number(1, word_at(meter.bank.bytes, 34), "the mark is then");
+    expect_number(0, call_bank_check(&meter), "bank_check");
+    expect_number(0, call_sheet_check(&meter), "sheet_check");
+}
+
+static void null_sheet(void)
+{
+    at_case("no sheet");
+    meter_fresh(&meter, cedarskein_ux_sheet, CEDARSKEIN_UX_SHEET_SIZE, 0);
+    lend_null(&meter.sheet);
+    expect_number(2, call_sheet_check(&meter), "sheet_check");
+    expect_number(2, call_bank_check(&meter), "bank_check");
+    expect_number(2, call_bank_fresh(&meter), "bank_fresh");
+    expect_number(2, call_post(&meter, 0x0200), "post");
+    expect_number(2, call_set_mark(&meter, 0), "set_mark");
+    expect_number(2, call_answer(&meter), "answer");
+}
+
+static void null_bank(void)
+{
+    at_case("no bank");
+    meter_fresh(&meter, cedarskein_ux_sheet, CEDARSKEIN_UX_SHEET_SIZE, 0);
+    lend_null(&meter.bank);
+    expect_number(3, call_bank_check(&meter), "bank_check");
+    expect_number(3, call_bank_fresh(&meter), "bank_fresh");
+    expect_number(3, call_post(&meter, 0x0200), "post");
+    expect_number(3, call_set_mark(&meter, 0), "set_mark");
+    expect_number(3, call_answer(&meter), "answer");
+}
+
+/* No frame, no out, no words; and none of anything. */
+static void nulls(void)
+{
+    null_sheet();
+    null_bank();
+    at_case("no frame, no out, no words");
+    meter_fresh(&meter, cedarskein_ux_sheet, CEDARSKEIN_UX_SHEET_SIZE, 0);
+    lend_null(&meter.words);
+    expect_number(7, call_post(&meter, 0x0200), "post");
+    lend_null(&meter.frame);
+    expect_number(1, call_answer(&meter), "answer without a frame");
+    lend_null(&meter.out);
+    expect_number(5, call_answer(&meter), "answer without out");
+    lend_null(&meter.bank);
+    lend_null(&meter.sheet);
+    expect_number(2, call_answer(&meter), "answer without anything");
+    expect_number(0xFFFF, cedarskein_check_value(NULL, 0), "check_value of nothing");
+}
+
+static void all_sizes(void)
+{
+    size_t i;
+    for (i = 0; i < sizeof out_sizes / sizeof out_sizes[0]; i++)
+        frames_into(out_sizes[i]);
+}
+
+static void all_shifts(void)
+{
+    size_t shift;
+    for (shift = 0; shift < LENT_SHIFTS; shift++)
+        shifted(shift);
+}
+
+int main(void)
+{
+    all_sizes();
+    all_shifts();
+    nulls();
+    return told("frames of 0 to 300 bytes into buffers of 0, 1, 99, 100, 101 and 5000, every alignment, null for nothing");
+}

@@ -1,0 +1,202 @@
+/* Each call of the door, with what it must leave alone looked at afterwards. */
+#include "calls.h"
+
+#include "cedarskein.h"
+#include "expect.h"
+
+#include <string.h>
+
+struct numbers {
+    uint32_t front[4], length, between[4], rate, behind[4];
+};
+
+uint16_t word_at(const uint8_t *bytes, size_t place)
+{
+    return (uint16_t)(256 * bytes[2 * place] + bytes[2 * place + 1]);
+}
+
+void set_word(uint8_t *bytes, size_t place, uint16_t word)
+{
+    bytes[2 * place] = (uint8_t)(word >> 8);
+    bytes[2 * place + 1] = (uint8_t)(word & 0xFF);
+}
+
+uint8_t station_of(const uint8_t *sheet, const uint8_t *bank)
+{
+    return bank[2 * (256 * sheet[16] + sheet[17]) + 1];
+}
+
+uint8_t rate_of(const uint8_t *sheet, const uint8_t *bank)
+{
+    return bank[2 * (256 * sheet[18] + sheet[19]) + 1];
+}
+
+/* One byte into the check, as document 01 words it: written here a second time, so that the door's own value is held to it. */
+static uint16_t check_with(uint16_t value, uint8_t byte)
+{
+    int bit;
+    value ^= byte;
+    for (bit = 0; bit < 8; bit++)
+        value = (uint16_t)((value & 1) ? (value >> 1) ^ 0xA001 : value >> 1);
+    return value;
+}
+
+uint16_t check_of(const uint8_t *bytes, size_t n)
+{
+    uint16_t value = 0xFFFF;
+    size_t i;
+    for (i = 0; i < n; i++)
+        value = check_with(value, bytes[i]);
+    return value;
+}
+
+void seal(uint8_t *frame, size_t n)
+{
+    uint16_t value;
+    if (n < 2)
+        return;
+    value = check_of(frame, n - 2);
+    frame[n - 2] = (uint8_t)(value & 0xFF);
+    frame[n - 1] = (uint8_t)(value >> 8);
+}
+
+void meter_frame(struct meter *meter, const uint8_t *bytes, size_t n, size_t shift)
+{
+    lend_copy(&meter->frame, bytes, n, shift);
+    seal(meter->frame.bytes, n);
+}
+
+void meter_fresh(struct meter *meter, const uint8_t *sheet, size_t n, size_t shift)
+{
+    static const uint8_t read_two[8] = { 0x01, 0x03, 0x01, 0x01, 0x00, 0x02 };
+    size_t bank_words = n < 12 ? 0 : word_at(sheet, 5);
+    lend_copy(&meter->sheet, sheet, n, shift);
+    lend(&meter->bank, bank_words <= 256 ? 2 * bank_words + 2 : CEDARSKEIN_LONGEST_BANK, shift);
+    meter_frame(meter, read_two, sizeof read_two, shift);
+    lend(&meter->out, CEDARSKEIN_LEAST_OUT, shift);
+    lend(&meter->words, 2, shift);
+    call_bank_fresh(meter);
+}
+
+static void keep_all(struct meter *meter)
+{
+    lent_keep(&meter->sheet);
+    lent_keep(&meter->bank);
+    lent_keep(&meter->frame);
+    lent_keep(&meter->out);
+    lent_keep(&meter->words);
+}
+
+/* What every call leaves alone: all but the bank and out, and what lies around these. */
+static void expect_left_alone(const struct meter *meter)
+{
+    expect(lent_as_before(&meter->sheet), "the sheet is as before");
+    expect(lent_as_before(&meter->frame), "the frame is as before");
+    expect(lent_as_before(&meter->words), "the posted bytes are as before");
+    expect(lent_as_before_but(&meter->bank, meter->bank.n), "the memory around the bank is as before");
+    expect(lent_as_before_but(&meter->out, meter->out.n), "the memory around out is as before");
+}
+
+/* A number of a call that may write the bank and nothing else. */
+static uint32_t banked(const struct meter *meter, uint32_t number)
+{
+    expect_left_alone(meter);
+    expect(lent_as_before(&meter->out), "out is as before");
+    if (number != CEDARSKEIN_DONE)
+        expect(lent_as_before(&meter->bank), "the bank of a refused call is as before");
+    return number;
+}
+
+/* A number of a call that writes nothing. */
+static uint32_t judged(const struct meter *meter, uint32_t number)
+{
+    expect(lent_as_before(&meter->bank), "the bank is as before");
+    return banked(meter, number);
+}
+
+uint32_t call_sheet_check(struct meter *meter)
+{
+    keep_all(meter);
+    return judged(meter, cedarskein_sheet_check(meter->sheet.bytes, meter->sheet.n));
+}
+
+uint32_t call_bank_check(struct meter *meter)
+{
+    keep_all(meter);
+    return judged(meter, cedarskein_bank_check(meter->sheet.bytes, meter->sheet.n, meter->bank.bytes, meter->bank.n));
+}
+
+uint32_t call_bank_fresh(struct meter *meter)
+{
+    keep_all(meter);
+    return banked(meter, cedarskein_bank_fresh(meter->sheet.bytes, meter->sheet.n, meter->bank.bytes, meter->bank.n));
+}
+
+uint32_t call_post(struct meter *meter, uint32_t address)
+{
+    keep_all(meter);
+    return banked(meter, cedarskein_post(meter->sheet.bytes, meter->sheet.n, meter->bank.bytes, meter->bank.n, address,
+                                         meter->words.bytes, meter->words.n));
+}
+
+uint32_t call_set_mark(struct meter *meter, uint32_t mark)
+{
+    keep_all(meter);
+    return banked(meter, cedarskein_set_mark(meter->sheet.bytes, meter->sheet.n, meter->bank.bytes, meter->bank.n, mark));
+}
+
+/* Length and rate are written, and nothing around them. */
+static void expect_numbers_alone(const struct numbers *numbers)
+{
+    struct numbers as_written;
+    memset(&as_written, 0xA5, sizeof as_written);
+    as_written.length = numbers->length;
+    as_written.rate = numbers->rate;
+    expect(memcmp(&as_written, numbers, sizeof as_written) == 0, "the memory around length and rate is as before");
+}
+
+/* A reply: it passes, it goes out at the rate before the frame from the station before the frame, and out behind it is as before. */
+static void expect_reply(const struct meter *meter, uint8_t station, uint8_t rate)
+{
+    const uint8_t *out = meter->out.bytes;
+    uint32_t n = meter->length;
+    uint16_t value;
+    expect(5 <= n && n <= 99, "a reply has 5 to 99 bytes");
+    if (n < 5 || 99 < n)
+        return;
+    value = check_of(out, n - 2);
+    expect(out[n - 2] == (value & 0xFF) && out[n - 1] == value >> 8, "the reply has its check, lower byte first");
+    expect(out[0] == station, "the reply is from the station before the frame");
+    expect_number(rate, meter->rate, "the reply goes out at the rate before the frame");
+    expect(lent_as_before_but(&meter->out, n), "out behind the reply is as before");
+}
+
+static void expect_nothing_written(const struct meter *meter)
+{
+    expect_number(0, meter->length, "length without a reply");
+    expect_number(0, meter->rate, "rate without a reply");
+    expect(lent_as_before(&meter->bank), "the bank without a reply is as before");
+    expect(lent_as_before(&meter->out), "out without a reply is as before");
+}
+
+uint32_t call_answer(struct meter *meter)
+{
+    struct numbers numbers;
+    uint32_t number;
+    const struct lent *sheet = &meter->sheet, *bank = &meter->bank;
+    memset(&numbers, 0xA5, sizeof numbers);
+    keep_all(meter);
+    number = cedarskein_answer(sheet->bytes, sheet->n, bank->bytes, bank->n, meter->frame.bytes, meter->frame.n,
+                               meter->out.bytes, meter->out.n, &numbers.length, &numbers.rate);
+    meter->length = numbers.length;
+    meter->rate = numbers.rate;
+    expect_left_alone(meter);
+    expect_numbers_alone(&numbers);
+    if (number == CEDARSKEIN_DONE) {
+        const uint8_t *bank_before = bank->before + (bank->bytes - bank->block);
+        expect_reply(meter, station_of(sheet->bytes, bank_before), rate_of(sheet->bytes, bank_before));
+    } else {
+        expect_nothing_written(meter);
+    }
+    return number;
+}

@@ -1,0 +1,36 @@
+/* The door's calls on lent memory. Whatever a test is about, each call here is held to what it must leave alone. */
+#ifndef CALLS_H
+#define CALLS_H
+
+#include "lent.h"
+
+struct meter {
+    struct lent sheet, bank, frame, out, words;
+    uint32_t length, rate; /* of the last frame */
+};
+
+/* A sheet of n bytes, a bank of the size that it asks for, made fresh (noise where the sheet is refused), the frame
+ * 01 03 01 01 00 02 with its check, an answer buffer of 100 bytes, and two posted bytes; all shifted alike. */
+void meter_fresh(struct meter *meter, const uint8_t *sheet, size_t n, size_t shift);
+
+/* A frame of n bytes, of which the last two become the check of those in front. */
+void meter_frame(struct meter *meter, const uint8_t *bytes, size_t n, size_t shift);
+void seal(uint8_t *frame, size_t n);
+
+/* The check value, by the host's own reckoning. */
+uint16_t check_of(const uint8_t *bytes, size_t n);
+
+/* The words of a bank or a sheet, and the rate that a bank holds, as cedarskein.h says to find it. */
+uint16_t word_at(const uint8_t *bytes, size_t place);
+void set_word(uint8_t *bytes, size_t place, uint16_t word);
+uint8_t station_of(const uint8_t *sheet, const uint8_t *bank);
+uint8_t rate_of(const uint8_t *sheet, const uint8_t *bank);
+
+uint32_t call_sheet_check(struct meter *meter);
+uint32_t call_bank_check(struct meter *meter);
+uint32_t call_bank_fresh(struct meter *meter);
+uint32_t call_post(struct meter *meter, uint32_t address);
+uint32_t call_set_mark(struct meter *meter, uint32_t mark);
+uint32_t call_answer(struct meter *meter);
+
+#endif

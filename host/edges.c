@@ -1,0 +1,151 @@
+/* Every lent buffer against memory that may not be touched, behind it and then in front of it: a read beyond a buffer is seen too. */
+#define _DEFAULT_SOURCE
+#include "calls.h"
+
+#include "cedarskein.h"
+#include "cedarskein_sheets.h"
+#include "expect.h"
+
+#include <signal.h>
+#include <stdlib.h>
+#include <string.h>
+#include <sys/mman.h>
+#include <unistd.h>
+
+#define PAGE 65536
+#define LONGEST_TRIED 300
+
+/* A buffer that ends, or begins, where the memory does. */
+struct edge {
+    uint8_t *room;
+    uint8_t *bytes;
+    size_t n;
+};
+
+static struct edge sheet, bank, frame, out, words;
+static int at_end;
+
+static void touched(int signal_number)
+{
+    (void)signal_number;
+    expect(0, "memory beyond a lent buffer was touched");
+    _exit(told("buffers at the edges of memory"));
+}
+
+static void edge_make(struct edge *edge)
+{
+    uint8_t *pages = (uint8_t *)mmap(NULL, 3 * PAGE, PROT_NONE, MAP_PRIVATE | MAP_ANONYMOUS, -1, 0);
+    if (pages == MAP_FAILED || mprotect(pages + PAGE, PAGE, PROT_READ | PROT_WRITE) != 0)
+        exit(2);
+    edge->room = pages + PAGE;
+}
+
+static void edge_lend(struct edge *edge, size_t n)
+{
+    edge->bytes = at_end ? edge->room + PAGE - n : edge->room;
+    edge->n = n;
+}
+
+static void edge_copy(struct edge *edge, const uint8_t *from, size_t n)
+{
+    edge_lend(edge, n);
+    memcpy(edge->bytes, from, n);
+}
+
+static void edge_noise(struct edge *edge, size_t n)
+{
+    size_t i;
+    edge_lend(edge, n);
+    for (i = 0; i < n; i++)
+        edge->bytes[i] = noise();
+}
+
+static uint32_t answer(void)
+{
+    uint32_t length, rate;
+    return cedarskein_answer(sheet.bytes, sheet.n, bank.bytes, bank.n, frame.bytes, frame.n, out.bytes, out.n, &length, &rate);
+}
+
+/* Noise behind each function in turn, with a right check: whatever it is answered, nothing beyond is touched. */
+static void frame_of(size_t n, uint8_t function)
+{
+    at_case("a frame of %lu bytes, function %02X, at the %s", (unsigned long)n, function, at_end ? "end" : "front");
+    edge_noise(&frame, n);
+    if (n > 1) {
+        frame.bytes[0] = station_of(sheet.bytes, bank.bytes);
+        frame.bytes[1] = function;
+    }
+    seal(frame.bytes, n);
+    expect(answer() <= CEDARSKEIN_SILENCE, "a reply or silence");
+}
+
+/* An area read whole, so that a step too far leaves the bank; and posted to, which gives a number by its access. */
+static void whole_area(uint16_t first, uint16_t count, uint32_t posted)
+{
+    uint8_t bytes[8] = { 0, 3 };
+    at_case("count %u from %04X on, at the %s", count, first, at_end ? "end" : "front");
+    bytes[0] = station_of(sheet.bytes, bank.bytes);
+    set_word(bytes, 1, first);
+    set_word(bytes, 2, count);
+    seal(bytes, sizeof bytes);
+    edge_copy(&frame, bytes, sizeof bytes);
+    expect_number(CEDARSKEIN_DONE, answer(), "a read");
+    edge_noise(&words, 2 * (size_t)count);
+    expect_number(posted, cedarskein_post(sheet.bytes, sheet.n, bank.bytes, bank.n, first, words.bytes, words.n), "a post");
+    expect_number(CEDARSKEIN_DONE, cedarskein_set_mark(sheet.bytes, sheet.n, bank.bytes, bank.n, 1), "the mark");
+}
+
+static void start(const uint8_t *bytes, size_t n)
+{
+    edge_copy(&sheet, bytes, n);
+    edge_noise(&bank, 2 * (size_t)word_at(bytes, 5) + 2);
+    edge_noise(&out, CEDARSKEIN_LEAST_OUT);
+    expect_number(CEDARSKEIN_DONE, cedarskein_bank_fresh(sheet.bytes, sheet.n, bank.bytes, bank.n), "a fresh bank");
+}
+
+static void frames(void)
+{
+    static const uint8_t functions[] = { 0x03, 0x05, 0x06, 0x10, 0x83 };
+    size_t i;
+    for (i = 0; i < sizeof functions * (LONGEST_TRIED + 1); i++)
+        frame_of(i / sizeof functions, functions[i % sizeof functions]);
+}
+
+/* Every length of the front of a sheet, and of noise with a sheet's first word. */
+static void sheets(void)
+{
+    size_t n;
+    for (n = 0; n <= CEDARSKEIN_LONGEST_SHEET; n++) {
+        edge_copy(&sheet, cedarskein_ux_sheet, n < CEDARSKEIN_UX_SHEET_SIZE ? n : CEDARSKEIN_UX_SHEET_SIZE - 1);
+        expect_number(2, cedarskein_sheet_check(sheet.bytes, sheet.n), "the front of a sheet");
+        edge_noise(&sheet, n);
+        expect_number(2, cedarskein_sheet_check(sheet.bytes, sheet.n), "noise");
+    }
+}
+
+static void run(int end)
+{
+    at_end = end;
+    start(cedarskein_ux_sheet, CEDARSKEIN_UX_SHEET_SIZE);
+    whole_area(0x0100, 23, 6);
+    whole_area(0x0200, 11, 0);
+    frames();
+    start(cedarskein_aswe_80_sheet, CEDARSKEIN_ASWE_80_SHEET_SIZE);
+    whole_area(0x00FF, 11, 6);
+    whole_area(0x01FF, 16, 0);
+    frames();
+    sheets();
+}
+
+int main(void)
+{
+    signal(SIGSEGV, touched);
+    edge_make(&sheet);
+    edge_make(&bank);
+    edge_make(&frame);
+    edge_make(&out);
+    edge_make(&words);
+    run(1);
+    run(0);
+    return told("buffers at the edges of memory");
+}

@@ -1,0 +1,82 @@
+/* Both headers, as C and as C++: the named sizes, the sheets, every function of the door, and where a bank holds rate and station. */
+#include "cedarskein.h"
+#include "cedarskein_sheets.h"
+
+#include <stdio.h>
+#include <string.h>
+
+static int failures;
+
+static void expect(int holds, const char *what)
+{
+    if (holds)
+        return;
+    failures++;
+    printf("FAILED: %s\n", what);
+}
+
+static void sheet_and_bank(const uint8_t *sheet, size_t sheet_n, size_t bank_n, const char *what)
+{
+    static uint8_t bank[CEDARSKEIN_LONGEST_BANK];
+    expect(cedarskein_sheet_check(sheet, sheet_n) == CEDARSKEIN_DONE, what);
+    expect(bank_n == (size_t)(2 * (256 * sheet[10] + sheet[11]) + 2), what);
+    expect(cedarskein_bank_fresh(sheet, sheet_n, bank, bank_n) == CEDARSKEIN_DONE, what);
+    expect(cedarskein_bank_check(sheet, sheet_n, bank, bank_n) == CEDARSKEIN_DONE, what);
+    expect(bank[2 * (256 * sheet[18] + sheet[19]) + 1] == 1, what);
+    expect(bank[2 * (256 * sheet[16] + sheet[17]) + 1] == 1, what);
+}
+
+static void sheets(void)
+{
+    sheet_and_bank(cedarskein_ux_sheet, CEDARSKEIN_UX_SHEET_SIZE, CEDARSKEIN_UX_BANK_SIZE, "UX15/25");
+    sheet_and_bank(cedarskein_aswe_40_sheet, CEDARSKEIN_ASWE_40_SHEET_SIZE, CEDARSKEIN_ASWE_40_BANK_SIZE, "AS-WE 40");
+    sheet_and_bank(cedarskein_aswe_50_sheet, CEDARSKEIN_ASWE_50_SHEET_SIZE, CEDARSKEIN_ASWE_50_BANK_SIZE, "AS-WE 50");
+    sheet_and_bank(cedarskein_aswe_80_sheet, CEDARSKEIN_ASWE_80_SHEET_SIZE, CEDARSKEIN_ASWE_80_BANK_SIZE, "AS-WE 80");
+}
+
+/* Rate and station are written in one frame: the reply goes out as before, and the bank holds the new ones where the header says. */
+static void next_rate_and_station(void)
+{
+    static const uint8_t *sheet = cedarskein_ux_sheet;
+    static uint8_t bank[CEDARSKEIN_UX_BANK_SIZE], out[CEDARSKEIN_LEAST_OUT];
+    uint8_t frame[13] = { 0x01, 0x10, 0x01, 0x0D, 0x00, 0x02, 0x04, 0x00, 0x00, 0x00, 0x07 };
+    uint16_t value = cedarskein_check_value(frame, 11);
+    uint32_t length = 0, rate = 0;
+    frame[11] = (uint8_t)(value & 0xFF);
+    frame[12] = (uint8_t)(value >> 8);
+    cedarskein_bank_fresh(sheet, CEDARSKEIN_UX_SHEET_SIZE, bank, sizeof bank);
+    expect(cedarskein_answer(sheet, CEDARSKEIN_UX_SHEET_SIZE, bank, sizeof bank, frame, sizeof frame, out, sizeof out, &length, &rate)
+               == CEDARSKEIN_DONE, "a reply");
+    expect(length == 8 && rate == 1 && out[0] == 1, "the reply goes out as before the frame");
+    expect(bank[2 * (256 * sheet[18] + sheet[19]) + 1] == 0, "the next rate");
+    expect(bank[2 * (256 * sheet[16] + sheet[17]) + 1] == 7, "the next station");
+}
+
+static void posted_and_marked(void)
+{
+    static uint8_t bank[CEDARSKEIN_UX_BANK_SIZE];
+    static const uint8_t words[2] = { 0x30, 0x39 };
+    const uint8_t *sheet = cedarskein_ux_sheet;
+    cedarskein_bank_fresh(sheet, CEDARSKEIN_UX_SHEET_SIZE, bank, sizeof bank);
+    expect(cedarskein_post(sheet, CEDARSKEIN_UX_SHEET_SIZE, bank, sizeof bank, 0x0200, words, sizeof words) == CEDARSKEIN_DONE, "post");
+    expect(bank[46] == 0x30 && bank[47] == 0x39, "the posted word lies upper byte first");
+    expect(cedarskein_set_mark(sheet, CEDARSKEIN_UX_SHEET_SIZE, bank, sizeof bank, 1) == CEDARSKEIN_DONE, "set_mark");
+    expect(bank[68] == 0 && bank[69] == 1, "the mark is the last word");
+}
+
+static void versions(void)
+{
+    char version[30];
+    sprintf(version, "%d.%d.%d", CEDARSKEIN_VERSION_MAJOR, CEDARSKEIN_VERSION_MINOR, CEDARSKEIN_VERSION_PATCH);
+    expect(strcmp(version, CEDARSKEIN_VERSION) == 0, "the version is said alike");
+    expect(cedarskein_check_take(cedarskein_check_start(), 0x01) == 0x807E, "check_take");
+}
+
+int main(void)
+{
+    sheets();
+    next_rate_and_station();
+    posted_and_marked();
+    versions();
+    return failures != 0;
+}

@@ -1,0 +1,147 @@
+/* Cedarskein: the registers of a Modbus gas flowmeter, for its C firmware.
+ *
+ * A sheet says which registers a meter has. A bank holds their words. The functions check both, make a bank fresh,
+ * post readings, set the alarm mark and answer frames. They call nothing, keep nothing between calls and use no heap:
+ * all that a call works on is lent to it, as a pointer and a number of bytes.
+ *
+ * "Document 01" is the paper that the functions are proved against.
+ *
+ * The bank
+ *
+ *   B words, then one word for the alarm mark: 2B + 2 bytes. B is word 5 of the sheet. Every word, of a sheet, of a bank
+ *   and of posted bytes, is two bytes, upper byte first. The word of place p is bytes 2p and 2p + 1 of the bank; an
+ *   area's addresses have the places from the area's first place upward. The mark is the last two bytes.
+ *
+ * The next station and the next rate
+ *
+ *   cedarskein_answer hands back the rate to send the reply at, the one before the frame. The frame may have changed the
+ *   rate or the station, so once the reply is out the line goes on at the rate that the bank now holds, 1 for 9600 and
+ *   0 for 4800. Word 9 of the sheet is its place, and word 8 the place of the station. In a sound bank both fit a byte:
+ *
+ *     rate    = bank[2 * (256 * sheet[18] + sheet[19]) + 1];
+ *     station = bank[2 * (256 * sheet[16] + sheet[17]) + 1];
+ *
+ * What the caller owes
+ *
+ *   The proofs hold for any bytes in the buffers, and for calls that keep to this:
+ *
+ *   - each pointer is valid for the number of bytes given with it; it may be null only where that number is 0;
+ *   - the pointers length and rate are valid and aligned; byte buffers may start at any address;
+ *   - what a call writes (bank, out, *length, *rate) overlaps nothing else that the call is lent: a frame is not answered
+ *     in its own buffer;
+ *   - while a call runs nobody else writes what it is lent, or reads what it writes: one bank is not used by two tasks,
+ *     or a task and an interrupt, at once. Calls on different banks may run at once, on one sheet too.
+ *
+ * A power cut
+ *
+ *   A call stores a bank's words one after another. A cut between the two words of a pair can leave a pair that is out of
+ *   its range: the bank is then not sound, and every call on it but cedarskein_bank_fresh answers 4 from then on, which
+ *   the line sees as silence. A cut between two items leaves half of a write. So it is not enough that the bank lies in
+ *   memory which outlasts a cut. Keep a last good copy:
+ *
+ *   - the bank at work lies in plain memory; two copies lie in memory that outlasts a cut, each followed by its check
+ *     value (cedarskein_check_value over the copy's bytes);
+ *   - after each call that answered 0, where the bank differs from the first copy, write the first copy and its check
+ *     value, and when that is done the second; then send the reply, which so tells of what is kept. An error reply
+ *     counts: it answers 0 too, and may have stored part. Readings that are posted again after start-up can wait;
+ *   - at start-up put the first copy into the bank where its check value agrees and cedarskein_bank_check answers 0,
+ *     else the second on the same terms, and write the other copy anew. A cut spoils one copy at most: where it hit the
+ *     first, the second is the bank before that write, and where it hit the second, the first is the bank after it;
+ *   - where neither copy is good, cedarskein_bank_fresh is the last resort: every setting is then at its low bound, at
+ *     station 1 and 9600, and the meter has to be set up again. Report it.
+ *
+ *   host/power_cut.c has this as C, and tries a cut at every byte.
+ */
+#ifndef CEDARSKEIN_H
+#define CEDARSKEIN_H
+
+#include <stddef.h>
+#include <stdint.h>
+
+#ifdef __cplusplus
+extern "C" {
+#endif
+
+#define CEDARSKEIN_VERSION_MAJOR 1
+#define CEDARSKEIN_VERSION_MINOR 0
+#define CEDARSKEIN_VERSION_PATCH 0
+#define CEDARSKEIN_VERSION "1.0.0"
+
+#define CEDARSKEIN_LONGEST_FRAME 100 /* bytes, its check included; a longer frame gets silence */
+#define CEDARSKEIN_LEAST_OUT 100     /* bytes that out must have at least, for the longest reply */
+#define CEDARSKEIN_LONGEST_SHEET 856 /* bytes of a sheet with 8 areas and 64 items */
+#define CEDARSKEIN_LONGEST_BANK 514  /* bytes of a bank with 256 words and the mark */
+
+/* The numbers that a call hands back, and what the firmware does then. With any number but 0 the bank and out are as they
+ * were. Where several would hold, the first of 2, 3, 4, 5, 7, 6 is told. */
+enum cedarskein_number {
+    /* Done. Keep the bank (see "A power cut"). For a frame: then send the first *length bytes of out at *rate, and go on at
+     * the bank's rate. An error reply is a reply. */
+    CEDARSKEIN_DONE = 0,
+    /* Silence: send nothing, and wait for the next frame. */
+    CEDARSKEIN_SILENCE = 1,
+    /* The sheet breaks a rule: it is damaged or not a sheet. Stay off the line; nothing but a good sheet helps. */
+    CEDARSKEIN_SHEET_BREAKS_RULE = 2,
+    /* The bank has not 2B + 2 bytes: it belongs to another sheet, or bank_n is wrong. Mend the program; after a change of
+     * sheet, make a new bank fresh. */
+    CEDARSKEIN_BANK_MISFITS = 3,
+    /* The bank is not sound: an item is out of its range, or the mark is neither 0 nor 1. No call here brings that about,
+     * but a power cut or a stray write can. It does not pass: every frame is refused from now on. Put the last good copy
+     * back, or make the bank fresh (see "A power cut"). Setting the mark does not mend a bad mark. */
+    CEDARSKEIN_BANK_NOT_SOUND = 4,
+    /* out has under 100 bytes, also where the frame would get silence. Lend a larger one. */
+    CEDARSKEIN_SMALL_OUT = 5,
+    /* Not all posted addresses lie in access 1 (read only) areas; none of the words is stored. Mend the address or the
+     * number of words. */
+    CEDARSKEIN_NOT_READ_ONLY = 6,
+    /* The posted bytes are none or odd, or the mark is neither 0 nor 1. Mend the call. */
+    CEDARSKEIN_BAD_INPUT = 7
+};
+
+/* The check value as a running state: the state before any byte. Touches no memory. */
+uint16_t cedarskein_check_start(void);
+
+/* Takes a state and one byte more, and gives back the state after it. After the last byte the state is the check value;
+ * on the line it goes out lower byte first. Touches no memory. */
+uint16_t cedarskein_check_take(uint16_t state, uint8_t byte);
+
+/* Takes any bytes and gives back their check value. Writes nothing. */
+uint16_t cedarskein_check_value(const uint8_t *bytes, size_t bytes_n);
+
+/* Takes what may be a sheet, of any length. Gives back 0 where it keeps every rule, else 2. Writes nothing. */
+uint32_t cedarskein_sheet_check(const uint8_t *sheet, size_t sheet_n);
+
+/* Takes a sheet and what may be a bank of it, as at start-up. Gives back 0 where the bank is sound, else the first of 2, 3
+ * and 4. Writes nothing. */
+uint32_t cedarskein_bank_check(const uint8_t *sheet, size_t sheet_n, const uint8_t *bank, size_t bank_n);
+
+/* Makes a bank fresh, whatever it held: each item at its low bound, but station 1 and rate 1 (9600); read-only words 0; the
+ * mark 0. Gives back 0, else the first of 2 and 3; the bank is then as it was. This is not the maker's factory setting. */
+uint32_t cedarskein_bank_fresh(const uint8_t *sheet, size_t sheet_n, uint8_t *bank, size_t bank_n);
+
+/* Posts readings: takes words, upper byte first, and stores them from an address upward. Gives back 0, else the first of
+ * 2, 3, 4, 7 and 6; the bank is then as it was. With 0 only the posted words of the bank change. An address above FFFF, or
+ * a run past it, is 6. */
+uint32_t cedarskein_post(const uint8_t *sheet, size_t sheet_n, uint8_t *bank, size_t bank_n, uint32_t address,
+                         const uint8_t *words, size_t words_n);
+
+/* Sets the alarm mark to 0 or 1. Gives back 0, else the first of 2, 3, 4 and 7; the bank is then as it was. With 0 only the
+ * mark changes. The line clears the mark by function 05, where the sheet allows it. */
+uint32_t cedarskein_set_mark(const uint8_t *sheet, size_t sheet_n, uint8_t *bank, size_t bank_n, uint32_t mark);
+
+/* Answers one frame, its check included, as it came from the line. Gives back
+ *   0: the reply is the first *length bytes of out (5 to 99), its check included, to be sent at *rate. The bytes of out
+ *      behind it are as they were. The bank has what the frame stored; with an error reply, the items in front of the
+ *      first bad one;
+ *   1: silence; *length and *rate are 0, and the bank and out are as they were;
+ *   the first of 2, 3, 4 and 5: the same.
+ * *length and *rate are written by every call. *rate is a rate only where the number is 0: 1 for 9600, 0 for 4800.
+ * The sheet and the frame are only read. */
+uint32_t cedarskein_answer(const uint8_t *sheet, size_t sheet_n, uint8_t *bank, size_t bank_n, const uint8_t *frame,
+                           size_t frame_n, uint8_t *out, size_t out_n, uint32_t *length, uint32_t *rate);
+
+#ifdef __cplusplus
+}
+#endif
+
+#endif
