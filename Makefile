@@ -1,8 +1,11 @@
 # Cedarskein: `make test` is the whole verdict. `make` alone says what there is.
 KIT := rattle-kit-5b logic 064da1ca440f63e7
 
-.PHONY: help test kit claims layout
+.PHONY: help test kit claims layout demo demo-check meter interop
 help: kit
+	@echo "make demo    a new limit comes back with error 03: what is in the meter now, and why"
+	@echo "make meter   a simulated meter on a pseudo-terminal; SHEET=FILE another sheet, LINK=NAME a link to it"
+	@echo "make interop two Modbus masters, mbpoll and pymodbus's client, at the simulated meter"
 	@echo "make test    the names that docs/CLAIMS.md cites, the layout of the files, then the gate: every proof, every must-fail edit, every program"
 
 # The proofs are held to one kit. Another may well prove them too, but its verdict is not the one recorded here.
@@ -17,5 +20,15 @@ claims:
 layout:
 	@rt fmt --check
 
+# The gate makes target/ anew, so the story is played after it, with the library that it proved. It is silent where the story holds.
 test: kit claims layout
-	@exec rt ci
+	@rt ci
+	@$(MAKE) -s demo-check
+
+demo demo-check interop:
+	@$(MAKE) -s -C demo $@
+
+SHEET := sheets/ux15_25.sheet
+LINK :=
+meter:
+	@$(MAKE) -s -C demo meter SHEET=$(abspath $(SHEET)) LINK=$(abspath $(LINK))
