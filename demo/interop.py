@@ -1,0 +1,331 @@
+#!/usr/bin/python3
+"""Two masters that know nothing of this repository, mbpoll and pymodbus's client, at the simulated meter.
+
+  interop.py SHEET METER...    METER is the command that runs the simulated meter; the steps are those of the UX15/25 sheet
+
+Each step has its expected result. A step that comes out otherwise is shown with both, and the exit status is 1.
+"""
+import os
+import re
+import select
+import signal
+import subprocess
+import sys
+import tempfile
+import termios
+import time
+
+from pymodbus.client import ModbusSerialClient
+from pymodbus.utilities import computeCRC
+
+TIMEOUT = 1  # second that a master waits, a whole number for pymodbus; the meter replies within milliseconds
+RATE = {9600: termios.B9600, 4800: termios.B4800}
+
+
+def words(values):
+    return " ".join(f"{value:04X}" for value in values)
+
+
+class Meter:
+    """The simulated meter, with a fresh bank, on a line named by a link."""
+
+    def __init__(self, command, sheet):
+        self.folder = tempfile.TemporaryDirectory()
+        self.link = os.path.join(self.folder.name, "meter")
+        self.screen = open(os.path.join(self.folder.name, "screen"), "w+", encoding="ascii")
+        self.process = subprocess.Popen([*command, sheet, self.link], stdout=self.screen)
+        self.wait_for_line()
+
+    def wait_for_line(self):
+        deadline = time.monotonic() + 10
+        while "meter on" not in self.lines()[-1]:
+            if self.process.poll() is not None or time.monotonic() > deadline:
+                sys.exit("the simulated meter did not start")
+            time.sleep(0.02)
+
+    def lines(self):
+        with open(self.screen.name, encoding="ascii") as screen:
+            return screen.read().splitlines() or [""]
+
+    def last_line(self):
+        return " ".join(self.lines()[-1].split())
+
+    def switch_off(self):
+        """Ctrl-C: how the meter ended, and whether its link is gone."""
+        self.process.send_signal(signal.SIGINT)
+        status = self.process.wait(timeout=10)
+        link = "link left behind" if os.path.lexists(self.link) else "link gone"
+        return f"status {status}, {link}"
+
+
+class Mbpoll:
+    """One run of the command mbpoll for each frame."""
+
+    NAME = "mbpoll"
+    ERRORS = {"Illegal function": "error 1", "Illegal data address": "error 2", "Illegal data value": "error 3",
+              "Connection timed out": "silence"}
+
+    def __init__(self, link):
+        self.link = link
+        self.station = 1
+        self.rate = 9600
+
+    def run(self, table, address, *words_of_command):
+        """What mbpoll says, -0 so that it counts registers from 0 as the meter's documents do."""
+        command = ["mbpoll", "-m", "rtu", "-a", str(self.station), "-b", str(self.rate), "-P", "none", "-0", "-1", "-q",
+                   "-o", str(TIMEOUT), "-t", table, "-r", str(address)]
+        done = subprocess.run([*command, *words_of_command], capture_output=True, text=True, check=False)
+        for message, result in self.ERRORS.items():
+            if message in done.stderr:
+                return result
+        return done.stdout if done.returncode == 0 else f"{done.stdout} {done.stderr}"
+
+    def read(self, address, count, table="4:hex"):
+        said = self.run(table, address, "-c", str(count), self.link)
+        values = re.findall(r"^\[\d+\]:\s+0x([0-9A-F]{4})", said, re.M)
+        return " ".join(values) or said
+
+    def read_input(self, address, count):
+        return self.read(address, count, "3:hex")
+
+    def write(self, address, *values):
+        said = self.run("4", address, self.link, *map(str, values))
+        return "done" if f"Written {len(values)} references." in said else said
+
+    def clear(self, address, value):
+        said = self.run("0", address, self.link, str(value))
+        return "done" if "Written 1 references." in said else said
+
+    def close(self):
+        pass
+
+
+class Pymodbus:
+    """pymodbus's client. It is connected anew when the rate has changed."""
+
+    NAME = "pymodbus"
+
+    def __init__(self, link):
+        self.link = link
+        self.station = 1
+        self.connect(9600)
+
+    def connect(self, rate):
+        self.connected = ModbusSerialClient(self.link, baudrate=rate, bytesize=8, parity="N", stopbits=1, timeout=TIMEOUT,
+                                            retries=0)
+        self.connected.connect()
+
+    @property
+    def rate(self):
+        return self.connected.params.baudrate
+
+    @rate.setter
+    def rate(self, rate):
+        self.close()
+        self.connect(rate)
+
+    @staticmethod
+    def result(reply, good):
+        if not reply.isError():
+            return good(reply)
+        code = getattr(reply, "exception_code", None)
+        return f"error {code}" if code else "silence"
+
+    def read(self, address, count):
+        reply = self.connected.read_holding_registers(address, count, slave=self.station)
+        return self.result(reply, lambda good: words(good.registers))
+
+    def read_input(self, address, count):
+        reply = self.connected.read_input_registers(address, count, slave=self.station)
+        return self.result(reply, lambda good: words(good.registers))
+
+    def write(self, address, *values):
+        if len(values) == 1:
+            reply = self.connected.write_register(address, values[0], slave=self.station)
+        else:
+            reply = self.connected.write_registers(address, list(values), slave=self.station)
+        return self.result(reply, lambda good: "done")
+
+    def clear(self, address, value):
+        reply = self.connected.write_coil(address, bool(value), slave=self.station)
+        return self.result(reply, lambda good: "done")
+
+    def close(self):
+        self.connected.close()
+
+
+def with_check(hex_bytes):
+    frame = bytes.fromhex(hex_bytes)
+    return frame + computeCRC(frame).to_bytes(2, "big")  # this library hands back the check as it is sent
+
+
+def take_reply(line):
+    """The bytes that come until none has come for a while."""
+    reply = b""
+    while select.select([line], [], [], 0.2)[0]:
+        reply += os.read(line, 256)
+    return reply
+
+
+def send_raw(link, frame):
+    """A frame as no master would send it: the bytes that come back, in hex."""
+    line = os.open(link, os.O_RDWR | os.O_NOCTTY)
+    mode = termios.tcgetattr(line)
+    mode[4] = mode[5] = RATE[9600]
+    termios.tcsetattr(line, termios.TCSANOW, mode)
+    os.write(line, frame)
+    reply = take_reply(line)
+    os.close(line)
+    return reply.hex(" ").upper() or "silence"
+
+
+def damaged(hex_bytes):
+    frame = bytearray(with_check(hex_bytes))
+    frame[4] ^= 0x10
+    return bytes(frame)
+
+
+def judge_readings(said):
+    """The read-only run: what the simulated flow can be, or the words themselves."""
+    run = [int(word, 16) for word in said.split()] if re.fullmatch(r"([0-9A-F]{4} ?){11}", said) else [0] * 11
+    flow, pressure, temperature, fault = run[0] << 16 | run[1], run[2], run[3], run[10]
+    positive = run[4] << 32 | run[5] << 16 | run[6]
+    trip = run[7] << 32 | run[8] << 16 | run[9]
+    sound = 200 <= flow <= 800 and 150 <= temperature <= 180 and positive - trip == 1234567 and pressure == 0 and fault == 0
+    return "readings" if sound else said
+
+
+def at_station(master, station, deed):
+    master.station = station
+    return deed()
+
+
+def at_rate(master, rate, deed):
+    master.rate = rate
+    return deed()
+
+
+FRESH = "FFF6 0000 0000 0000 0000 0000 0000 0000 0000 0001 0000 0000 0000 0001 0001" + 8 * " 0000"
+
+
+def steps_of_reading(master):
+    return [
+        ("the 23 registers of a fresh bank", lambda: master.read(0x0100, 23), FRESH),
+        ("24 registers, one more than there are", lambda: master.read(0x0100, 24), "error 2"),
+        ("the read-only run, 0200 to 020A", lambda: judge_readings(master.read(0x0200, 11)), "readings"),
+        ("function 04, which is not allowed", lambda: master.read_input(0x0100, 1), "error 1"),
+    ]
+
+
+def steps_of_writing(master):
+    return [
+        ("0101 = 0004", lambda: master.write(0x0101, 0x0004), "done"),
+        (".. is read", lambda: master.read(0x0101, 1), "0004"),
+        ("010F = 0001 1388, two registers", lambda: master.write(0x010F, 0x0001, 0x1388), "done"),
+        (".. are read", lambda: master.read(0x010F, 2), "0001 1388"),
+        ("0100 = FFFB, minus five degrees", lambda: master.write(0x0100, 0xFFFB), "done"),
+        (".. is read", lambda: master.read(0x0100, 1), "FFFB"),
+        ("0100 = FFF5, minus eleven, too low", lambda: master.write(0x0100, 0xFFF5), "error 3"),
+        ("0100 = 003D, 61, too high", lambda: master.write(0x0100, 0x003D), "error 3"),
+        (".. FFFB is read still", lambda: master.read(0x0100, 1), "FFFB"),
+        ("0101 = 0005, too high", lambda: master.write(0x0101, 0x0005), "error 3"),
+        (".. 0004 is read still", lambda: master.read(0x0101, 1), "0004"),
+        ("0200, which is read only", lambda: master.write(0x0200, 0x0001), "error 2"),
+        ("0116 and 0117, which is in no area", lambda: master.write(0x0116, 0x0001, 0x0001), "error 2"),
+    ]
+
+
+def steps_of_pairs(master):
+    return [
+        ("0103 = 0000 9876, a pair", lambda: master.write(0x0103, 0x0000, 0x9876), "done"),
+        ("0103 = 0001, its upper half: 00019876 is too high", lambda: master.write(0x0103, 0x0001), "error 3"),
+        (".. 0000 9876 is read still", lambda: master.read(0x0103, 2), "0000 9876"),
+        ("0104 = 1388, its lower half", lambda: master.write(0x0104, 0x1388), "done"),
+        ("0103 = 0001, its upper half: 00011388 is good", lambda: master.write(0x0103, 0x0001), "done"),
+        (".. 0001 1388 is read", lambda: master.read(0x0103, 2), "0001 1388"),
+        ("0103 = 0001 86A0, too high", lambda: master.write(0x0103, 0x0001, 0x86A0), "error 3"),
+        (".. 0001 1388 is read still", lambda: master.read(0x0103, 2), "0001 1388"),
+        ("0103 = 0001 869F, the highest", lambda: master.write(0x0103, 0x0001, 0x869F), "done"),
+        ("0101 = 0003 0002 0000, the second is bad", lambda: master.write(0x0101, 0x0003, 0x0002, 0x0000), "error 3"),
+        (".. the first is stored, no more", lambda: master.read(0x0101, 4), "0003 0000 0001 869F"),
+    ]
+
+
+def steps_of_clearing(master, meter):
+    return [
+        ("the alarm clear with value FF00", lambda: master.clear(0x0300, 1), "error 3"),
+        ("the alarm clear at 0301", lambda: master.clear(0x0301, 0), "error 2"),
+        ("the alarm clear", lambda: master.clear(0x0300, 0), "done"),
+        (".. the meter's screen tells of it", meter.last_line,
+         "station 1 05 clear 0300 value 0000 reply of 8 bytes at 9600; the alarm mark was 1, is 0"),
+    ]
+
+
+def steps_of_raw_frames(master, meter):
+    def read():
+        return master.read(0x0101, 2)
+
+    return [
+        ("raw: function 83", lambda: send_raw(meter.link, with_check("01 83 01 01 00 02")), with_check("01 83 01").hex(" ").upper()),
+        (".. the next read is as ever", read, "0003 0000"),
+        ("raw: 06 with a byte too many", lambda: send_raw(meter.link, with_check("01 06 01 01 00 01 00")), "silence"),
+        (".. the next read is as ever", read, "0003 0000"),
+        ("raw: 06 with one bit turned", lambda: send_raw(meter.link, damaged("01 06 01 01 00 01")), "silence"),
+        ("raw: 06 for station 2", lambda: send_raw(meter.link, with_check("02 06 01 01 00 01")), "silence"),
+        ("raw: 101 bytes", lambda: send_raw(meter.link, with_check("01 10" + 97 * " 00")), "silence"),
+        (".. the next read is as ever", read, "0003 0000"),
+    ]
+
+
+def steps_of_station_and_rate(master):
+    def read():
+        return master.read(0x010D, 2)
+
+    return [
+        ("010E = 0002, the station", lambda: master.write(0x010E, 0x0002), "done"),
+        (".. it no longer answers at 1", read, "silence"),
+        (".. it answers at 2", lambda: at_station(master, 2, read), "0001 0002"),
+        ("010E = 0003 0002, the second is bad: error from station 2", lambda: master.write(0x010E, 0x0003, 0x0002), "error 3"),
+        (".. it answers at 3", lambda: at_station(master, 3, read), "0001 0003"),
+        ("010D = 0000, the rate: reply at 9600", lambda: master.write(0x010D, 0x0000), "done"),
+        (".. it no longer hears 9600", read, "silence"),
+        (".. it answers at 4800", lambda: at_rate(master, 4800, read), "0000 0003"),
+    ]
+
+
+def play(name, steps):
+    """How many steps came out otherwise than expected."""
+    differences = 0
+    for text, deed, expected in steps:
+        result = deed()
+        print(f"{name:9} {text}: {result}", flush=True)
+        if result != expected:
+            differences += 1
+            print(f"DIFFERS   {name}: {text}: expected {expected}", flush=True)
+    return differences
+
+
+def play_master(kind, command, sheet):
+    meter = Meter(command, sheet)
+    master = kind(meter.link)
+    steps = [
+        *steps_of_reading(master), *steps_of_writing(master), *steps_of_pairs(master), *steps_of_clearing(master, meter),
+        *steps_of_raw_frames(master, meter), *steps_of_station_and_rate(master),
+    ]
+    differences = play(kind.NAME, steps)
+    master.close()
+    differences += play("meter", [("Ctrl-C", meter.switch_off, "status 0, link gone")])
+    return len(steps) + 1, differences
+
+
+def main():
+    if len(sys.argv) < 3:
+        sys.exit(__doc__)
+    played = [play_master(kind, sys.argv[2:], sys.argv[1]) for kind in (Mbpoll, Pymodbus)]
+    differences = sum(count for _, count in played)
+    print(f"{sum(count for count, _ in played)} steps, {differences} came out otherwise than expected")
+    return 1 if differences else 0
+
+
+if __name__ == "__main__":
+    sys.exit(main())
