@@ -1,10 +1,13 @@
 #!/usr/bin/python3
 """Two masters that know nothing of this repository, mbpoll and pymodbus's client, at the simulated meter.
 
-  interop.py SHEET METER...    METER is the command that runs the simulated meter; the steps are those of the UX15/25 sheet
+  interop.py [--run RUN] SHEET METER              plays the steps, which are those of the UX15/25 sheet
+  interop.py [--run RUN] --wrong SHEET METER...   plays them at meters that are wrong: each step must fail at one of these
 
 Each step has its expected result. A step that comes out otherwise is shown with both, and the exit status is 1.
+RUN is put in front of METER where it needs an emulator.
 """
+import argparse
 import os
 import re
 import select
@@ -294,37 +297,66 @@ def steps_of_station_and_rate(master):
 
 
 def play(name, steps):
-    """How many steps came out otherwise than expected."""
-    differences = 0
-    for text, deed, expected in steps:
+    """The numbers of the steps that came out otherwise than expected."""
+    differing = set()
+    for number, (text, deed, expected) in enumerate(steps):
         result = deed()
         print(f"{name:9} {text}: {result}", flush=True)
         if result != expected:
-            differences += 1
+            differing.add(number)
             print(f"DIFFERS   {name}: {text}: expected {expected}", flush=True)
-    return differences
+    return differing
 
 
 def play_master(kind, command, sheet):
+    """The steps with one master at a meter of its own: their texts, and the numbers of those that differ."""
     meter = Meter(command, sheet)
     master = kind(meter.link)
     steps = [
         *steps_of_reading(master), *steps_of_writing(master), *steps_of_pairs(master), *steps_of_clearing(master, meter),
         *steps_of_raw_frames(master, meter), *steps_of_station_and_rate(master),
+        ("the meter is switched off", lambda: (master.close(), meter.switch_off())[1], "status 0, link gone"),
     ]
-    differences = play(kind.NAME, steps)
-    master.close()
-    differences += play("meter", [("Ctrl-C", meter.switch_off, "status 0, link gone")])
-    return len(steps) + 1, differences
+    differing = play(kind.NAME, steps)
+    return [f"{kind.NAME}: {text}" for text, _, _ in steps], differing
+
+
+def play_all(command, sheet):
+    """Every step, and every step that differs, as (number, text)."""
+    every, differing = [], []
+    for kind in (Mbpoll, Pymodbus):
+        texts, numbers = play_master(kind, command, sheet)
+        differing += [(len(every) + number, texts[number]) for number in numbers]
+        every += list(enumerate(texts, len(every)))
+    return every, differing
+
+
+def judge(every, differing):
+    print(f"{len(every)} steps, {len(differing)} came out otherwise than expected")
+    return 1 if differing else 0
+
+
+def judge_wrong(every, differing):
+    """A step that agrees with every wrong meter could not fail."""
+    idle = [text for number, text in every if (number, text) not in differing]
+    for text in idle:
+        print(f"CANNOT FAIL  {text}")
+    print(f"{len(every)} steps, {len(every) - len(idle)} failed at one of the wrong meters")
+    return 1 if idle else 0
 
 
 def main():
-    if len(sys.argv) < 3:
-        sys.exit(__doc__)
-    played = [play_master(kind, sys.argv[2:], sys.argv[1]) for kind in (Mbpoll, Pymodbus)]
-    differences = sum(count for _, count in played)
-    print(f"{sum(count for count, _ in played)} steps, {differences} came out otherwise than expected")
-    return 1 if differences else 0
+    words_given = argparse.ArgumentParser(description=__doc__, formatter_class=argparse.RawDescriptionHelpFormatter)
+    words_given.add_argument("--run", default="")
+    words_given.add_argument("--wrong", action="store_true", help="each step must fail at one of the meters")
+    words_given.add_argument("sheet")
+    words_given.add_argument("meters", nargs="+")
+    given = words_given.parse_args()
+    every, differing = [], []
+    for meter in given.meters:
+        every, found = play_all([*given.run.split(), meter], given.sheet)
+        differing += found
+    return judge_wrong(every, differing) if given.wrong else judge(every, differing)
 
 
 if __name__ == "__main__":
