@@ -20,11 +20,10 @@ claims:
 layout:
 	@rt fmt --check
 
-# The gate makes target/ anew, so the story is played after it, with the library that it proved. It is silent where the story holds.
-test: kit claims layout
-	@rt ci
-	@$(MAKE) -s demo-check
+test: kit claims layout demo-check
+	@exec rt ci
 
+# The story is played ahead of the gate, which removes target/ and the library with it.
 demo demo-check interop:
 	@$(MAKE) -s -C demo $@
 
