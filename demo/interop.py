@@ -22,6 +22,7 @@ from pymodbus.client import ModbusSerialClient
 from pymodbus.utilities import computeCRC
 
 TIMEOUT = 1  # second that a master waits, a whole number for pymodbus; the meter replies within milliseconds
+README = os.path.join(os.path.dirname(os.path.abspath(__file__)), "..", "README.md")
 RATE = {9600: termios.B9600, 4800: termios.B4800}
 
 
@@ -64,7 +65,6 @@ class Meter:
 class Mbpoll:
     """One run of the command mbpoll for each frame."""
 
-    NAME = "mbpoll"
     ERRORS = {"Illegal function": "error 1", "Illegal data address": "error 2", "Illegal data value": "error 3",
               "Connection timed out": "silence"}
 
@@ -99,14 +99,9 @@ class Mbpoll:
         said = self.run("0", address, self.link, str(value))
         return "done" if "Written 1 references." in said else said
 
-    def close(self):
-        pass
-
 
 class Pymodbus:
     """pymodbus's client. It is connected anew when the rate has changed."""
-
-    NAME = "pymodbus"
 
     def __init__(self, link):
         self.link = link
@@ -296,6 +291,27 @@ def steps_of_station_and_rate(master):
     ]
 
 
+def run_command(command, link):
+    """What a command of the README writes at this meter, its blanks made one."""
+    done = subprocess.run(command.replace("/tmp/meter", link).split(), stdout=subprocess.PIPE, stderr=subprocess.STDOUT, text=True,
+                          check=False)
+    return " ".join(done.stdout.split())
+
+
+def steps_of_readme(meter):
+    """The README's commands with what it shows below each, and the lines that it shows of the meter's screen."""
+    with open(README, encoding="utf-8") as page:
+        text = page.read()
+    commands = re.findall(r"^    \$ (mbpoll .*)\n((?:    (?!\$).*\n)*)", text, re.M)
+    screen = re.findall(r"^    (station .*)$", text, re.M)
+    if not commands or not screen:
+        sys.exit("README.md shows no mbpoll command, or nothing of the meter's screen")
+    return [
+        *((command, lambda command=command: run_command(command, meter.link), " ".join(shown.split())) for command, shown in commands),
+        ("the meter's screen", lambda: "\n".join(meter.lines()[-len(screen):]), "\n".join(screen)),
+    ]
+
+
 def play(name, steps):
     """The numbers of the steps that came out otherwise than expected."""
     differing = set()
@@ -308,24 +324,32 @@ def play(name, steps):
     return differing
 
 
-def play_master(kind, command, sheet):
-    """The steps with one master at a meter of its own: their texts, and the numbers of those that differ."""
-    meter = Meter(command, sheet)
-    master = kind(meter.link)
-    steps = [
+def steps_of_master(master, meter):
+    return [
         *steps_of_reading(master), *steps_of_writing(master), *steps_of_pairs(master), *steps_of_clearing(master, meter),
         *steps_of_raw_frames(master, meter), *steps_of_station_and_rate(master),
-        ("the meter is switched off", lambda: (master.close(), meter.switch_off())[1], "status 0, link gone"),
     ]
-    differing = play(kind.NAME, steps)
-    return [f"{kind.NAME}: {text}" for text, _, _ in steps], differing
+
+
+PARTS = {
+    "mbpoll": lambda meter: steps_of_master(Mbpoll(meter.link), meter),
+    "pymodbus": lambda meter: steps_of_master(Pymodbus(meter.link), meter),
+    "README": steps_of_readme,
+}
+
+
+def play_part(name, command, sheet):
+    """The steps of one part at a meter of its own: their texts, and the numbers of those that differ."""
+    meter = Meter(command, sheet)
+    steps = [*PARTS[name](meter), ("the meter is switched off", meter.switch_off, "status 0, link gone")]
+    return [f"{name}: {text}" for text, _, _ in steps], play(name, steps)
 
 
 def play_all(command, sheet):
     """Every step, and every step that differs, as (number, text)."""
     every, differing = [], []
-    for kind in (Mbpoll, Pymodbus):
-        texts, numbers = play_master(kind, command, sheet)
+    for name in PARTS:
+        texts, numbers = play_part(name, command, sheet)
         differing += [(len(every) + number, texts[number]) for number in numbers]
         every += list(enumerate(texts, len(every)))
     return every, differing
