@@ -1,11 +1,8 @@
 # Cedarskein: `make test` is the whole verdict. `make` alone says what there is.
 KIT := rattle-kit-5b logic 064da1ca440f63e7
 
-.PHONY: help test kit claims layout demo demo-check meter interop
+.PHONY: help test kit claims layout
 help: kit
-	@echo "make demo    a new limit comes back with error 03: what is in the meter now, and why"
-	@echo "make meter   a simulated meter on a pseudo-terminal; SHEET=FILE another sheet, LINK=NAME a link to it"
-	@echo "make interop two Modbus masters, mbpoll and pymodbus's client, at the simulated meter"
 	@echo "make test    the names that docs/CLAIMS.md cites, the layout of the files, then the gate: every proof, every must-fail edit, every program"
 
 # The proofs are held to one kit. Another may well prove them too, but its verdict is not the one recorded here.
@@ -20,14 +17,23 @@ claims:
 layout:
 	@rt fmt --check
 
-test: kit claims layout demo-check
+test: kit claims layout
 	@exec rt ci
 
-# The story is played ahead of the gate, which removes target/ and the library with it.
-demo demo-check interop:
+# The story, the simulated meter and the masters at it. The story is played ahead of the gate, which removes target/ and the library with it.
+.PHONY: demo demo-check meter interop help-demo
+help: help-demo
+test: demo-check
+
+help-demo:
+	@echo "make demo    a new limit comes back with error 03: what is in the meter now, and why"
+	@echo "make meter   a simulated meter on a pseudo-terminal; SHEET=FILE is its sheet, LINK=NAME another name for its line"
+	@echo "make interop two Modbus masters, mbpoll and pymodbus's client, at the simulated meter"
+
+demo demo-check interop: kit
 	@$(MAKE) -s -C demo $@
 
 SHEET := sheets/ux15_25.sheet
 LINK :=
-meter:
+meter: kit
 	@$(MAKE) -s -C demo meter SHEET=$(abspath $(SHEET)) LINK=$(abspath $(LINK))

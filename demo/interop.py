@@ -10,24 +10,15 @@ RUN is put in front of METER where it needs an emulator.
 import argparse
 import os
 import re
-import select
 import signal
 import subprocess
 import sys
 import tempfile
-import termios
 import time
 
-from pymodbus.client import ModbusSerialClient
-from pymodbus.utilities import computeCRC
+from masters import Mbpoll, Pymodbus, damaged, send_raw, with_check
 
-TIMEOUT = 1  # second that a master waits, a whole number for pymodbus; the meter replies within milliseconds
 README = os.path.join(os.path.dirname(os.path.abspath(__file__)), "..", "README.md")
-RATE = {9600: termios.B9600, 4800: termios.B4800}
-
-
-def words(values):
-    return " ".join(f"{value:04X}" for value in values)
 
 
 class Meter:
@@ -39,6 +30,13 @@ class Meter:
         self.screen = open(os.path.join(self.folder.name, "screen"), "w+", encoding="ascii")
         self.process = subprocess.Popen([*command, sheet, self.link], stdout=self.screen)
         self.wait_for_line()
+
+    def __enter__(self):
+        return self
+
+    def __exit__(self, *_):
+        if self.process.poll() is None:
+            self.process.kill()
 
     def wait_for_line(self):
         deadline = time.monotonic() + 10
@@ -60,127 +58,6 @@ class Meter:
         status = self.process.wait(timeout=10)
         link = "link left behind" if os.path.lexists(self.link) else "link gone"
         return f"status {status}, {link}"
-
-
-class Mbpoll:
-    """One run of the command mbpoll for each frame."""
-
-    ERRORS = {"Illegal function": "error 1", "Illegal data address": "error 2", "Illegal data value": "error 3",
-              "Connection timed out": "silence"}
-
-    def __init__(self, link):
-        self.link = link
-        self.station = 1
-        self.rate = 9600
-
-    def run(self, table, address, *words_of_command):
-        """What mbpoll says, -0 so that it counts registers from 0 as the meter's documents do."""
-        command = ["mbpoll", "-m", "rtu", "-a", str(self.station), "-b", str(self.rate), "-P", "none", "-0", "-1", "-q",
-                   "-o", str(TIMEOUT), "-t", table, "-r", str(address)]
-        done = subprocess.run([*command, *words_of_command], capture_output=True, text=True, check=False)
-        for message, result in self.ERRORS.items():
-            if message in done.stderr:
-                return result
-        return done.stdout if done.returncode == 0 else f"{done.stdout} {done.stderr}"
-
-    def read(self, address, count, table="4:hex"):
-        said = self.run(table, address, "-c", str(count), self.link)
-        values = re.findall(r"^\[\d+\]:\s+0x([0-9A-F]{4})", said, re.M)
-        return " ".join(values) or said
-
-    def read_input(self, address, count):
-        return self.read(address, count, "3:hex")
-
-    def write(self, address, *values):
-        said = self.run("4", address, self.link, *map(str, values))
-        return "done" if f"Written {len(values)} references." in said else said
-
-    def clear(self, address, value):
-        said = self.run("0", address, self.link, str(value))
-        return "done" if "Written 1 references." in said else said
-
-
-class Pymodbus:
-    """pymodbus's client. It is connected anew when the rate has changed."""
-
-    def __init__(self, link):
-        self.link = link
-        self.station = 1
-        self.connect(9600)
-
-    def connect(self, rate):
-        self.connected = ModbusSerialClient(self.link, baudrate=rate, bytesize=8, parity="N", stopbits=1, timeout=TIMEOUT,
-                                            retries=0)
-        self.connected.connect()
-
-    @property
-    def rate(self):
-        return self.connected.params.baudrate
-
-    @rate.setter
-    def rate(self, rate):
-        self.close()
-        self.connect(rate)
-
-    @staticmethod
-    def result(reply, good):
-        if not reply.isError():
-            return good(reply)
-        code = getattr(reply, "exception_code", None)
-        return f"error {code}" if code else "silence"
-
-    def read(self, address, count):
-        reply = self.connected.read_holding_registers(address, count, slave=self.station)
-        return self.result(reply, lambda good: words(good.registers))
-
-    def read_input(self, address, count):
-        reply = self.connected.read_input_registers(address, count, slave=self.station)
-        return self.result(reply, lambda good: words(good.registers))
-
-    def write(self, address, *values):
-        if len(values) == 1:
-            reply = self.connected.write_register(address, values[0], slave=self.station)
-        else:
-            reply = self.connected.write_registers(address, list(values), slave=self.station)
-        return self.result(reply, lambda good: "done")
-
-    def clear(self, address, value):
-        reply = self.connected.write_coil(address, bool(value), slave=self.station)
-        return self.result(reply, lambda good: "done")
-
-    def close(self):
-        self.connected.close()
-
-
-def with_check(hex_bytes):
-    frame = bytes.fromhex(hex_bytes)
-    return frame + computeCRC(frame).to_bytes(2, "big")  # this library hands back the check as it is sent
-
-
-def take_reply(line):
-    """The bytes that come until none has come for a while."""
-    reply = b""
-    while select.select([line], [], [], 0.2)[0]:
-        reply += os.read(line, 256)
-    return reply
-
-
-def send_raw(link, frame):
-    """A frame as no master would send it: the bytes that come back, in hex."""
-    line = os.open(link, os.O_RDWR | os.O_NOCTTY)
-    mode = termios.tcgetattr(line)
-    mode[4] = mode[5] = RATE[9600]
-    termios.tcsetattr(line, termios.TCSANOW, mode)
-    os.write(line, frame)
-    reply = take_reply(line)
-    os.close(line)
-    return reply.hex(" ").upper() or "silence"
-
-
-def damaged(hex_bytes):
-    frame = bytearray(with_check(hex_bytes))
-    frame[4] ^= 0x10
-    return bytes(frame)
 
 
 def judge_readings(said):
@@ -301,11 +178,11 @@ def run_command(command, link):
 def steps_of_readme(meter):
     """The README's commands with what it shows below each, and the lines that it shows of the meter's screen."""
     with open(README, encoding="utf-8") as page:
-        text = page.read()
+        text = page.read().partition("## Talk to a simulated meter\n")[2].partition("\n## ")[0]
     commands = re.findall(r"^    \$ (mbpoll .*)\n((?:    (?!\$).*\n)*)", text, re.M)
     screen = re.findall(r"^    (station .*)$", text, re.M)
     if not commands or not screen:
-        sys.exit("README.md shows no mbpoll command, or nothing of the meter's screen")
+        sys.exit("README.md shows no mbpoll command at the simulated meter, or nothing of its screen")
     return [
         *((command, lambda command=command: run_command(command, meter.link), " ".join(shown.split())) for command, shown in commands),
         ("the meter's screen", lambda: "\n".join(meter.lines()[-len(screen):]), "\n".join(screen)),
@@ -340,9 +217,9 @@ PARTS = {
 
 def play_part(name, command, sheet):
     """The steps of one part at a meter of its own: their texts, and the numbers of those that differ."""
-    meter = Meter(command, sheet)
-    steps = [*PARTS[name](meter), ("the meter is switched off", meter.switch_off, "status 0, link gone")]
-    return [f"{name}: {text}" for text, _, _ in steps], play(name, steps)
+    with Meter(command, sheet) as meter:
+        steps = [*PARTS[name](meter), ("the meter is switched off", meter.switch_off, "status 0, link gone")]
+        return [f"{name}: {text}" for text, _, _ in steps], play(name, steps)
 
 
 def play_all(command, sheet):

@@ -120,10 +120,11 @@ static void tell_limit(const char *what, unsigned pair, const char *end)
 
 static void tell_meter(void)
 {
-    printf("The meter on the pump is a UX15/25, station 1. Its sheet, listed, with the names of document 000:\n\n");
+    printf("You stand at the pump in the orchard, and want its gas alarm to come later. The meter is a UX15/25,\n"
+           "station 1. This is its sheet, listed; the names are document 000's:\n\n");
     tell_listing();
-    printf("\nu is a word, s a signed word, p a pair: two registers that hold one number. Then its lowest and highest value.\n"
-           "Flow limits count tenths: 99999 is 9999.9 m3/h.\n"
+    printf("\nu is a word, s a signed word, p a pair: two registers that hold one number. Then come the lowest\n"
+           "and the highest value. Flow limits count tenths: 99999 is 9999.9 m3/h.\n"
            "Below, > goes to the meter and < comes back. The last two bytes are the check.\n");
 }
 
@@ -140,14 +141,14 @@ static void tell_refused_limit(void)
 {
     printf("\n2. Your new limit is 10000.0 m3/h\n");
     ask("01 10 01 03 00 02 04 00 01 86 A0");
-    printf("  Error 03: 0001 86A0 is 10000.0 m3/h, and the highest that the meter takes is 0001 869F, 9999.9 m3/h.\n");
+    printf("  Error 03: 0001 86A0 is 10000.0 m3/h, and the meter takes no more than 0001 869F, 9999.9.\n");
     ask("01 03 01 03 00 02");
     tell_limit("In the meter is still", pair_read(0), ". A pair is one number: not even its 0001 was stored.");
 }
 
 static void tell_half_limit(void)
 {
-    printf("\n3. Half of a limit\n");
+    printf("\n3. Half of a limit, sent alone\n");
     ask("01 06 01 03 00 01");
     printf("  Error 03: half a pair is judged with the half in the meter, and 0001 9876 is 10456.6 m3/h.\n");
     ask("01 06 01 04 13 88");
@@ -160,7 +161,7 @@ static void tell_half_way(void)
 {
     printf("\n4. Three limits in one write, the second is bad\n");
     ask("01 10 01 03 00 06 0C 00 00 03 E8 00 01 86 A0 00 00 00 32");
-    printf("  Error 03 for 100.0, 10000.0 and 5.0 m3/h. What is ahead of the first bad one is stored; it and those behind are not.\n");
+    printf("  Error 03 for 100.0, 10000.0 and 5.0 m3/h. Those ahead of the first bad one are stored, no others.\n");
     ask("01 03 01 03 00 06");
     tell_limit("Alarm output upper limit:     ", pair_read(0), ": stored, though the reply was an error.");
     tell_limit("Alarm output lower limit:     ", pair_read(2), ": the bad one, as it was.");
@@ -179,7 +180,7 @@ static void tell_silence(void)
     printf("  The half limit of 3, damaged on the way: one bit, 88 came in as 08. The check does not agree.\n");
     ask("02 06 01 04 13 88");
     printf("  The same for station 2. The check agrees, but this is station 1.\n");
-    printf("  The meter's memory is %s it was before these two.\n",
+    printf("  The bank, the meter's memory, is %s it was before these two.\n",
            memcmp(before, meter.bank, meter.bank_n) == 0 ? "byte for byte what" : "NOT what");
 }
 
