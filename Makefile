@@ -22,6 +22,8 @@ test: kit claims layout
 
 # The story, the simulated meter and the masters at it. The story is played ahead of the gate, which removes target/ and the library with it.
 .PHONY: demo demo-check meter interop help-demo
+# Two runs of rt in one target/ would be in each other's way.
+.NOTPARALLEL:
 help: help-demo
 test: demo-check
 
