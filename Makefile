@@ -32,3 +32,23 @@ compare coverage: built
 # The gate removes target/, so the host tests come before it.
 test: kit claims layout host
 	@exec rt ci
+
+# The story, the simulated meter and the masters at it. The story is played ahead of the gate, which removes target/ and the library with it.
+.PHONY: demo demo-check meter interop help-demo
+# Two runs of rt in one target/ would be in each other's way.
+.NOTPARALLEL:
+help: help-demo
+test: demo-check
+
+help-demo:
+	@echo "make demo    a new limit comes back with error 03: what is in the meter now, and why"
+	@echo "make meter   a simulated meter on a pseudo-terminal; SHEET=FILE is its sheet, LINK=NAME another name for its line"
+	@echo "make interop two Modbus masters, mbpoll and pymodbus's client, at the simulated meter"
+
+demo demo-check interop: kit
+	@$(MAKE) -s -C demo $@
+
+SHEET := sheets/ux15_25.sheet
+LINK :=
+meter: kit
+	@$(MAKE) -s -C demo meter SHEET=$(abspath $(SHEET)) LINK=$(abspath $(LINK))

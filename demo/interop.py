@@ -1,0 +1,264 @@
+#!/usr/bin/python3
+"""Two masters that know nothing of this repository, mbpoll and pymodbus's client, at the simulated meter.
+
+  interop.py [--run RUN] SHEET METER              plays the steps, which are those of the UX15/25 sheet
+  interop.py [--run RUN] --wrong SHEET METER...   plays them at meters that are wrong: each step must fail at one of these
+
+Each step has its expected result. A step that comes out otherwise is shown with both, and the exit status is 1.
+RUN is put in front of METER where it needs an emulator.
+"""
+import argparse
+import os
+import re
+import signal
+import subprocess
+import sys
+import tempfile
+import time
+
+from masters import Mbpoll, Pymodbus, damaged, send_raw, with_check
+
+README = os.path.join(os.path.dirname(os.path.abspath(__file__)), "..", "README.md")
+
+
+class Meter:
+    """The simulated meter, with a fresh bank, on a line named by a link."""
+
+    def __init__(self, command, sheet):
+        self.folder = tempfile.TemporaryDirectory()
+        self.link = os.path.join(self.folder.name, "meter")
+        self.screen = open(os.path.join(self.folder.name, "screen"), "w+", encoding="ascii")
+        self.process = subprocess.Popen([*command, sheet, self.link], stdout=self.screen)
+        self.wait_for_line()
+
+    def __enter__(self):
+        return self
+
+    def __exit__(self, *_):
+        if self.process.poll() is None:
+            self.process.kill()
+
+    def wait_for_line(self):
+        deadline = time.monotonic() + 10
+        while "meter on" not in self.lines()[-1]:
+            if self.process.poll() is not None or time.monotonic() > deadline:
+                sys.exit("the simulated meter did not start")
+            time.sleep(0.02)
+
+    def lines(self):
+        with open(self.screen.name, encoding="ascii") as screen:
+            return screen.read().splitlines() or [""]
+
+    def last_line(self):
+        return " ".join(self.lines()[-1].split())
+
+    def switch_off(self):
+        """Ctrl-C: how the meter ended, and whether its link is gone."""
+        self.process.send_signal(signal.SIGINT)
+        status = self.process.wait(timeout=10)
+        link = "link left behind" if os.path.lexists(self.link) else "link gone"
+        return f"status {status}, {link}"
+
+
+def judge_readings(said):
+    """The read-only run: what the simulated flow can be, or the words themselves."""
+    run = [int(word, 16) for word in said.split()] if re.fullmatch(r"([0-9A-F]{4} ?){11}", said) else [0] * 11
+    flow, pressure, temperature, fault = run[0] << 16 | run[1], run[2], run[3], run[10]
+    positive = run[4] << 32 | run[5] << 16 | run[6]
+    trip = run[7] << 32 | run[8] << 16 | run[9]
+    sound = 200 <= flow <= 800 and 150 <= temperature <= 180 and positive - trip == 1234567 and pressure == 0 and fault == 0
+    return "readings" if sound else said
+
+
+def at_station(master, station, deed):
+    master.station = station
+    return deed()
+
+
+def at_rate(master, rate, deed):
+    master.rate = rate
+    return deed()
+
+
+FRESH = "FFF6 0000 0000 0000 0000 0000 0000 0000 0000 0001 0000 0000 0000 0001 0001" + 8 * " 0000"
+
+
+def steps_of_reading(master):
+    return [
+        ("the 23 registers of a fresh bank", lambda: master.read(0x0100, 23), FRESH),
+        ("24 registers, one more than there are", lambda: master.read(0x0100, 24), "error 2"),
+        ("the read-only run, 0200 to 020A", lambda: judge_readings(master.read(0x0200, 11)), "readings"),
+        ("function 04, which is not allowed", lambda: master.read_input(0x0100, 1), "error 1"),
+    ]
+
+
+def steps_of_writing(master):
+    return [
+        ("0101 = 0004", lambda: master.write(0x0101, 0x0004), "done"),
+        (".. is read", lambda: master.read(0x0101, 1), "0004"),
+        ("010F = 0001 1388, two registers", lambda: master.write(0x010F, 0x0001, 0x1388), "done"),
+        (".. are read", lambda: master.read(0x010F, 2), "0001 1388"),
+        ("0100 = FFFB, minus five degrees", lambda: master.write(0x0100, 0xFFFB), "done"),
+        (".. is read", lambda: master.read(0x0100, 1), "FFFB"),
+        ("0100 = FFF5, minus eleven, too low", lambda: master.write(0x0100, 0xFFF5), "error 3"),
+        ("0100 = 003D, 61, too high", lambda: master.write(0x0100, 0x003D), "error 3"),
+        (".. FFFB is read still", lambda: master.read(0x0100, 1), "FFFB"),
+        ("0101 = 0005, too high", lambda: master.write(0x0101, 0x0005), "error 3"),
+        (".. 0004 is read still", lambda: master.read(0x0101, 1), "0004"),
+        ("0200, which is read only", lambda: master.write(0x0200, 0x0001), "error 2"),
+        ("0116 and 0117, which is in no area", lambda: master.write(0x0116, 0x0001, 0x0001), "error 2"),
+    ]
+
+
+def steps_of_pairs(master):
+    return [
+        ("0103 = 0000 9876, a pair", lambda: master.write(0x0103, 0x0000, 0x9876), "done"),
+        ("0103 = 0001, its upper half: 00019876 is too high", lambda: master.write(0x0103, 0x0001), "error 3"),
+        (".. 0000 9876 is read still", lambda: master.read(0x0103, 2), "0000 9876"),
+        ("0104 = 1388, its lower half", lambda: master.write(0x0104, 0x1388), "done"),
+        ("0103 = 0001, its upper half: 00011388 is good", lambda: master.write(0x0103, 0x0001), "done"),
+        (".. 0001 1388 is read", lambda: master.read(0x0103, 2), "0001 1388"),
+        ("0103 = 0001 86A0, too high", lambda: master.write(0x0103, 0x0001, 0x86A0), "error 3"),
+        (".. 0001 1388 is read still", lambda: master.read(0x0103, 2), "0001 1388"),
+        ("0103 = 0001 869F, the highest", lambda: master.write(0x0103, 0x0001, 0x869F), "done"),
+        ("0101 = 0003 0002 0000, the second is bad", lambda: master.write(0x0101, 0x0003, 0x0002, 0x0000), "error 3"),
+        (".. the first is stored, no more", lambda: master.read(0x0101, 4), "0003 0000 0001 869F"),
+    ]
+
+
+def steps_of_clearing(master, meter):
+    return [
+        ("the alarm clear with value FF00", lambda: master.clear(0x0300, 1), "error 3"),
+        ("the alarm clear at 0301", lambda: master.clear(0x0301, 0), "error 2"),
+        ("the alarm clear", lambda: master.clear(0x0300, 0), "done"),
+        (".. the meter's screen tells of it", meter.last_line,
+         "station 1 05 clear 0300 value 0000 reply of 8 bytes at 9600; the alarm mark was 1, is 0"),
+    ]
+
+
+def steps_of_raw_frames(master, meter):
+    def read():
+        return master.read(0x0101, 2)
+
+    return [
+        ("raw: function 83", lambda: send_raw(meter.link, with_check("01 83 01 01 00 02")), with_check("01 83 01").hex(" ").upper()),
+        (".. the next read is as ever", read, "0003 0000"),
+        ("raw: 06 with a byte too many", lambda: send_raw(meter.link, with_check("01 06 01 01 00 01 00")), "silence"),
+        (".. the next read is as ever", read, "0003 0000"),
+        ("raw: 06 with one bit turned", lambda: send_raw(meter.link, damaged("01 06 01 01 00 01")), "silence"),
+        ("raw: 06 for station 2", lambda: send_raw(meter.link, with_check("02 06 01 01 00 01")), "silence"),
+        ("raw: 101 bytes", lambda: send_raw(meter.link, with_check("01 10" + 97 * " 00")), "silence"),
+        (".. the next read is as ever", read, "0003 0000"),
+    ]
+
+
+def steps_of_station_and_rate(master):
+    def read():
+        return master.read(0x010D, 2)
+
+    return [
+        ("010E = 0002, the station", lambda: master.write(0x010E, 0x0002), "done"),
+        (".. it no longer answers at 1", read, "silence"),
+        (".. it answers at 2", lambda: at_station(master, 2, read), "0001 0002"),
+        ("010E = 0003 0002, the second is bad: error from station 2", lambda: master.write(0x010E, 0x0003, 0x0002), "error 3"),
+        (".. it answers at 3", lambda: at_station(master, 3, read), "0001 0003"),
+        ("010D = 0000, the rate: reply at 9600", lambda: master.write(0x010D, 0x0000), "done"),
+        (".. it no longer hears 9600", read, "silence"),
+        (".. it answers at 4800", lambda: at_rate(master, 4800, read), "0000 0003"),
+    ]
+
+
+def run_command(command, link):
+    """What a command of the README writes at this meter, its blanks made one."""
+    done = subprocess.run(command.replace("/tmp/meter", link).split(), stdout=subprocess.PIPE, stderr=subprocess.STDOUT, text=True,
+                          check=False)
+    return " ".join(done.stdout.split())
+
+
+def steps_of_readme(meter):
+    """The README's commands with what it shows below each, and the lines that it shows of the meter's screen."""
+    with open(README, encoding="utf-8") as page:
+        text = page.read().partition("## Talk to a simulated meter\n")[2].partition("\n## ")[0]
+    commands = re.findall(r"^    \$ (mbpoll .*)\n((?:    (?!\$).*\n)*)", text, re.M)
+    screen = re.findall(r"^    (station .*)$", text, re.M)
+    if not commands or not screen:
+        sys.exit("README.md shows no mbpoll command at the simulated meter, or nothing of its screen")
+    return [
+        *((command, lambda command=command: run_command(command, meter.link), " ".join(shown.split())) for command, shown in commands),
+        ("the meter's screen", lambda: "\n".join(meter.lines()[-len(screen):]), "\n".join(screen)),
+    ]
+
+
+def play(name, steps):
+    """The numbers of the steps that came out otherwise than expected."""
+    differing = set()
+    for number, (text, deed, expected) in enumerate(steps):
+        result = deed()
+        print(f"{name:9} {text}: {result}", flush=True)
+        if result != expected:
+            differing.add(number)
+            print(f"DIFFERS   {name}: {text}: expected {expected}", flush=True)
+    return differing
+
+
+def steps_of_master(master, meter):
+    return [
+        *steps_of_reading(master), *steps_of_writing(master), *steps_of_pairs(master), *steps_of_clearing(master, meter),
+        *steps_of_raw_frames(master, meter), *steps_of_station_and_rate(master),
+    ]
+
+
+PARTS = {
+    "mbpoll": lambda meter: steps_of_master(Mbpoll(meter.link), meter),
+    "pymodbus": lambda meter: steps_of_master(Pymodbus(meter.link), meter),
+    "README": steps_of_readme,
+}
+
+
+def play_part(name, command, sheet):
+    """The steps of one part at a meter of its own: their texts, and the numbers of those that differ."""
+    with Meter(command, sheet) as meter:
+        steps = [*PARTS[name](meter), ("the meter is switched off", meter.switch_off, "status 0, link gone")]
+        return [f"{name}: {text}" for text, _, _ in steps], play(name, steps)
+
+
+def play_all(command, sheet):
+    """Every step, and every step that differs, as (number, text)."""
+    every, differing = [], []
+    for name in PARTS:
+        texts, numbers = play_part(name, command, sheet)
+        differing += [(len(every) + number, texts[number]) for number in numbers]
+        every += list(enumerate(texts, len(every)))
+    return every, differing
+
+
+def judge(every, differing):
+    print(f"{len(every)} steps, {len(differing)} came out otherwise than expected")
+    return 1 if differing else 0
+
+
+def judge_wrong(every, differing):
+    """A step that agrees with every wrong meter could not fail."""
+    idle = [text for number, text in every if (number, text) not in differing]
+    for text in idle:
+        print(f"CANNOT FAIL  {text}")
+    print(f"{len(every)} steps, {len(every) - len(idle)} failed at one of the wrong meters")
+    return 1 if idle else 0
+
+
+def main():
+    words_given = argparse.ArgumentParser(description=__doc__, formatter_class=argparse.RawDescriptionHelpFormatter)
+    words_given.add_argument("--run", default="")
+    words_given.add_argument("--wrong", action="store_true", help="each step must fail at one of the meters")
+    words_given.add_argument("sheet")
+    words_given.add_argument("meters", nargs="+")
+    given = words_given.parse_args()
+    every, differing = [], []
+    for meter in given.meters:
+        every, found = play_all([*given.run.split(), meter], given.sheet)
+        differing += found
+    return judge_wrong(every, differing) if given.wrong else judge(every, differing)
+
+
+if __name__ == "__main__":
+    sys.exit(main())

@@ -1,0 +1,137 @@
+"""The masters: mbpoll, pymodbus's client, and frames that no master would send. What a frame came to is said in words:
+the registers in hex, "done", "error 1" to "error 3", or "silence"."""
+import os
+import re
+import select
+import subprocess
+import termios
+
+from pymodbus.client import ModbusSerialClient
+from pymodbus.exceptions import ModbusIOException
+from pymodbus.utilities import computeCRC
+
+TIMEOUT = 1  # second that a master waits, a whole number for pymodbus; the meter replies within milliseconds
+
+
+def words(values):
+    return " ".join(f"{value:04X}" for value in values)
+
+
+class Mbpoll:
+    """One run of the command mbpoll for each frame."""
+
+    ERRORS = {"Illegal function": "error 1", "Illegal data address": "error 2", "Illegal data value": "error 3",
+              "Connection timed out": "silence"}
+
+    def __init__(self, link):
+        self.link = link
+        self.station = 1
+        self.rate = 9600
+
+    def run(self, table, address, *words_of_command):
+        """What mbpoll says, -0 so that it counts registers from 0 as the meter's documents do."""
+        command = ["mbpoll", "-m", "rtu", "-a", str(self.station), "-b", str(self.rate), "-P", "none", "-0", "-1", "-q",
+                   "-o", str(TIMEOUT), "-t", table, "-r", str(address)]
+        done = subprocess.run([*command, *words_of_command], capture_output=True, text=True, check=False)
+        for message, result in self.ERRORS.items():
+            if message in done.stderr:
+                return result
+        return done.stdout if done.returncode == 0 else f"{done.stdout} {done.stderr}"
+
+    def read(self, address, count, table="4:hex"):
+        said = self.run(table, address, "-c", str(count), self.link)
+        values = re.findall(r"^\[\d+\]:\s+0x([0-9A-F]{4})", said, re.M)
+        return " ".join(values) or said
+
+    def read_input(self, address, count):
+        return self.read(address, count, "3:hex")
+
+    def write(self, address, *values):
+        said = self.run("4", address, self.link, *map(str, values))
+        return "done" if f"Written {len(values)} references." in said else said
+
+    def clear(self, address, value):
+        said = self.run("0", address, self.link, str(value))
+        return "done" if "Written 1 references." in said else said
+
+
+class Pymodbus:
+    """pymodbus's client. It is connected anew when the rate has changed."""
+
+    def __init__(self, link):
+        self.link = link
+        self.station = 1
+        self.connect(9600)
+
+    def connect(self, rate):
+        self.client = ModbusSerialClient(self.link, baudrate=rate, bytesize=8, parity="N", stopbits=1, timeout=TIMEOUT, retries=0)
+        self.client.connect()
+
+    @property
+    def rate(self):
+        return self.client.params.baudrate
+
+    @rate.setter
+    def rate(self, rate):
+        self.client.close()
+        self.connect(rate)
+
+    @staticmethod
+    def result(reply, good):
+        if not reply.isError():
+            return good(reply)
+        if isinstance(reply, ModbusIOException):
+            return "silence" if "no response" in str(reply).lower() else str(reply)
+        return f"error {reply.exception_code}"
+
+    def read(self, address, count):
+        reply = self.client.read_holding_registers(address, count, slave=self.station)
+        return self.result(reply, lambda good: words(good.registers))
+
+    def read_input(self, address, count):
+        reply = self.client.read_input_registers(address, count, slave=self.station)
+        return self.result(reply, lambda good: words(good.registers))
+
+    def write(self, address, *values):
+        if len(values) == 1:
+            reply = self.client.write_register(address, values[0], slave=self.station)
+        else:
+            reply = self.client.write_registers(address, list(values), slave=self.station)
+        return self.result(reply, lambda good: "done")
+
+    def clear(self, address, value):
+        reply = self.client.write_coil(address, bool(value), slave=self.station)
+        return self.result(reply, lambda good: "done")
+
+
+def with_check(hex_bytes):
+    """A frame with its check, which pymodbus hands back in the order in which it is sent."""
+    frame = bytes.fromhex(hex_bytes)
+    return frame + computeCRC(frame).to_bytes(2, "big")
+
+
+def take_reply(line):
+    """The bytes that come until none has come for a while."""
+    reply = b""
+    while select.select([line], [], [], 0.2)[0]:
+        reply += os.read(line, 256)
+    return reply
+
+
+def send_raw(link, frame):
+    """A frame as no master would send it: the bytes that come back, in hex."""
+    line = os.open(link, os.O_RDWR | os.O_NOCTTY)
+    mode = termios.tcgetattr(line)
+    mode[4] = mode[5] = termios.B9600
+    termios.tcsetattr(line, termios.TCSANOW, mode)
+    os.write(line, frame)
+    reply = take_reply(line)
+    os.close(line)
+    return reply.hex(" ").upper() or "silence"
+
+
+def damaged(hex_bytes):
+    """A frame that had its check, with one bit turned since."""
+    frame = bytearray(with_check(hex_bytes))
+    frame[4] ^= 0x10
+    return bytes(frame)

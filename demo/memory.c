@@ -1,0 +1,85 @@
+/* What a meter remembers: its sheet, read from a file, and its bank. */
+#include "memory.h"
+
+#include <errno.h>
+#include <stdio.h>
+#include <stdlib.h>
+#include <string.h>
+
+#include "cedarskein.h"
+
+/* Words of the sheet's header, and the words of the header and of an area row, by document 01. */
+enum { AREAS = 1, BANK_WORDS = 5, PLACE_OF_STATION = 8, PLACE_OF_RATE = 9, HEADER = 12, AREA_ROW = 4 };
+
+unsigned word_at(const uint8_t *bytes, size_t number)
+{
+    return (unsigned)bytes[2 * number] << 8 | bytes[2 * number + 1];
+}
+
+void store_word(uint8_t *bytes, size_t number, unsigned word)
+{
+    bytes[2 * number] = (uint8_t)(word >> 8);
+    bytes[2 * number + 1] = (uint8_t)word;
+}
+
+static void give_up(const char *path, const char *why)
+{
+    fprintf(stderr, "%s: %s\n", path, why);
+    exit(1);
+}
+
+static void read_sheet(struct meter *meter, const char *path)
+{
+    FILE *file = fopen(path, "rb");
+    if (!file)
+        give_up(path, strerror(errno));
+    /* One byte more than a sheet can have is asked for, so that a longer file shows. */
+    meter->sheet_n = fread(meter->sheet, 1, LONGEST_SHEET + 1, file);
+    if (ferror(file))
+        give_up(path, strerror(errno));
+    fclose(file);
+    if (meter->sheet_n > LONGEST_SHEET)
+        give_up(path, "more than 856 bytes; no sheet is longer");
+}
+
+void load_meter(struct meter *meter, const char *path)
+{
+    read_sheet(meter, path);
+    if (cedarskein_sheet_check(meter->sheet, meter->sheet_n) != 0)
+        give_up(path, "number 2: the sheet breaks a rule of document 01");
+    meter->bank_n = 2 * bank_word_count(meter) + 2;
+    if (cedarskein_bank_fresh(meter->sheet, meter->sheet_n, meter->bank, meter->bank_n) != 0)
+        give_up(path, "number 3: the bank has not 2B + 2 bytes");
+}
+
+unsigned area_count(const struct meter *meter)
+{
+    return word_at(meter->sheet, AREAS);
+}
+
+struct area area_at(const struct meter *meter, unsigned number)
+{
+    const uint8_t *row = meter->sheet + 2 * (HEADER + AREA_ROW * number);
+    struct area area = { word_at(row, 0), word_at(row, 1), word_at(row, 2), word_at(row, 3) };
+    return area;
+}
+
+unsigned bank_word_count(const struct meter *meter)
+{
+    return word_at(meter->sheet, BANK_WORDS);
+}
+
+unsigned station_of(const struct meter *meter)
+{
+    return word_at(meter->bank, word_at(meter->sheet, PLACE_OF_STATION));
+}
+
+unsigned rate_of(const struct meter *meter)
+{
+    return word_at(meter->bank, word_at(meter->sheet, PLACE_OF_RATE));
+}
+
+unsigned mark_of(const struct meter *meter)
+{
+    return word_at(meter->bank, bank_word_count(meter));
+}

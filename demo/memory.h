@@ -1,0 +1,38 @@
+/* What a meter remembers: its sheet and its bank. */
+#ifndef MEMORY_H
+#define MEMORY_H
+
+#include <stddef.h>
+#include <stdint.h>
+
+#define LONGEST_SHEET 856
+#define LARGEST_BANK (2 * 256 + 2)
+
+struct meter {
+    uint8_t sheet[LONGEST_SHEET + 1];
+    size_t sheet_n;
+    uint8_t bank[LARGEST_BANK];
+    size_t bank_n;
+};
+
+struct area {
+    unsigned first, last, place, access;
+};
+
+/* A meter with the sheet of a file and a fresh bank. Says what is wrong with the file, and ends the program, if there is none to be had. */
+void load_meter(struct meter *meter, const char *path);
+
+/* The word with a given number, upper byte first. */
+unsigned word_at(const uint8_t *bytes, size_t number);
+void store_word(uint8_t *bytes, size_t number, unsigned word);
+
+unsigned area_count(const struct meter *meter);
+struct area area_at(const struct meter *meter, unsigned number);
+
+/* The bank's words; the last of them is the mark. */
+unsigned bank_word_count(const struct meter *meter);
+unsigned station_of(const struct meter *meter);
+unsigned rate_of(const struct meter *meter);
+unsigned mark_of(const struct meter *meter);
+
+#endif

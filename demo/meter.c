@@ -1,0 +1,134 @@
+/* A simulated meter: a pseudo-terminal that answers as the library does, with readings that change.
+   usage: meter SHEET [LINK]    LINK becomes a symbolic link to the pseudo-terminal as long as the meter runs */
+#define _XOPEN_SOURCE 700
+#include <errno.h>
+#include <signal.h>
+#include <stdio.h>
+#include <string.h>
+#include <sys/stat.h>
+#include <time.h>
+#include <unistd.h>
+
+#include "cedarskein.h"
+#include "line.h"
+#include "memory.h"
+#include "readings.h"
+#include "telling.h"
+
+static volatile sig_atomic_t switched_off;
+
+static void switch_off(int signal)
+{
+    (void)signal;
+    switched_off = 1;
+}
+
+/* Ctrl-C and a plain kill end the wait for a frame, and with it the loop. */
+static void heed_signals(void)
+{
+    struct sigaction action;
+    memset(&action, 0, sizeof action);
+    action.sa_handler = switch_off;
+    sigaction(SIGINT, &action, NULL);
+    sigaction(SIGTERM, &action, NULL);
+}
+
+static long milliseconds(void)
+{
+    struct timespec now;
+    clock_gettime(CLOCK_MONOTONIC, &now);
+    return now.tv_sec * 1000L + now.tv_nsec / 1000000;
+}
+
+static void answer_frame(struct meter *meter, struct line *line, const uint8_t *frame, size_t n)
+{
+    struct meter before = *meter;
+    uint8_t reply[LONGEST_FRAME];
+    uint32_t length, rate;
+    uint32_t number = cedarskein_answer(meter->sheet, meter->sheet_n, meter->bank, meter->bank_n, frame, n, reply, sizeof reply,
+                                        &length, &rate);
+    if (number == 0) {
+        /* Told ahead of sending it: a master that has the reply finds it on the screen. */
+        tell_answer(&before, meter, reply, length, rate);
+        send_reply(line, reply, length);
+    } else if (number == 1) {
+        tell_silence(frame, n, station_of(meter));
+    } else {
+        printf("number %u: the meter is out of order\n", (unsigned)number);
+    }
+}
+
+static void hear_frame(struct meter *meter, struct line *line, const uint8_t *frame, size_t n)
+{
+    tell_frame(frame, n);
+    /* A master at another bit rate is noise to a meter: no byte of it comes in as it was sent. */
+    if (master_sends_at(line, rate_of(meter)))
+        answer_frame(meter, line, frame, n);
+    else
+        printf("noise: not sent at %s\n", bit_rate(rate_of(meter)));
+}
+
+static unsigned run(struct meter *meter, struct line *line)
+{
+    struct readings readings = { 0, 0 };
+    uint8_t frame[FRAME_ROOM];
+    unsigned frames = 0;
+    long next_second = milliseconds();
+    while (!switched_off) {
+        if (milliseconds() >= next_second) {
+            post_next_second(&readings, meter);
+            forget_old_reply(line);
+            next_second += 1000;
+        }
+        long patience = next_second - milliseconds();
+        size_t n = take_frame(line, frame, patience > 0 ? (int)patience : 0);
+        if (n > 0) {
+            hear_frame(meter, line, frame, n);
+            frames++;
+        }
+    }
+    return frames;
+}
+
+/* A link that an earlier run left is replaced, any other file is not. */
+static int make_link(const char *name, const char *link)
+{
+    struct stat status;
+    if (lstat(link, &status) == 0 && S_ISLNK(status.st_mode))
+        unlink(link);
+    if (symlink(name, link) == 0)
+        return 0;
+    fprintf(stderr, "%s: %s\n", link, strerror(errno));
+    return 1;
+}
+
+/* A mark that is set gives a clear something to do; a sheet without function 05 has no use for it. */
+static void set_mark(struct meter *meter)
+{
+    cedarskein_set_mark(meter->sheet, meter->sheet_n, meter->bank, meter->bank_n, 1);
+}
+
+int main(int argc, char **argv)
+{
+    struct meter meter;
+    struct line line;
+    const char *link = argc == 3 ? argv[2] : NULL;
+    if (argc != 2 && argc != 3) {
+        fprintf(stderr, "usage: meter SHEET [LINK]\n");
+        return 1;
+    }
+    setvbuf(stdout, NULL, _IOLBF, 0);
+    load_meter(&meter, argv[1]);
+    set_mark(&meter);
+    open_line(&line);
+    if (link && make_link(line.name, link) != 0)
+        return 1;
+    heed_signals();
+    printf("meter on %s, station %u at %s, 8 data bits, no parity, 1 stop bit; Ctrl-C ends it\n", link ? link : line.name,
+           station_of(&meter), bit_rate(rate_of(&meter)));
+    unsigned frames = run(&meter, &line);
+    if (link)
+        unlink(link);
+    printf("meter off after %u frames\n", frames);
+    return 0;
+}

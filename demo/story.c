@@ -1,0 +1,210 @@
+/* The pump hand's story: a new limit comes back with error 03. What is in the meter now, and why? */
+#include <stdio.h>
+#include <stdlib.h>
+#include <string.h>
+
+#include "cedarskein.h"
+#include "memory.h"
+
+#define LONGEST_FRAME 100
+
+struct register_name {
+    const char *address;
+    const char *name;
+};
+
+/* The names that document 000 gives the registers of UX15/25. */
+static const struct register_name NAMES[] = {
+    { "0100", "Conversion reference temperature" },
+    { "0101", "Output pulse constant" },
+    { "0102", "Alarm output contact state" },
+    { "0103", "Alarm output upper limit" },
+    { "0105", "Alarm output lower limit" },
+    { "0107", "Alarm output hysteresis width" },
+    { "0109", "Instantaneous flow moving average times" },
+    { "010A", "Analog output full-scale flow rate" },
+    { "010C", "Analog output switching" },
+    { "010D", "Communication bit rate" },
+    { "010E", "RTU Address" },
+    { "010F", "Flow rate conversion select" },
+    { "0110", "Used gas pressure set value (gage)" },
+    { "0111", "Test mode time select" },
+    { "0112", "Conversion reference pressure (gage)" },
+    { "0113", "Integration value upper limit alarm threshold" },
+    { "0115", "Alarm output select" },
+    { "0116", "Gas species select" },
+};
+
+static struct meter meter;
+static uint8_t reply[LONGEST_FRAME];
+
+static const char *name_of(const char *line)
+{
+    for (size_t k = 0; k < sizeof NAMES / sizeof *NAMES; k++)
+        if (strncmp(line, NAMES[k].address, 4) == 0)
+            return NAMES[k].name;
+    return "";
+}
+
+/* The listing comes from the listing program, by standard input. */
+static void tell_listing(void)
+{
+    char line[80];
+    while (fgets(line, sizeof line, stdin)) {
+        line[strcspn(line, "\n")] = '\0';
+        printf(*name_of(line) ? "  %-18s%s\n" : "  %s%s\n", line, name_of(line));
+    }
+}
+
+/* Bytes in hex, the check set off by a wider gap. */
+static void tell_bytes(const char *arrow, const uint8_t *bytes, size_t n)
+{
+    printf("  %s", arrow);
+    for (size_t k = 0; k < n; k++)
+        printf(k + 2 == n ? "  %02X" : " %02X", bytes[k]);
+    printf("\n");
+}
+
+/* A frame as the bytes of a line of hex. */
+static size_t from_hex(uint8_t *frame, const char *hex)
+{
+    size_t n = 0;
+    char *rest;
+    for (unsigned long byte = strtoul(hex, &rest, 16); rest != hex; byte = strtoul(hex, &rest, 16)) {
+        frame[n++] = (uint8_t)byte;
+        hex = rest;
+    }
+    return n;
+}
+
+static size_t add_check(uint8_t *frame, size_t n)
+{
+    uint16_t check = cedarskein_check_value(frame, n);
+    frame[n] = (uint8_t)check;
+    frame[n + 1] = (uint8_t)(check >> 8);
+    return n + 2;
+}
+
+static void send_frame(const uint8_t *frame, size_t n)
+{
+    uint32_t length, rate;
+    tell_bytes(">", frame, n);
+    uint32_t number = cedarskein_answer(meter.sheet, meter.sheet_n, meter.bank, meter.bank_n, frame, n, reply, sizeof reply,
+                                        &length, &rate);
+    if (number == 0)
+        tell_bytes("<", reply, length);
+    else if (number == 1)
+        printf("  < silence\n");
+    else
+        printf("  < number %u\n", (unsigned)number);
+}
+
+static void ask(const char *hex)
+{
+    uint8_t frame[LONGEST_FRAME];
+    send_frame(frame, add_check(frame, from_hex(frame, hex)));
+}
+
+/* The pair at a word of a read's reply. */
+static unsigned pair_read(size_t word)
+{
+    const uint8_t *words = reply + 3;
+    return word_at(words, word) << 16 | word_at(words, word + 1);
+}
+
+/* A limit counts tenths of a cubic metre in the hour. */
+static void tell_limit(const char *what, unsigned pair, const char *end)
+{
+    printf("  %s %04X %04X, %u.%u m3/h%s\n", what, pair >> 16, pair & 0xFFFF, pair / 10, pair % 10, end);
+}
+
+static void tell_meter(void)
+{
+    printf("You stand at the pump in the orchard, and want its gas alarm to come later. The meter is a UX15/25,\n"
+           "station 1. This is its sheet, listed; the names are document 000's:\n\n");
+    tell_listing();
+    printf("\nu is a word, s a signed word, p a pair: two registers that hold one number. Then come the lowest\n"
+           "and the highest value. Flow limits count tenths: 99999 is 9999.9 m3/h.\n"
+           "Below, > goes to the meter and < comes back. The last two bytes are the check.\n");
+}
+
+static void tell_limit_before(void)
+{
+    printf("\n1. The limit before\n");
+    ask("01 10 01 03 00 02 04 00 00 98 76");
+    printf("  The hand before you set the Alarm output upper limit, 0103 and 0104, to 3903.0 m3/h.\n");
+    ask("01 03 01 03 00 02");
+    tell_limit("You read it back:", pair_read(0), ".");
+}
+
+static void tell_refused_limit(void)
+{
+    printf("\n2. Your new limit is 10000.0 m3/h\n");
+    ask("01 10 01 03 00 02 04 00 01 86 A0");
+    printf("  Error 03: 0001 86A0 is 10000.0 m3/h, and the meter takes no more than 0001 869F, 9999.9.\n");
+    ask("01 03 01 03 00 02");
+    tell_limit("In the meter is still", pair_read(0), ". A pair is one number: not even its 0001 was stored.");
+}
+
+static void tell_half_limit(void)
+{
+    printf("\n3. Half of a limit, sent alone\n");
+    ask("01 06 01 03 00 01");
+    printf("  Error 03: half a pair is judged with the half in the meter, and 0001 9876 is 10456.6 m3/h.\n");
+    ask("01 06 01 04 13 88");
+    printf("  Stored: with the 0000 in the meter it makes 0000 1388, which is 500.0 m3/h.\n");
+    ask("01 03 01 03 00 02");
+    tell_limit("In the meter is now", pair_read(0), ".");
+}
+
+static void tell_half_way(void)
+{
+    printf("\n4. Three limits in one write, the second is bad\n");
+    ask("01 10 01 03 00 06 0C 00 00 03 E8 00 01 86 A0 00 00 00 32");
+    printf("  Error 03 for 100.0, 10000.0 and 5.0 m3/h. Those ahead of the first bad one are stored, no others.\n");
+    ask("01 03 01 03 00 06");
+    tell_limit("Alarm output upper limit:     ", pair_read(0), ": stored, though the reply was an error.");
+    tell_limit("Alarm output lower limit:     ", pair_read(2), ": the bad one, as it was.");
+    tell_limit("Alarm output hysteresis width:", pair_read(4), ": good, but behind the bad one, as it was.");
+}
+
+static void tell_silence(void)
+{
+    uint8_t before[LARGEST_BANK];
+    uint8_t damaged[LONGEST_FRAME];
+    memcpy(before, meter.bank, meter.bank_n);
+    printf("\n5. Frames that the meter does not answer\n");
+    size_t n = add_check(damaged, from_hex(damaged, "01 06 01 04 13 88"));
+    damaged[5] ^= 0x80;
+    send_frame(damaged, n);
+    printf("  The half limit of 3, damaged on the way: one bit, 88 came in as 08. The check does not agree.\n");
+    ask("02 06 01 04 13 88");
+    printf("  The same for station 2. The check agrees, but this is station 1.\n");
+    printf("  The bank, the meter's memory, is %s it was before these two.\n",
+           memcmp(before, meter.bank, meter.bank_n) == 0 ? "byte for byte what" : "NOT what");
+}
+
+static void tell_where_next(void)
+{
+    printf("\nAfter an error 03, read back: the reply does not say how much was stored.\n\n"
+           "Next: make meter    a meter like this one, on a line of its own, for your own program\n"
+           "      make test     the proofs that it is so for every frame and every sheet\n"
+           "      docs/CLAIMS.md    what is claimed, sentence by sentence\n");
+}
+
+int main(int argc, char **argv)
+{
+    if (argc != 2) {
+        fprintf(stderr, "usage: list < SHEET | story SHEET\n");
+        return 1;
+    }
+    load_meter(&meter, argv[1]);
+    tell_meter();
+    tell_limit_before();
+    tell_refused_limit();
+    tell_half_limit();
+    tell_half_way();
+    tell_silence();
+    tell_where_next();
+    return 0;
+}

@@ -1,0 +1,19 @@
+/* What the simulated meter says on the screen of each frame. */
+#ifndef TELLING_H
+#define TELLING_H
+
+#include "memory.h"
+
+/* The bits in a second of a rate as document 01 counts it. */
+const char *bit_rate(unsigned rate);
+
+/* What a frame was: function, address, count or value. */
+void tell_frame(const uint8_t *frame, size_t n);
+
+/* Why a frame that document 01 meets with silence got it, by its steps 1, 2 and 4. */
+void tell_silence(const uint8_t *frame, size_t n, unsigned station);
+
+/* A reply, and the registers, the alarm mark, the station and the rate that are not as they were before the frame. */
+void tell_answer(const struct meter *before, const struct meter *now, const uint8_t *reply, size_t n, unsigned rate);
+
+#endif
