@@ -1,0 +1,212 @@
+#include "calls.h"
+#include "lent.h"
+#include "noise.h"
+#include "second.h"
+
+#include <inttypes.h>
+#include <stdio.h>
+#include <string.h>
+
+uint16_t cedarskein_check_start(void);
+uint16_t cedarskein_check_take(uint16_t state, uint8_t byte);
+uint16_t cedarskein_check_value(const uint8_t *bytes, size_t bytes_n);
+uint32_t cedarskein_sheet_check(const uint8_t *sheet, size_t sheet_n);
+uint32_t cedarskein_bank_check(const uint8_t *sheet, size_t sheet_n,
+                               const uint8_t *bank, size_t bank_n);
+uint32_t cedarskein_bank_fresh(const uint8_t *sheet, size_t sheet_n,
+                               uint8_t *bank, size_t bank_n);
+uint32_t cedarskein_post(const uint8_t *sheet, size_t sheet_n,
+                         uint8_t *bank, size_t bank_n, uint32_t address,
+                         const uint8_t *words, size_t words_n);
+uint32_t cedarskein_set_mark(const uint8_t *sheet, size_t sheet_n,
+                             uint8_t *bank, size_t bank_n, uint32_t mark);
+uint32_t cedarskein_answer(const uint8_t *sheet, size_t sheet_n,
+                           uint8_t *bank, size_t bank_n,
+                           const uint8_t *frame, size_t frame_n,
+                           uint8_t *out, size_t out_n,
+                           uint32_t *length, uint32_t *rate);
+
+/* The nine functions of one side. */
+struct functions {
+    uint16_t (*check_start)(void);
+    uint16_t (*check_take)(uint16_t, uint8_t);
+    uint16_t (*check_value)(const uint8_t *, size_t);
+    uint32_t (*sheet_check)(const uint8_t *, size_t);
+    uint32_t (*bank_check)(const uint8_t *, size_t, const uint8_t *, size_t);
+    uint32_t (*bank_fresh)(const uint8_t *, size_t, uint8_t *, size_t);
+    uint32_t (*post)(const uint8_t *, size_t, uint8_t *, size_t, uint32_t, const uint8_t *, size_t);
+    uint32_t (*set_mark)(const uint8_t *, size_t, uint8_t *, size_t, uint32_t);
+    uint32_t (*answer)(const uint8_t *, size_t, uint8_t *, size_t, const uint8_t *, size_t,
+                       uint8_t *, size_t, uint32_t *, uint32_t *);
+};
+
+enum { LIBRARY, SECOND, SIDES };
+
+static const char *const side_names[SIDES] = { "library", "second" };
+
+static const struct functions sides[SIDES] = {
+    { cedarskein_check_start, cedarskein_check_take, cedarskein_check_value,
+      cedarskein_sheet_check, cedarskein_bank_check, cedarskein_bank_fresh,
+      cedarskein_post, cedarskein_set_mark, cedarskein_answer },
+    { second_check_start, second_check_take, second_check_value,
+      second_sheet_check, second_bank_check, second_bank_fresh,
+      second_post, second_set_mark, second_answer }
+};
+
+static const char *const call_names[CALL_COUNT] = {
+    "check_start", "check_take", "check_value", "sheet_check", "bank_check", "bank_fresh",
+    "post", "set_mark", "answer"
+};
+
+static const char *const part_names[PART_COUNT] = { "sheet", "bank", "bytes", "out" };
+
+static struct lent lent[SIDES][PART_COUNT];
+
+const char *call_name(enum call_sort sort)
+{
+    return call_names[sort];
+}
+
+const uint8_t *part_after(enum part part)
+{
+    return lent_bytes(&lent[LIBRARY][part]);
+}
+
+/* ---- Printing ---- */
+
+static void print_bytes(const char *name, const uint8_t *bytes, size_t n)
+{
+    printf("  %s, %zu bytes:", name, n);
+    for (size_t i = 0; i < n; i++)
+        printf(" %02X", bytes[i]);
+    printf("\n");
+}
+
+void print_call(const struct call *call)
+{
+    printf("call %s, value %" PRIX32 ", byte %02X\n", call_names[call->sort], call->value,
+           call->byte);
+    for (int part = 0; part < PART_COUNT; part++)
+        if (call->part_n[part] > 0)
+            print_bytes(part_names[part], call->part[part], call->part_n[part]);
+}
+
+static void print_side(int side, const struct outcome *outcome)
+{
+    printf(" %s: number %" PRIu32 ", length %" PRIu32 ", rate %" PRIu32 "\n", side_names[side],
+           outcome->number, outcome->length, outcome->rate);
+    print_bytes("bank after", lent_bytes(&lent[side][PART_BANK]), lent[side][PART_BANK].n);
+    print_bytes("out after", lent_bytes(&lent[side][PART_OUT]), lent[side][PART_OUT].n);
+}
+
+/* ---- One side ---- */
+
+/* Length and rate stand between guards of their own and hold noise before. */
+struct handed_back {
+    uint32_t guard_0, length, guard_1, rate, guard_2;
+};
+
+enum { GUARD = 0x5AA5C33C };
+
+static uint32_t ask_answer(const struct functions *side, struct lent *part,
+                           struct handed_back *back)
+{
+    return side->answer(part[PART_SHEET].at, part[PART_SHEET].n, part[PART_BANK].at,
+                        part[PART_BANK].n, part[PART_BYTES].at, part[PART_BYTES].n,
+                        part[PART_OUT].at, part[PART_OUT].n, &back->length, &back->rate);
+}
+
+static uint32_t ask(const struct functions *side, const struct call *call, struct lent *part,
+                    struct handed_back *back)
+{
+    const uint8_t *sheet = part[PART_SHEET].at;
+    const uint8_t *bytes = part[PART_BYTES].at;
+    uint8_t *bank = part[PART_BANK].at;
+    size_t sheet_n = part[PART_SHEET].n;
+    size_t bank_n = part[PART_BANK].n;
+    size_t bytes_n = part[PART_BYTES].n;
+    switch (call->sort) {
+    case CALL_CHECK_START: return side->check_start();
+    case CALL_CHECK_TAKE: return side->check_take((uint16_t)call->value, call->byte);
+    case CALL_CHECK_VALUE: return side->check_value(bytes, bytes_n);
+    case CALL_SHEET_CHECK: return side->sheet_check(sheet, sheet_n);
+    case CALL_BANK_CHECK: return side->bank_check(sheet, sheet_n, bank, bank_n);
+    case CALL_BANK_FRESH: return side->bank_fresh(sheet, sheet_n, bank, bank_n);
+    case CALL_POST: return side->post(sheet, sheet_n, bank, bank_n, call->value, bytes, bytes_n);
+    case CALL_SET_MARK: return side->set_mark(sheet, sheet_n, bank, bank_n, call->value);
+    default: return ask_answer(side, part, back);
+    }
+}
+
+static bool all_back(int side)
+{
+    bool kept = true;
+    for (int part = 0; part < PART_COUNT; part++)
+        if (!lent_back(&lent[side][part])) {
+            printf("%s wrote beside its %s\n", side_names[side], part_names[part]);
+            kept = false;
+        }
+    return kept;
+}
+
+/* The sheet and the frame or posted bytes are lent for reading only. */
+static bool read_parts_kept(int side, const struct call *call)
+{
+    bool kept = true;
+    for (int part = 0; part < PART_COUNT; part++)
+        if ((part == PART_SHEET || part == PART_BYTES) && call->part_n[part] > 0
+            && memcmp(lent_bytes(&lent[side][part]), call->part[part], call->part_n[part]) != 0) {
+            printf("%s wrote into its %s\n", side_names[side], part_names[part]);
+            kept = false;
+        }
+    return kept;
+}
+
+static bool run_side(int side, const struct call *call, struct outcome *outcome)
+{
+    struct handed_back back = { GUARD, (uint32_t)noise(), GUARD, (uint32_t)noise(), GUARD };
+    for (int part = 0; part < PART_COUNT; part++)
+        lend(&lent[side][part], call->part[part], call->part_n[part], below(8), chance(50));
+    outcome->number = ask(&sides[side], call, lent[side], &back);
+    outcome->length = call->sort == CALL_ANSWER ? back.length : 0;
+    outcome->rate = call->sort == CALL_ANSWER ? back.rate : 0;
+    bool kept = all_back(side) && read_parts_kept(side, call);
+    if (back.guard_0 != GUARD || back.guard_1 != GUARD || back.guard_2 != GUARD) {
+        printf("%s wrote beside length or rate\n", side_names[side]);
+        kept = false;
+    }
+    return kept;
+}
+
+/* ---- Both sides ---- */
+
+static bool same_parts(void)
+{
+    for (int part = 0; part < PART_COUNT; part++)
+        if (lent[LIBRARY][part].n > 0
+            && memcmp(lent_bytes(&lent[LIBRARY][part]), lent_bytes(&lent[SECOND][part]),
+                      lent[LIBRARY][part].n) != 0)
+            return false;
+    return true;
+}
+
+static bool same_outcome(const struct outcome *one, const struct outcome *other)
+{
+    return one->number == other->number && one->length == other->length
+        && one->rate == other->rate;
+}
+
+bool same_on_both_sides(const struct call *call, struct outcome *outcome)
+{
+    struct outcome of_side[SIDES];
+    bool same = run_side(LIBRARY, call, &of_side[LIBRARY]);
+    same = run_side(SECOND, call, &of_side[SECOND]) && same;
+    same = same && same_outcome(&of_side[LIBRARY], &of_side[SECOND]) && same_parts();
+    *outcome = of_side[LIBRARY];
+    if (!same) {
+        print_call(call);
+        print_side(LIBRARY, &of_side[LIBRARY]);
+        print_side(SECOND, &of_side[SECOND]);
+    }
+    return same;
+}

@@ -1,0 +1,51 @@
+/* One call made on both sides, the library and the second statement. */
+#ifndef CALLS_H
+#define CALLS_H
+
+#include <stdbool.h>
+#include <stddef.h>
+#include <stdint.h>
+
+enum call_sort {
+    CALL_CHECK_START,
+    CALL_CHECK_TAKE,
+    CALL_CHECK_VALUE,
+    CALL_SHEET_CHECK,
+    CALL_BANK_CHECK,
+    CALL_BANK_FRESH,
+    CALL_POST,
+    CALL_SET_MARK,
+    CALL_ANSWER,
+    CALL_COUNT
+};
+
+/* The buffers of a call; those it does not have are empty. */
+enum part { PART_SHEET, PART_BANK, PART_BYTES, PART_OUT, PART_COUNT };
+
+struct call {
+    enum call_sort sort;
+    const uint8_t *part[PART_COUNT];    /* before the call */
+    size_t part_n[PART_COUNT];
+    uint32_t value;                     /* address, mark, or running state */
+    uint8_t byte;                       /* for the running state */
+};
+
+struct outcome {
+    uint32_t number, length, rate;
+};
+
+/* Makes the call on both sides. False, with the whole call printed, if they
+ * differ in a number, a length, a rate or any byte of any buffer, or if one of
+ * them wrote where it must not. The outcome and the lent buffers are those of
+ * both. */
+bool same_on_both_sides(const struct call *call, struct outcome *outcome);
+
+/* A buffer of the library's side as the last call left it. */
+const uint8_t *part_after(enum part part);
+
+/* Prints the call in hexadecimal. */
+void print_call(const struct call *call);
+
+const char *call_name(enum call_sort sort);
+
+#endif

@@ -1,0 +1,193 @@
+/* The cases that 01 lists, run on both sides: the library and the second
+ * statement must agree, and both must give what 01 writes. */
+#include "calls.h"
+#include "second.h"
+#include "sheets_made.h"
+
+#include <stdio.h>
+#include <stdlib.h>
+#include <string.h>
+
+enum { MARK = 0x10000, WORDS = 4, OUT_ROOM = 100, MAP_UX = 0, MAP_AS_WE = 40 };
+
+struct stored {
+    uint32_t address, word;     /* address 0: none; MARK: the alarm mark */
+};
+
+struct frame_case {
+    const char *name;
+    uint32_t map;
+    struct stored before[WORDS];
+    const char *frame;          /* checks left out */
+    const char *reply;          /* empty for silence */
+    struct stored after[WORDS]; /* what has changed; the rest stays */
+};
+
+static const struct frame_case cases[] = {
+    { "P1", MAP_UX, { { 0x0101, 1 }, { 0x0102, 0 } },
+      "01 03 01 01 00 02", "01 03 04 00 01 00 00", { { 0, 0 } } },
+    { "P2", MAP_UX, { { 0, 0 } }, "01 10 01 0F 00 02 04 00 01 13 88", "01 10 01 0F 00 02",
+      { { 0x010F, 1 }, { 0x0110, 0x1388 } } },
+    { "P3", MAP_UX, { { 0, 0 } }, "01 06 01 0E 00 02", "01 06 01 0E 00 02", { { 0x010E, 2 } } },
+    { "P4", MAP_UX, { { 0x0103, 0 }, { 0x0104, 0x9876 } },
+      "01 06 01 03 00 01", "01 86 03", { { 0, 0 } } },
+    { "P5 stored", MAP_UX, { { 0x0103, 0 }, { 0x0104, 0x9876 } },
+      "01 10 01 03 00 02 04 00 01 86 9F", "01 10 01 03 00 02",
+      { { 0x0103, 1 }, { 0x0104, 0x869F } } },
+    { "P5 refused", MAP_UX, { { 0x0103, 0 }, { 0x0104, 0x9876 } },
+      "01 10 01 03 00 02 04 00 01 86 A0", "01 90 03", { { 0, 0 } } },
+    { "P6", MAP_UX, { { 0, 0 } }, "01 10 01 01 00 03 06 00 04 00 02 00 00", "01 90 03",
+      { { 0x0101, 4 } } },
+    { "P7", MAP_UX, { { 0, 0 } }, "01 10 01 0E 00 02 04 00 02 00 02", "01 90 03",
+      { { 0x010E, 2 } } },
+    { "P8 FFF6", MAP_UX, { { 0x0100, 5 } }, "01 06 01 00 FF F6", "01 06 01 00 FF F6",
+      { { 0x0100, 0xFFF6 } } },
+    { "P8 003C", MAP_UX, { { 0, 0 } }, "01 06 01 00 00 3C", "01 06 01 00 00 3C",
+      { { 0x0100, 0x003C } } },
+    { "P8 FFF5", MAP_UX, { { 0, 0 } }, "01 06 01 00 FF F5", "01 86 03", { { 0, 0 } } },
+    { "P8 003D", MAP_UX, { { 0, 0 } }, "01 06 01 00 00 3D", "01 86 03", { { 0, 0 } } },
+    { "P9 23", MAP_UX, { { 0, 0 } }, "01 03 01 00 00 17",
+      "01 03 2E FF F6 00 00 00 00 00 00 00 00 00 00 00 00 00 00 00 00 00 01 00 00 00 00 00 00 "
+      "00 01 00 01 00 00 00 00 00 00 00 00 00 00 00 00 00 00 00 00", { { 0, 0 } } },
+    { "P9 24", MAP_UX, { { 0, 0 } }, "01 03 01 00 00 18", "01 83 02", { { 0, 0 } } },
+    { "P9 0", MAP_UX, { { 0, 0 } }, "01 03 01 00 00 00", "01 83 03", { { 0, 0 } } },
+    { "P10 0000", MAP_UX, { { MARK, 1 } }, "01 05 03 00 00 00", "01 05 03 00 00 00",
+      { { MARK, 0 } } },
+    { "P10 0001", MAP_UX, { { MARK, 1 } }, "01 05 03 00 00 01", "01 85 03", { { 0, 0 } } },
+    { "P10 0301", MAP_UX, { { MARK, 1 } }, "01 05 03 01 00 01", "01 85 02", { { 0, 0 } } },
+    { "P10 AS-WE", MAP_AS_WE, { { 0, 0 } }, "01 05 03 00 00 00", "01 85 01", { { 0, 0 } } },
+    { "P11 0010", MAP_AS_WE, { { 0, 0 } }, "01 06 01 09 00 10", "01 06 01 09 00 10",
+      { { 0x0109, 0x10 } } },
+    { "P11 0011", MAP_AS_WE, { { 0, 0 } }, "01 06 01 09 00 11", "01 86 03", { { 0, 0 } } },
+    { "function 83", MAP_UX, { { 0, 0 } }, "01 83 01 00 00 01", "01 83 01", { { 0, 0 } } },
+    { "06 at 0200", MAP_UX, { { 0, 0 } }, "01 06 02 00 00 01", "01 86 02", { { 0, 0 } } },
+    { "9-byte 06", MAP_UX, { { 0, 0 } }, "01 06 01 01 00 01 00", "", { { 0, 0 } } }
+};
+
+static int failed;
+
+static void expect(bool holds, const char *name, const char *what)
+{
+    if (holds)
+        return;
+    printf("%s: %s\n", name, what);
+    failed++;
+}
+
+static size_t put_hex(const char *hex, uint8_t *bytes)
+{
+    size_t n = 0;
+    for (char *next; *hex != '\0'; hex = next)
+        bytes[n++] = (uint8_t)strtoul(hex, &next, 16);
+    return n;
+}
+
+static size_t put_checked(const char *hex, uint8_t *bytes)
+{
+    size_t n = put_hex(hex, bytes);
+    uint16_t value = second_check_value(bytes, n);
+    bytes[n] = (uint8_t)(value & 0xFF);
+    bytes[n + 1] = (uint8_t)(value >> 8);
+    return n + 2;
+}
+
+static void put_stored(const struct made *made, const struct stored *stored, uint8_t *bank)
+{
+    for (int i = 0; i < WORDS && stored[i].address != 0; i++) {
+        if (stored[i].address == MARK) {
+            put16(bank, made->bank_words, stored[i].word);
+            continue;
+        }
+        const struct made_area *area = &made->areas[made_area_of(made, stored[i].address)];
+        put16(bank, area->place + (stored[i].address - area->first), stored[i].word);
+    }
+}
+
+static void judge_case(const struct frame_case *one, const struct call *call,
+                       const struct outcome *outcome, const uint8_t *bank)
+{
+    uint8_t out[OUT_ROOM] = { 0 };
+    size_t n = *one->reply == '\0' ? 0 : put_checked(one->reply, out);
+    expect(outcome->number == (n == 0 ? NUMBER_SILENCE : NUMBER_DONE), one->name, "number");
+    expect(outcome->length == n, one->name, "length");
+    expect(outcome->rate == (n == 0 ? 0 : 1), one->name, "rate");
+    expect(memcmp(out, part_after(PART_OUT), OUT_ROOM) == 0, one->name, "reply");
+    expect(memcmp(bank, part_after(PART_BANK), call->part_n[PART_BANK]) == 0, one->name, "bank");
+}
+
+static void run_case(const struct frame_case *one)
+{
+    static const uint8_t out[OUT_ROOM];
+    uint8_t sheet[SHEET_ROOM], bank[BANK_ROOM], after[BANK_ROOM], frame[OUT_ROOM];
+    struct made made;
+    struct outcome outcome;
+    if (one->map == MAP_UX)
+        make_ux(&made);
+    else
+        make_as_we(&made, one->map);
+    size_t sheet_n = put_sheet(&made, sheet);
+    size_t bank_n = 2 * (size_t)made.bank_words + 2;
+    expect(second_bank_fresh(sheet, sheet_n, bank, bank_n) == NUMBER_DONE, one->name, "fresh");
+    put_stored(&made, one->before, bank);
+    memcpy(after, bank, bank_n);
+    put_stored(&made, one->after, after);
+    size_t frame_n = put_checked(one->frame, frame);
+    struct call call = { CALL_ANSWER, { sheet, bank, frame, out },
+                         { sheet_n, bank_n, frame_n, OUT_ROOM }, 0, 0 };
+    expect(same_on_both_sides(&call, &outcome), one->name, "the sides differ");
+    judge_case(one, &call, &outcome, after);
+}
+
+/* P12, and the values after 01 and 03 that the meter's document prints. */
+static void run_check_values(void)
+{
+    struct call call = { CALL_CHECK_VALUE, { NULL, NULL, (const uint8_t *)"123456789", NULL },
+                         { 0, 0, 9, 0 }, 0, 0 };
+    struct outcome outcome;
+    expect(same_on_both_sides(&call, &outcome) && outcome.number == 0x4B37, "P12", "value");
+    call.part[PART_BYTES] = (const uint8_t *)"\x01\x03";
+    call.part_n[PART_BYTES] = 1;
+    expect(same_on_both_sides(&call, &outcome) && outcome.number == 0x807E, "01", "value");
+    call.part_n[PART_BYTES] = 2;
+    expect(same_on_both_sides(&call, &outcome) && outcome.number == 0x2140, "01 03", "value");
+}
+
+/* The sheet of 01's listing. */
+static void run_listed_sheet(void)
+{
+    static const uint16_t words[34] = {
+        0x0001, 0x0001, 0x000C, 0x0003, 0x0010, 0x0003, 0x000D, 0x0022, 0x0000, 0x0001, 0x0000,
+        0x0000, 0x0000, 0x0002, 0x0000, 0x0003, 0x0000, 0x0000, 0x0000, 0x0001, 0x0000, 0x00F7,
+        0x0000, 0x0001, 0x0000, 0x0000, 0x0000, 0x0001, 0x0001, 0x0002, 0x0000, 0xFFF6, 0x0000,
+        0x003C
+    };
+    uint8_t sheet[68];
+    for (size_t i = 0; i < 34; i++)
+        put16(sheet, i, words[i]);
+    struct call call = { CALL_SHEET_CHECK, { sheet, NULL, NULL, NULL }, { 68, 0, 0, 0 }, 0, 0 };
+    struct outcome outcome;
+    expect(same_on_both_sides(&call, &outcome) && outcome.number == NUMBER_DONE,
+           "listed sheet", "number");
+}
+
+/* "B is 34.", "B is 38.", 18 and 22 items. */
+static void run_maps(void)
+{
+    struct made made;
+    make_ux(&made);
+    expect(made.bank_words == 34 && made.items_n == 18, "UX", "size");
+    make_as_we(&made, 40);
+    expect(made.bank_words == 38 && made.items_n == 22, "AS-WE", "size");
+}
+
+int main(void)
+{
+    size_t n = sizeof cases / sizeof cases[0];
+    for (size_t i = 0; i < n; i++)
+        run_case(&cases[i]);
+    run_check_values();
+    run_listed_sheet();
+    run_maps();
+    printf("ran %zu frame cases, %d failures\n", n, failed);
+    return failed == 0 ? 0 : 1;
+}

@@ -1,0 +1,534 @@
+/* Compares the library with the second statement of 01 over made calls.
+ *
+ *   compare [seed [calls]]      defaults: seed 1, 50000 calls
+ *
+ * Exit 0 if no call differs and, from 50000 calls on, each thing that is
+ * counted was met at least 100 times; else 1. */
+#include "calls.h"
+#include "counts.h"
+#include "frames_made.h"
+#include "noise.h"
+#include "second.h"
+#include "sheets_made.h"
+
+#include <inttypes.h>
+#include <stdio.h>
+#include <stdlib.h>
+#include <string.h>
+
+enum { MOST_DIFFERENCES = 5, OUT_ROOM = 5000, LEAST_MET = 100, LEAST_CALLS = 50000 };
+
+/* What several calls one after the other are about. */
+struct subject {
+    struct made made;               /* the sound sheet behind the bytes */
+    uint8_t sheet[SHEET_ROOM];
+    size_t sheet_n;
+    uint8_t bank[BANK_ROOM];
+    size_t bank_n;
+    enum second_rule made_broken;   /* broken on purpose, RULE_NONE if none */
+    enum second_rule broken;        /* first broken rule, RULE_NONE if sound */
+    unsigned left;                  /* calls still to make */
+    bool changed;                   /* a call has changed the bank */
+};
+
+static struct subject subject;
+static struct counts counts;
+static uint64_t differences;
+
+static void met(enum special special)
+{
+    counts.special[special]++;
+}
+
+static void differs(const struct call *call, const char *what)
+{
+    if (what != NULL) {
+        printf("%s\n", what);
+        print_call(call);
+    }
+    differences++;
+    if (differences >= MOST_DIFFERENCES) {
+        printf("stopped after %" PRIu64 " differences\n", differences);
+        exit(1);
+    }
+}
+
+/* ---- Sheets ---- */
+
+/* Each rule in turn, so that all are met equally often. */
+static void break_next_rule(void)
+{
+    static int rule = RULE_NONE;
+    rule = rule + 1 < RULE_COUNT ? rule + 1 : RULE_NONE + 1;
+    subject.made_broken = (enum second_rule)rule;
+    if (!make_broken(subject.made_broken, &subject.made, subject.sheet, &subject.sheet_n)) {
+        printf("no sheet was found that breaks: %s\n", second_rule_name(subject.made_broken));
+        exit(1);
+    }
+}
+
+/* Noise of any length; often with a header that starts well. */
+static void random_sheet(void)
+{
+    subject.sheet_n = chance(30) ? below(60) : below(1000);
+    noise_fill(subject.sheet, SHEET_ROOM);
+    if (chance(50)) {
+        put16(subject.sheet, 0, 1);
+        put16(subject.sheet, 1, 1 + below(8));
+        put16(subject.sheet, 2, 12);
+    }
+}
+
+static void cut_sheet(void)
+{
+    noise_fill(subject.sheet + subject.sheet_n, 2);
+    switch (below(4)) {
+    case 0: subject.sheet_n += 1 + below(2); break;
+    case 1: subject.sheet_n -= 1 + below(2); break;
+    case 2: subject.sheet_n = 0; break;
+    default: subject.sheet_n = below((uint32_t)subject.sheet_n); break;
+    }
+}
+
+/* One word changed: by one, by one bit, or to anything. */
+static void poke_sheet(void)
+{
+    size_t words = subject.sheet_n / 2;
+    size_t at = chance(40) ? below(12) : below((uint32_t)words);
+    uint32_t word = get16(subject.sheet, at);
+    put16(subject.sheet, at,
+          ONE_OF(word + 1, word - 1, 0, 1, word ^ 1u << below(16), below(0x10000)));
+}
+
+/* An area of up to 65536 addresses, with B as it was or as 16 bits hold it. */
+static void huge_sheet(void)
+{
+    size_t row = 12 + 4 * (size_t)below(subject.made.areas_n);
+    put16(subject.sheet, row, below(3));
+    put16(subject.sheet, row + 1, 0xFFFF - below(3));
+    if (chance(50))
+        put16(subject.sheet, 5, 0xFFFF - get16(subject.sheet, row) + 1);
+}
+
+static void make_subject_sheet(void)
+{
+    subject.made_broken = RULE_NONE;
+    make_sound(&subject.made);
+    subject.sheet_n = put_sheet(&subject.made, subject.sheet);
+    uint32_t sort = below(100);
+    if (sort < 30)
+        break_next_rule();
+    else if (sort < 33)
+        random_sheet();
+    else if (sort < 36)
+        cut_sheet();
+    else if (sort < 40)
+        poke_sheet();
+    else if (sort < 41)
+        huge_sheet();
+    subject.broken = second_broken_rule(subject.sheet, subject.sheet_n);
+}
+
+static bool sheet_is_as_made(void)
+{
+    uint8_t bytes[SHEET_ROOM];
+    size_t n = put_sheet(&subject.made, bytes);
+    return n == subject.sheet_n && memcmp(bytes, subject.sheet, n) == 0;
+}
+
+/* ---- Banks ---- */
+
+static void make_subject_bank(void)
+{
+    subject.bank_n = 2 * (size_t)subject.made.bank_words + 2;
+    make_bank(&subject.made, subject.bank);
+    if (chance(25))
+        second_bank_fresh(subject.sheet, subject.sheet_n, subject.bank, subject.bank_n);
+}
+
+static void make_subject(void)
+{
+    make_subject_sheet();
+    make_subject_bank();
+    subject.left = subject.broken == RULE_NONE ? 1 + below(7) : 1 + below(2);
+    subject.changed = false;
+}
+
+/* A bank of another size, not sound, or noise. */
+static size_t spoil_bank(uint8_t *bank, size_t n)
+{
+    noise_fill(bank + n, 4);
+    switch (below(8)) {
+    case 0: return n + 1;
+    case 1: return n + 2;
+    case 2: return n - 1;
+    case 3: return n - 2;
+    case 4: return 0;
+    case 5: put16(bank, n / 2 - 1, ONE_OF(2, 3, 0x0100, 0x0101, 0xFFFF)); return n;
+    case 6: noise_fill(bank, n); return n;
+    default:
+        while (!spoil_item(&subject.made, bank))
+            ;
+        return n;
+    }
+}
+
+/* The bank for the next call; true if it is the subject's own. */
+static bool choose_bank(struct call *call)
+{
+    static uint8_t bank[BANK_ROOM];
+    memcpy(bank, subject.bank, subject.bank_n);
+    bool own = chance(call->sort == CALL_ANSWER ? 88 : 75);
+    call->part[PART_BANK] = bank;
+    call->part_n[PART_BANK] = own ? subject.bank_n : spoil_bank(bank, subject.bank_n);
+    return own;
+}
+
+/* ---- Counting what a frame met ---- */
+
+static void count_reply(const uint8_t *out)
+{
+    if ((out[1] & 0x80) != 0 && out[2] >= 1 && out[2] <= 3)
+        met((enum special)(SPECIAL_REPLY_ERROR_1 + (out[2] - 1)));
+    else if (out[1] == 0x03)
+        met(SPECIAL_REPLY_READ);
+    else if (out[1] == 0x05)
+        met(SPECIAL_REPLY_CLEAR);
+    else if (out[1] == 0x06)
+        met(SPECIAL_REPLY_WRITE_ONE);
+    else if (out[1] == 0x10)
+        met(SPECIAL_REPLY_WRITE_MANY);
+    if (out[0] == 0)
+        met(SPECIAL_STATION_0);
+}
+
+/* Whether an address is the upper (0) or lower (1) half of a pair. */
+static bool is_half(uint32_t address, uint32_t half)
+{
+    int area = made_area_of(&subject.made, address);
+    if (area < 0)
+        return false;
+    uint32_t place = subject.made.areas[area].place + (address - subject.made.areas[area].first);
+    int item = made_item_of(&subject.made, place);
+    return item >= 0 && subject.made.items[item].kind == 2
+        && subject.made.items[item].place + half == place;
+}
+
+static bool over_areas(uint32_t start, uint32_t last)
+{
+    return made_area_of(&subject.made, start) != made_area_of(&subject.made, last);
+}
+
+static void count_read(const uint8_t *frame)
+{
+    uint32_t start = get16(frame + 2, 0);
+    uint32_t count = get16(frame + 4, 0);
+    if (count == 47)
+        met(SPECIAL_READ_47);
+    if (over_areas(start, start + count - 1))
+        met(SPECIAL_READ_OVER_AREAS);
+}
+
+static void count_good_write(const uint8_t *frame)
+{
+    uint32_t start = get16(frame + 2, 0);
+    uint32_t last = frame[1] == 0x10 ? start + get16(frame + 4, 0) - 1 : start;
+    if (over_areas(start, last))
+        met(SPECIAL_WRITE_OVER_AREAS);
+    if (is_half(start, 1))
+        met(SPECIAL_LOWER_ALONE_GOOD);
+    if (is_half(last, 0))
+        met(SPECIAL_UPPER_ALONE_GOOD);
+}
+
+static void count_bad_write(const struct call *call, bool changed)
+{
+    const uint8_t *frame = call->part[PART_BYTES];
+    uint32_t start = get16(frame + 2, 0);
+    if (changed)
+        met(SPECIAL_STORED_PART);
+    if (frame[1] == 0x06 && is_half(start, 1))
+        met(SPECIAL_LOWER_ALONE_BAD);
+    if (frame[1] == 0x06 && is_half(start, 0))
+        met(SPECIAL_UPPER_ALONE_BAD);
+}
+
+static bool word_changed(const struct call *call, uint32_t place)
+{
+    return get16(call->part[PART_BANK], place) != get16(part_after(PART_BANK), place);
+}
+
+static void count_changes(const struct call *call, enum second_step step)
+{
+    bool address = word_changed(call, subject.made.address_place);
+    if (address)
+        met(SPECIAL_ADDRESS_CHANGED);
+    if (address && step == STEP_7_BAD_ITEM)
+        met(SPECIAL_PART_CHANGED_ADDRESS);
+    if (word_changed(call, subject.made.rate_place))
+        met(SPECIAL_RATE_CHANGED);
+    if (step == STEP_GOOD_CLEAR && word_changed(call, subject.made.bank_words))
+        met(SPECIAL_CLEARED_MARK);
+}
+
+static bool bank_changed(const struct call *call)
+{
+    return call->part_n[PART_BANK] > 0
+        && memcmp(call->part[PART_BANK], part_after(PART_BANK), call->part_n[PART_BANK]) != 0;
+}
+
+static void count_good_frame(const struct call *call, enum second_step step)
+{
+    count_reply(part_after(PART_OUT));
+    if (!sheet_is_as_made())
+        return;
+    if (step == STEP_GOOD_READ)
+        count_read(call->part[PART_BYTES]);
+    if (step == STEP_GOOD_WRITE_ONE || step == STEP_GOOD_WRITE_MANY)
+        count_good_write(call->part[PART_BYTES]);
+    if (step == STEP_7_BAD_ITEM)
+        count_bad_write(call, bank_changed(call));
+    count_changes(call, step);
+}
+
+static bool step_is_silent(enum second_step step)
+{
+    return step == STEP_2_STATION || (STEP_1_SHORT <= step && step <= STEP_1_CHECK)
+        || (STEP_4_NOT_8 <= step && step <= STEP_4_NOT_9_PLUS);
+}
+
+static void count_frame(const struct call *call, const struct outcome *outcome)
+{
+    enum second_step step = second_step(call->part[PART_SHEET], call->part_n[PART_SHEET],
+                                        call->part[PART_BANK], call->part_n[PART_BANK],
+                                        call->part[PART_BYTES], call->part_n[PART_BYTES]);
+    if (outcome->number == NUMBER_DONE || outcome->number == NUMBER_SILENCE)
+        counts.step[step]++;
+    if (outcome->number == NUMBER_DONE)
+        count_good_frame(call, step);
+    if (outcome->number == NUMBER_BUFFER && step_is_silent(step))
+        met(SPECIAL_SILENCE_SMALL_BUFFER);
+}
+
+/* ---- Making a call ---- */
+
+static bool has_empty_part(const struct call *call)
+{
+    switch (call->sort) {
+    case CALL_CHECK_START: case CALL_CHECK_TAKE: return false;
+    case CALL_CHECK_VALUE: return call->part_n[PART_BYTES] == 0;
+    case CALL_SHEET_CHECK: return call->part_n[PART_SHEET] == 0;
+    case CALL_POST:
+        return call->part_n[PART_BANK] == 0 || call->part_n[PART_BYTES] == 0;
+    case CALL_ANSWER:
+        return call->part_n[PART_BANK] == 0 || call->part_n[PART_BYTES] == 0
+            || call->part_n[PART_OUT] == 0;
+    default: return call->part_n[PART_BANK] == 0;
+    }
+}
+
+static void count_call(const struct call *call, const struct outcome *outcome)
+{
+    counts.calls++;
+    counts.call[call->sort]++;
+    if (has_empty_part(call))
+        met(SPECIAL_NULL_SLICE);
+    if (call->sort < CALL_SHEET_CHECK)
+        return;
+    if (outcome->number < 8)
+        counts.number[call->sort][outcome->number]++;
+    if (subject.made_broken != RULE_NONE)
+        counts.rule_alone[subject.made_broken]++;
+    counts.rule_first[subject.broken]++;
+    if (subject.changed)
+        met(SPECIAL_CHAINED);
+}
+
+/* Makes the call on both sides and counts it. */
+static struct outcome make_call(const struct call *call)
+{
+    struct outcome outcome;
+    if (!same_on_both_sides(call, &outcome))
+        differs(call, NULL);
+    count_call(call, &outcome);
+    return outcome;
+}
+
+/* The bank that the call left goes into the next one. */
+static void keep_bank(const struct call *call, bool own)
+{
+    if (!own || !bank_changed(call))
+        return;
+    memcpy(subject.bank, part_after(PART_BANK), subject.bank_n);
+    subject.changed = true;
+}
+
+static struct call new_call(enum call_sort sort)
+{
+    struct call call;
+    memset(&call, 0, sizeof call);
+    call.sort = sort;
+    if (sort >= CALL_SHEET_CHECK) {
+        call.part[PART_SHEET] = subject.sheet;
+        call.part_n[PART_SHEET] = subject.sheet_n;
+    }
+    return call;
+}
+
+static void call_check(enum call_sort sort)
+{
+    static uint8_t bytes[600];
+    struct call call = new_call(sort);
+    if (sort == CALL_CHECK_TAKE) {
+        call.value = below(0x10000);
+        call.byte = (uint8_t)below(256);
+    }
+    if (sort == CALL_CHECK_VALUE) {
+        call.part[PART_BYTES] = bytes;
+        call.part_n[PART_BYTES] = chance(10) ? 0 : chance(50) ? below(12) : below(sizeof bytes);
+        noise_fill(bytes, call.part_n[PART_BYTES]);
+    }
+    make_call(&call);
+}
+
+static void call_sheet(void)
+{
+    struct call call = new_call(CALL_SHEET_CHECK);
+    make_call(&call);
+}
+
+static void call_bank(enum call_sort sort)
+{
+    struct call call = new_call(sort);
+    bool own = choose_bank(&call);
+    make_call(&call);
+    keep_bank(&call, own);
+}
+
+static void count_post(const struct call *call, const struct outcome *outcome)
+{
+    if (!sheet_is_as_made())
+        return;
+    uint32_t count = (uint32_t)(call->part_n[PART_BYTES] / 2);
+    int area = made_area_of(&subject.made, call->value);
+    if (outcome->number == NUMBER_DONE && over_areas(call->value, call->value + count - 1))
+        met(SPECIAL_POST_OVER_AREAS);
+    if (outcome->number == NUMBER_POSTED_BYTES_OR_MARK && call->part_n[PART_BYTES] > 0
+        && (area < 0 || subject.made.areas[area].access == 3))
+        met(SPECIAL_7_BEFORE_6);
+}
+
+static void call_post(void)
+{
+    static uint8_t words[POST_ROOM];
+    struct call call = new_call(CALL_POST);
+    bool own = choose_bank(&call);
+    call.part_n[PART_BYTES] = make_post(&subject.made, &call.value, words);
+    call.part[PART_BYTES] = words;
+    struct outcome outcome = make_call(&call);
+    count_post(&call, &outcome);
+    keep_bank(&call, own);
+}
+
+static void call_mark(void)
+{
+    struct call call = new_call(CALL_SET_MARK);
+    bool own = choose_bank(&call);
+    call.value = chance(60) ? below(2) : ONE_OF(2, 256, 65536, 65537, 0xFFFFFFFF, 0x80000000);
+    make_call(&call);
+    keep_bank(&call, own);
+}
+
+static void choose_out(struct call *call, bool large_enough)
+{
+    static uint8_t out[OUT_ROOM];
+    call->part_n[PART_OUT] = ONE_OF(100, 100, 100, 100, 101, 101, 300, 300, 256, 120);
+    if (chance(2))
+        call->part_n[PART_OUT] = OUT_ROOM;
+    if (!large_enough && chance(7))
+        call->part_n[PART_OUT] = ONE_OF(0, 1, 50, 99, 99);
+    noise_fill(out, call->part_n[PART_OUT]);
+    call->part[PART_OUT] = out;
+}
+
+static void call_answer(void)
+{
+    static uint8_t frame[FRAME_ROOM];
+    struct call call = new_call(CALL_ANSWER);
+    bool own = choose_bank(&call);
+    call.part_n[PART_BYTES] = make_frame(&subject.made, subject.bank, frame);
+    call.part[PART_BYTES] = frame;
+    choose_out(&call, false);
+    struct outcome outcome = make_call(&call);
+    count_frame(&call, &outcome);
+    keep_bank(&call, own);
+}
+
+/* Whether the library was silent and left all as it was. */
+static bool is_untouched(const struct call *call, const struct outcome *outcome)
+{
+    return outcome->number == NUMBER_SILENCE && outcome->length == 0 && outcome->rate == 0
+        && !bank_changed(call)
+        && memcmp(call->part[PART_OUT], part_after(PART_OUT), call->part_n[PART_OUT]) == 0;
+}
+
+/* A passing frame, damaged: whatever the frame, the answer is silence. */
+static void call_damaged(void)
+{
+    static uint8_t frame[FRAME_ROOM];
+    struct call call = new_call(CALL_ANSWER);
+    call.part[PART_BANK] = subject.bank;
+    call.part_n[PART_BANK] = subject.bank_n;
+    call.part_n[PART_BYTES] = make_passing_frame(&subject.made, subject.bank, frame);
+    call.part[PART_BYTES] = frame;
+    enum damage damage = damage_frame(frame, call.part_n[PART_BYTES]);
+    choose_out(&call, true);
+    struct outcome outcome = make_call(&call);
+    count_frame(&call, &outcome);
+    counts.damage[damage]++;
+    if (!is_untouched(&call, &outcome))
+        differs(&call, "a damaged frame was not met with silence");
+}
+
+static void some_call(void)
+{
+    bool sound = subject.broken == RULE_NONE && sheet_is_as_made();
+    uint32_t sort = below(100);
+    if (sort < 1)
+        call_check(CALL_CHECK_START);
+    else if (sort < 4)
+        call_check(CALL_CHECK_TAKE);
+    else if (sort < 7)
+        call_check(CALL_CHECK_VALUE);
+    else if (sort < (sound ? 10 : 40))
+        call_sheet();
+    else if (sort < (sound ? 16 : 50))
+        call_bank(CALL_BANK_CHECK);
+    else if (sort < (sound ? 21 : 60))
+        call_bank(CALL_BANK_FRESH);
+    else if (sort < (sound ? 34 : 70))
+        call_post();
+    else if (sort < (sound ? 40 : 80))
+        call_mark();
+    else if (sort < 46 && sound)
+        call_damaged();
+    else
+        call_answer();
+}
+
+int main(int argc, char **argv)
+{
+    uint64_t seed = argc > 1 ? strtoull(argv[1], NULL, 10) : 1;
+    uint64_t calls = argc > 2 ? strtoull(argv[2], NULL, 10) : LEAST_CALLS;
+    noise_seed(seed);
+    while (counts.calls < calls) {
+        if (subject.left == 0)
+            make_subject();
+        subject.left--;
+        some_call();
+    }
+    bool enough = counts_enough(&counts, calls >= LEAST_CALLS ? LEAST_MET : 0);
+    printf("seed %" PRIu64 ": compared %" PRIu64 " calls, %" PRIu64 " differences\n", seed,
+           counts.calls, differences);
+    return differences == 0 && enough ? 0 : 1;
+}

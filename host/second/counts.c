@@ -1,0 +1,96 @@
+#include "counts.h"
+
+#include <inttypes.h>
+#include <stdio.h>
+
+static const char *const damage_names[DAMAGE_COUNT] = {
+    "none", "1 bit", "2 bits", "3 bits", "burst within 16 bits"
+};
+
+static const char *const special_names[SPECIAL_COUNT] = {
+    [SPECIAL_REPLY_READ] = "reply to 03",
+    [SPECIAL_REPLY_CLEAR] = "reply to 05",
+    [SPECIAL_REPLY_WRITE_ONE] = "reply to 06",
+    [SPECIAL_REPLY_WRITE_MANY] = "reply to 10",
+    [SPECIAL_REPLY_ERROR_1] = "error 01",
+    [SPECIAL_REPLY_ERROR_2] = "error 02",
+    [SPECIAL_REPLY_ERROR_3] = "error 03",
+    [SPECIAL_READ_47] = "good read of 47 words",
+    [SPECIAL_READ_OVER_AREAS] = "good read over two areas",
+    [SPECIAL_WRITE_OVER_AREAS] = "good write over two areas",
+    [SPECIAL_STORED_PART] = "bad item, part stored",
+    [SPECIAL_UPPER_ALONE_GOOD] = "upper half alone, good",
+    [SPECIAL_UPPER_ALONE_BAD] = "upper half alone, bad",
+    [SPECIAL_LOWER_ALONE_GOOD] = "lower half alone, good",
+    [SPECIAL_LOWER_ALONE_BAD] = "lower half alone, bad",
+    [SPECIAL_ADDRESS_CHANGED] = "address changed",
+    [SPECIAL_RATE_CHANGED] = "rate changed",
+    [SPECIAL_PART_CHANGED_ADDRESS] = "address changed, then error",
+    [SPECIAL_STATION_0] = "reply from station 0",
+    [SPECIAL_SILENCE_SMALL_BUFFER] = "5 for a frame to be silent at",
+    [SPECIAL_CLEARED_MARK] = "mark went from 1 to 0",
+    [SPECIAL_POST_OVER_AREAS] = "posted over two areas",
+    [SPECIAL_7_BEFORE_6] = "7 where 6 holds too",
+    [SPECIAL_NULL_SLICE] = "an empty slice lent",
+    [SPECIAL_CHAINED] = "on a bank changed before"
+};
+
+/* The numbers that each call can hand back, one bit each. */
+static const unsigned numbers_of[CALL_COUNT] = {
+    [CALL_SHEET_CHECK] = 1 << 0 | 1 << 2,
+    [CALL_BANK_CHECK] = 1 << 0 | 1 << 2 | 1 << 3 | 1 << 4,
+    [CALL_BANK_FRESH] = 1 << 0 | 1 << 2 | 1 << 3,
+    [CALL_POST] = 1 << 0 | 1 << 2 | 1 << 3 | 1 << 4 | 1 << 6 | 1 << 7,
+    [CALL_SET_MARK] = 1 << 0 | 1 << 2 | 1 << 3 | 1 << 4 | 1 << 7,
+    [CALL_ANSWER] = 1 << 0 | 1 << 1 | 1 << 2 | 1 << 3 | 1 << 4 | 1 << 5
+};
+
+static bool line(const char *group, const char *name, uint64_t count, uint64_t least)
+{
+    printf("%-12s %-32s %9" PRIu64 "\n", group, name, count);
+    if (count >= least)
+        return true;
+    printf("TOO FEW: %s %s was met %" PRIu64 " times, %" PRIu64 " are asked for\n", group, name,
+           count, least);
+    return false;
+}
+
+static bool call_lines(const struct counts *counts, uint64_t least)
+{
+    bool enough = true;
+    char name[40];
+    for (int sort = 0; sort < CALL_COUNT; sort++) {
+        enough = line("call", call_name((enum call_sort)sort), counts->call[sort], least) && enough;
+        for (int number = 0; number < 8; number++) {
+            snprintf(name, sizeof name, "%s gives %d", call_name((enum call_sort)sort), number);
+            if ((numbers_of[sort] >> number & 1) == 1)
+                enough = line("number", name, counts->number[sort][number], least) && enough;
+        }
+    }
+    return enough;
+}
+
+static bool rule_lines(const struct counts *counts, uint64_t least)
+{
+    bool enough = true;
+    for (int rule = RULE_NONE + 1; rule < RULE_COUNT; rule++) {
+        bool alone = can_break_alone((enum second_rule)rule);
+        uint64_t count = alone ? counts->rule_alone[rule] : counts->rule_first[rule];
+        enough = line(alone ? "broken alone" : "broken first",
+                      second_rule_name((enum second_rule)rule), count, least) && enough;
+    }
+    return enough;
+}
+
+bool counts_enough(const struct counts *counts, uint64_t least)
+{
+    bool enough = call_lines(counts, least);
+    for (int step = STEP_REFUSED + 1; step < STEP_COUNT; step++)
+        enough = line("step", second_step_name((enum second_step)step), counts->step[step], least)
+            && enough;
+    for (int special = 0; special < SPECIAL_COUNT; special++)
+        enough = line("met", special_names[special], counts->special[special], least) && enough;
+    for (int damage = DAMAGE_NONE + 1; damage < DAMAGE_COUNT; damage++)
+        enough = line("damage", damage_names[damage], counts->damage[damage], least) && enough;
+    return rule_lines(counts, least) && enough;
+}

@@ -1,0 +1,1115 @@
+/* The rules of document 01, stated once more for the host tests.
+ * Each comment in quotation marks is the sentence of 01 that the function
+ * below it states. */
+#include "second.h"
+
+#include <stdbool.h>
+#include <string.h>
+
+/* ---- Words ---- */
+
+/* "16-bit words, two bytes each, upper byte first." */
+static uint32_t word_at(const uint8_t *bytes, size_t index)
+{
+    return (uint32_t)bytes[2 * index] << 8 | bytes[2 * index + 1];
+}
+
+static void put_word(uint8_t *bytes, size_t index, uint32_t word)
+{
+    bytes[2 * index] = (uint8_t)(word >> 8 & 0xFF);
+    bytes[2 * index + 1] = (uint8_t)(word & 0xFF);
+}
+
+/* ---- The sheet: its words, rows and places ---- */
+
+struct sheet {
+    const uint8_t *bytes;
+    size_t n;
+};
+
+/* A word of the sheet; 0 where the sheet has ended, so that every rule can be
+ * asked of any bytes. */
+static uint32_t sheet_word(const struct sheet *sheet, size_t index)
+{
+    if (index >= sheet->n / 2)
+        return 0;
+    return word_at(sheet->bytes, index);
+}
+
+static uint32_t area_count(const struct sheet *sheet) { return sheet_word(sheet, 1); }
+static uint32_t item_count(const struct sheet *sheet) { return sheet_word(sheet, 3); }
+static uint32_t bank_words(const struct sheet *sheet) { return sheet_word(sheet, 5); }
+static uint32_t functions(const struct sheet *sheet) { return sheet_word(sheet, 6); }
+static uint32_t address_place(const struct sheet *sheet) { return sheet_word(sheet, 8); }
+static uint32_t rate_place(const struct sheet *sheet) { return sheet_word(sheet, 9); }
+static uint32_t clear_address(const struct sheet *sheet) { return sheet_word(sheet, 10); }
+
+/* "Area row: first address, last address, first place, access" */
+static uint32_t area_word(const struct sheet *sheet, size_t area, size_t column)
+{
+    return sheet_word(sheet, 12 + 4 * area + column);
+}
+
+static uint32_t area_first(const struct sheet *sheet, size_t area)
+{
+    return area_word(sheet, area, 0);
+}
+
+static uint32_t area_last(const struct sheet *sheet, size_t area)
+{
+    return area_word(sheet, area, 1);
+}
+
+static uint32_t area_place(const struct sheet *sheet, size_t area)
+{
+    return area_word(sheet, area, 2);
+}
+
+static uint32_t area_access(const struct sheet *sheet, size_t area)
+{
+    return area_word(sheet, area, 3);
+}
+
+static uint32_t area_length(const struct sheet *sheet, size_t area)
+{
+    if (area_first(sheet, area) > area_last(sheet, area))
+        return 0;
+    return area_last(sheet, area) - area_first(sheet, area) + 1;
+}
+
+static bool area_holds_address(const struct sheet *sheet, size_t area, uint64_t address)
+{
+    return area_first(sheet, area) <= address && address <= area_last(sheet, area);
+}
+
+static bool area_holds_place(const struct sheet *sheet, size_t area, uint32_t place)
+{
+    return area_place(sheet, area) <= place
+        && place < area_place(sheet, area) + area_length(sheet, area);
+}
+
+/* "Item row: kind (0 unsigned word, 1 signed word, 2 unsigned pair, upper word
+ * first), first place, low bound in two words, high bound in two words." */
+static uint32_t item_word(const struct sheet *sheet, size_t item, size_t column)
+{
+    return sheet_word(sheet, 12 + 4 * (size_t)area_count(sheet) + 6 * item + column);
+}
+
+static uint32_t item_kind(const struct sheet *sheet, size_t item)
+{
+    return item_word(sheet, item, 0);
+}
+
+static uint32_t item_place(const struct sheet *sheet, size_t item)
+{
+    return item_word(sheet, item, 1);
+}
+
+static bool item_is_pair(const struct sheet *sheet, size_t item)
+{
+    return item_kind(sheet, item) == 2;
+}
+
+/* What two words mean in an item of a kind: "For kinds 0 and 1 the first word
+ * of each bound is 0 and the second is the bound, signed for kind 1." */
+static int64_t value_of(uint32_t kind, uint32_t upper, uint32_t lower)
+{
+    if (kind == 2)
+        return (int64_t)upper * 65536 + lower;
+    if (kind == 1 && lower >= 0x8000)
+        return (int64_t)lower - 65536;
+    return lower;
+}
+
+static int64_t item_low(const struct sheet *sheet, size_t item)
+{
+    return value_of(item_kind(sheet, item), item_word(sheet, item, 2), item_word(sheet, item, 3));
+}
+
+static int64_t item_high(const struct sheet *sheet, size_t item)
+{
+    return value_of(item_kind(sheet, item), item_word(sheet, item, 4), item_word(sheet, item, 5));
+}
+
+static bool item_range_holds(const struct sheet *sheet, size_t item, int64_t value)
+{
+    return item_low(sheet, item) <= value && value <= item_high(sheet, item);
+}
+
+static bool item_covers(const struct sheet *sheet, size_t item, uint32_t place)
+{
+    uint32_t first = item_place(sheet, item);
+    return place == first || (item_is_pair(sheet, item) && place == first + 1);
+}
+
+/* The item that covers a place; the number of items if there is none. */
+static size_t item_at(const struct sheet *sheet, uint32_t place)
+{
+    size_t item = 0;
+    while (item < item_count(sheet) && !item_covers(sheet, item, place))
+        item++;
+    return item;
+}
+
+/* The area that holds a place; the number of areas if there is none. */
+static size_t area_of_place(const struct sheet *sheet, uint32_t place)
+{
+    size_t area = 0;
+    while (area < area_count(sheet) && !area_holds_place(sheet, area, place))
+        area++;
+    return area;
+}
+
+/* The area that holds an address; the number of areas if there is none. */
+static size_t area_of_address(const struct sheet *sheet, uint64_t address)
+{
+    size_t area = 0;
+    while (area < area_count(sheet) && !area_holds_address(sheet, area, address))
+        area++;
+    return area;
+}
+
+/* ---- The rules of the header ---- */
+
+/* "Header, 12 words" */
+static bool keeps_header(const struct sheet *sheet) { return sheet->n >= 24; }
+
+/* "0 version, 1" */
+static bool keeps_version(const struct sheet *sheet) { return sheet_word(sheet, 0) == 1; }
+
+/* "1 number of areas A, 1 to 8" */
+static bool keeps_areas(const struct sheet *sheet)
+{
+    return 1 <= area_count(sheet) && area_count(sheet) <= 8;
+}
+
+/* "2 offset of area rows, 12" */
+static bool keeps_area_offset(const struct sheet *sheet) { return sheet_word(sheet, 2) == 12; }
+
+/* "3 number of items I, 2 to 64" */
+static bool keeps_items(const struct sheet *sheet)
+{
+    return 2 <= item_count(sheet) && item_count(sheet) <= 64;
+}
+
+/* "4 offset of item rows, 12 + 4A" */
+static bool keeps_item_offset(const struct sheet *sheet)
+{
+    return sheet_word(sheet, 4) == 12 + 4 * area_count(sheet);
+}
+
+/* "5 number of bank words B, 2 to 256" */
+static bool keeps_bank_words(const struct sheet *sheet)
+{
+    return 2 <= bank_words(sheet) && bank_words(sheet) <= 256;
+}
+
+/* "6 functions allowed, 0 to 15 (1 for 03, 2 for 05, 4 for 06, 8 for 10,
+ * summed)" */
+static bool keeps_functions(const struct sheet *sheet) { return functions(sheet) <= 15; }
+
+/* "7 length of the sheet in words, 12 + 4A + 6I" */
+static bool keeps_length_word(const struct sheet *sheet)
+{
+    return sheet_word(sheet, 7) == 12 + 4 * area_count(sheet) + 6 * item_count(sheet);
+}
+
+/* "11 zero." */
+static bool keeps_word_11(const struct sheet *sheet) { return sheet_word(sheet, 11) == 0; }
+
+/* "The byte length is exactly twice word 7 (at most 856)." */
+static bool keeps_byte_length(const struct sheet *sheet)
+{
+    return sheet->n == 2 * (size_t)sheet_word(sheet, 7);
+}
+
+/* ---- The rules of the area rows ---- */
+
+/* "access (1 read only, 3 read and write)." */
+static bool keeps_access(const struct sheet *sheet)
+{
+    for (size_t area = 0; area < area_count(sheet); area++)
+        if (area_access(sheet, area) != 1 && area_access(sheet, area) != 3)
+            return false;
+    return true;
+}
+
+/* "First is not above last" */
+static bool keeps_first_last(const struct sheet *sheet)
+{
+    for (size_t area = 0; area < area_count(sheet); area++)
+        if (area_first(sheet, area) > area_last(sheet, area))
+            return false;
+    return true;
+}
+
+/* "areas ascend" */
+static bool keeps_areas_ascend(const struct sheet *sheet)
+{
+    for (size_t area = 1; area < area_count(sheet); area++)
+        if (area_first(sheet, area) <= area_first(sheet, area - 1))
+            return false;
+    return true;
+}
+
+static bool areas_share(const struct sheet *sheet, size_t one, size_t other)
+{
+    return area_length(sheet, one) > 0 && area_length(sheet, other) > 0
+        && area_first(sheet, one) <= area_last(sheet, other)
+        && area_first(sheet, other) <= area_last(sheet, one);
+}
+
+/* "and share no address" */
+static bool keeps_areas_apart(const struct sheet *sheet)
+{
+    for (size_t area = 1; area < area_count(sheet); area++)
+        for (size_t before = 0; before < area; before++)
+            if (areas_share(sheet, area, before))
+                return false;
+    return true;
+}
+
+/* "an area's first place is the sum of the lengths before it" */
+static bool keeps_first_place(const struct sheet *sheet)
+{
+    uint64_t sum = 0;
+    for (size_t area = 0; area < area_count(sheet); area++) {
+        if (area_place(sheet, area) != sum)
+            return false;
+        sum += area_length(sheet, area);
+    }
+    return true;
+}
+
+/* "the lengths sum to B." */
+static bool keeps_lengths_sum(const struct sheet *sheet)
+{
+    uint64_t sum = 0;
+    for (size_t area = 0; area < area_count(sheet); area++)
+        sum += area_length(sheet, area);
+    return sum == bank_words(sheet);
+}
+
+static bool clear_allowed(const struct sheet *sheet) { return (functions(sheet) & 2) != 0; }
+
+/* "If function 05 is allowed, the clear address lies in no area" */
+static bool keeps_clear_apart(const struct sheet *sheet)
+{
+    return !clear_allowed(sheet)
+        || area_of_address(sheet, clear_address(sheet)) == area_count(sheet);
+}
+
+/* "otherwise word 10 is 0." */
+static bool keeps_clear_zero(const struct sheet *sheet)
+{
+    return clear_allowed(sheet) || clear_address(sheet) == 0;
+}
+
+/* ---- The rules of the item rows ---- */
+
+/* "kind (0 unsigned word, 1 signed word, 2 unsigned pair, upper word first)" */
+static bool keeps_kind(const struct sheet *sheet)
+{
+    for (size_t item = 0; item < item_count(sheet); item++)
+        if (item_kind(sheet, item) > 2)
+            return false;
+    return true;
+}
+
+/* "For kinds 0 and 1 the first word of each bound is 0": column 2 is the first
+ * word of the low bound, column 4 that of the high bound. */
+static bool first_words_are_0(const struct sheet *sheet, size_t column)
+{
+    for (size_t item = 0; item < item_count(sheet); item++)
+        if (item_kind(sheet, item) <= 1 && item_word(sheet, item, column) != 0)
+            return false;
+    return true;
+}
+
+static bool keeps_low_first_word(const struct sheet *sheet) { return first_words_are_0(sheet, 2); }
+static bool keeps_high_first_word(const struct sheet *sheet) { return first_words_are_0(sheet, 4); }
+
+/* "Low is not above high." */
+static bool keeps_low_high(const struct sheet *sheet)
+{
+    for (size_t item = 0; item < item_count(sheet); item++)
+        if (item_low(sheet, item) > item_high(sheet, item))
+            return false;
+    return true;
+}
+
+/* "Items ascend" */
+static bool keeps_items_ascend(const struct sheet *sheet)
+{
+    for (size_t item = 1; item < item_count(sheet); item++)
+        if (item_place(sheet, item) <= item_place(sheet, item - 1))
+            return false;
+    return true;
+}
+
+static uint32_t times_covered(const struct sheet *sheet, uint32_t place)
+{
+    uint32_t times = 0;
+    for (size_t item = 0; item < item_count(sheet); item++)
+        if (item_covers(sheet, item, place))
+            times++;
+    return times;
+}
+
+/* Whether each place of every access 3 area is covered least to most times. */
+static bool covered_between(const struct sheet *sheet, uint32_t least, uint32_t most)
+{
+    for (size_t area = 0; area < area_count(sheet); area++)
+        for (uint32_t i = 0; area_access(sheet, area) == 3 && i < area_length(sheet, area); i++) {
+            uint32_t times = times_covered(sheet, area_place(sheet, area) + i);
+            if (times < least || most < times)
+                return false;
+        }
+    return true;
+}
+
+/* "and cover each place of every access 3 area exactly once": none is left
+ * out, and none is covered twice. */
+static bool keeps_none_missing(const struct sheet *sheet)
+{
+    return covered_between(sheet, 1, UINT32_MAX);
+}
+
+static bool keeps_none_twice(const struct sheet *sheet)
+{
+    return covered_between(sheet, 0, 1);
+}
+
+static bool place_is_access_3(const struct sheet *sheet, uint32_t place)
+{
+    size_t area = area_of_place(sheet, place);
+    return area < area_count(sheet) && area_access(sheet, area) == 3;
+}
+
+/* "and no other place" */
+static bool keeps_no_other(const struct sheet *sheet)
+{
+    for (size_t item = 0; item < item_count(sheet); item++) {
+        uint32_t place = item_place(sheet, item);
+        if (!place_is_access_3(sheet, place))
+            return false;
+        if (item_is_pair(sheet, item) && !place_is_access_3(sheet, place + 1))
+            return false;
+    }
+    return true;
+}
+
+/* "a pair lies within one area." */
+static bool keeps_pair_in_area(const struct sheet *sheet)
+{
+    for (size_t item = 0; item < item_count(sheet); item++) {
+        uint32_t place = item_place(sheet, item);
+        if (item_is_pair(sheet, item)
+            && area_of_place(sheet, place) != area_of_place(sheet, place + 1))
+            return false;
+    }
+    return true;
+}
+
+/* "Address and rate are different places" */
+static bool keeps_different_places(const struct sheet *sheet)
+{
+    return address_place(sheet) != rate_place(sheet);
+}
+
+static bool kind_0_item_at(const struct sheet *sheet, uint32_t place)
+{
+    size_t item = item_at(sheet, place);
+    return item < item_count(sheet) && item_kind(sheet, item) == 0;
+}
+
+/* "each a kind 0 item" */
+static bool keeps_address_item(const struct sheet *sheet)
+{
+    return kind_0_item_at(sheet, address_place(sheet));
+}
+
+static bool keeps_rate_item(const struct sheet *sheet)
+{
+    return kind_0_item_at(sheet, rate_place(sheet));
+}
+
+/* "whose range holds 1"; a place without an item has no range to judge. */
+static bool range_at_holds_1(const struct sheet *sheet, uint32_t place)
+{
+    size_t item = item_at(sheet, place);
+    return item == item_count(sheet) || item_range_holds(sheet, item, 1);
+}
+
+static bool keeps_address_holds_1(const struct sheet *sheet)
+{
+    return range_at_holds_1(sheet, address_place(sheet));
+}
+
+static bool keeps_rate_holds_1(const struct sheet *sheet)
+{
+    return range_at_holds_1(sheet, rate_place(sheet));
+}
+
+/* "the address range is within 0 to FF" */
+static bool keeps_address_range(const struct sheet *sheet)
+{
+    size_t item = item_at(sheet, address_place(sheet));
+    return item == item_count(sheet)
+        || (item_low(sheet, item) >= 0 && item_high(sheet, item) <= 0xFF);
+}
+
+/* "the rate's is 0 to 1." */
+static bool keeps_rate_range(const struct sheet *sheet)
+{
+    size_t item = item_at(sheet, rate_place(sheet));
+    return item == item_count(sheet)
+        || (item_low(sheet, item) == 0 && item_high(sheet, item) == 1);
+}
+
+/* ---- All rules in 01's order ---- */
+
+struct rule {
+    const char *name;
+    bool (*kept)(const struct sheet *);
+};
+
+static const struct rule rules[RULE_COUNT] = {
+    [RULE_NONE] = { "sound", NULL },
+    [RULE_HEADER] = { "header of 12 words", keeps_header },
+    [RULE_VERSION] = { "version", keeps_version },
+    [RULE_AREAS] = { "areas 1 to 8", keeps_areas },
+    [RULE_AREA_OFFSET] = { "offset of area rows", keeps_area_offset },
+    [RULE_ITEMS] = { "items 2 to 64", keeps_items },
+    [RULE_ITEM_OFFSET] = { "offset of item rows", keeps_item_offset },
+    [RULE_BANK_WORDS] = { "bank words 2 to 256", keeps_bank_words },
+    [RULE_FUNCTIONS] = { "functions 0 to 15", keeps_functions },
+    [RULE_LENGTH_WORD] = { "length word", keeps_length_word },
+    [RULE_WORD_11] = { "word 11 zero", keeps_word_11 },
+    [RULE_BYTE_LENGTH] = { "byte length", keeps_byte_length },
+    [RULE_ACCESS] = { "access 1 or 3", keeps_access },
+    [RULE_FIRST_ABOVE_LAST] = { "first not above last", keeps_first_last },
+    [RULE_AREAS_ASCEND] = { "areas ascend", keeps_areas_ascend },
+    [RULE_AREAS_SHARE] = { "areas share no address", keeps_areas_apart },
+    [RULE_AREA_FIRST_PLACE] = { "area's first place", keeps_first_place },
+    [RULE_LENGTHS_SUM] = { "lengths sum to B", keeps_lengths_sum },
+    [RULE_CLEAR_IN_AREA] = { "clear address in no area", keeps_clear_apart },
+    [RULE_CLEAR_NOT_ZERO] = { "word 10 zero without 05", keeps_clear_zero },
+    [RULE_KIND] = { "kind 0 to 2", keeps_kind },
+    [RULE_LOW_FIRST_WORD] = { "first word of low is 0", keeps_low_first_word },
+    [RULE_HIGH_FIRST_WORD] = { "first word of high is 0", keeps_high_first_word },
+    [RULE_LOW_ABOVE_HIGH] = { "low not above high", keeps_low_high },
+    [RULE_ITEMS_ASCEND] = { "items ascend", keeps_items_ascend },
+    [RULE_PLACE_MISSING] = { "no place missing", keeps_none_missing },
+    [RULE_PLACE_TWICE] = { "no place twice", keeps_none_twice },
+    [RULE_PLACE_OTHER] = { "no other place", keeps_no_other },
+    [RULE_PAIR_TWO_AREAS] = { "pair within one area", keeps_pair_in_area },
+    [RULE_SAME_PLACE] = { "address and rate differ", keeps_different_places },
+    [RULE_ADDRESS_ITEM] = { "address a kind 0 item", keeps_address_item },
+    [RULE_RATE_ITEM] = { "rate a kind 0 item", keeps_rate_item },
+    [RULE_ADDRESS_HOLDS_1] = { "address range holds 1", keeps_address_holds_1 },
+    [RULE_RATE_HOLDS_1] = { "rate range holds 1", keeps_rate_holds_1 },
+    [RULE_ADDRESS_RANGE] = { "address within 0 to FF", keeps_address_range },
+    [RULE_RATE_RANGE] = { "rate 0 to 1", keeps_rate_range }
+};
+
+enum second_rule second_broken_rule(const uint8_t *bytes, size_t bytes_n)
+{
+    struct sheet sheet = { bytes, bytes_n };
+    for (int rule = RULE_NONE + 1; rule < RULE_COUNT; rule++)
+        if (!rules[rule].kept(&sheet))
+            return (enum second_rule)rule;
+    return RULE_NONE;
+}
+
+uint64_t second_broken_rules(const uint8_t *bytes, size_t bytes_n)
+{
+    struct sheet sheet = { bytes, bytes_n };
+    bool rows = area_count(&sheet) <= 9 && item_count(&sheet) <= 65;
+    uint64_t broken = 0;
+    for (int rule = RULE_NONE + 1; rule < RULE_COUNT; rule++)
+        if ((rule <= RULE_BYTE_LENGTH || rows) && !rules[rule].kept(&sheet))
+            broken |= (uint64_t)1 << rule;
+    return broken;
+}
+
+const char *second_rule_name(enum second_rule rule)
+{
+    return rules[rule].name;
+}
+
+/* ---- The bank ---- */
+
+/* "B words, then one word for the alarm mark: 2B + 2 bytes." */
+static size_t bank_size(const struct sheet *sheet)
+{
+    return 2 * (size_t)bank_words(sheet) + 2;
+}
+
+/* What an item holds in the bank. */
+static int64_t item_value(const struct sheet *sheet, const uint8_t *bank, size_t item)
+{
+    uint32_t place = item_place(sheet, item);
+    if (item_is_pair(sheet, item))
+        return value_of(2, word_at(bank, place), word_at(bank, place + 1));
+    return value_of(item_kind(sheet, item), 0, word_at(bank, place));
+}
+
+/* "It is sound when each item is in its range and the mark is 0 or 1." */
+static bool bank_sound(const struct sheet *sheet, const uint8_t *bank)
+{
+    for (size_t item = 0; item < item_count(sheet); item++)
+        if (!item_range_holds(sheet, item, item_value(sheet, bank, item)))
+            return false;
+    return word_at(bank, bank_words(sheet)) <= 1;
+}
+
+/* "Checked in the order 2, 3, 4, 5, 7, 6, so far as the call has that part; a
+ * fresh bank does not test 4." Here 2 and 3. */
+static uint32_t refuse_size(const struct sheet *sheet, size_t bank_n)
+{
+    if (second_broken_rule(sheet->bytes, sheet->n) != RULE_NONE)
+        return NUMBER_SHEET;
+    if (bank_n != bank_size(sheet))
+        return NUMBER_BANK_SIZE;
+    return NUMBER_DONE;
+}
+
+/* The same order, here 2, 3 and 4. */
+static uint32_t refuse_bank(const struct sheet *sheet, const uint8_t *bank, size_t bank_n)
+{
+    uint32_t number = refuse_size(sheet, bank_n);
+    if (number != NUMBER_DONE)
+        return number;
+    return bank_sound(sheet, bank) ? NUMBER_DONE : NUMBER_BANK_SOUND;
+}
+
+uint32_t second_sheet_check(const uint8_t *sheet, size_t sheet_n)
+{
+    return second_broken_rule(sheet, sheet_n) == RULE_NONE ? NUMBER_DONE : NUMBER_SHEET;
+}
+
+uint32_t second_bank_check(const uint8_t *sheet, size_t sheet_n,
+                           const uint8_t *bank, size_t bank_n)
+{
+    struct sheet rows = { sheet, sheet_n };
+    return refuse_bank(&rows, bank, bank_n);
+}
+
+static void put_low_bound(const struct sheet *sheet, uint8_t *bank, size_t item)
+{
+    uint32_t place = item_place(sheet, item);
+    if (item_is_pair(sheet, item)) {
+        put_word(bank, place, item_word(sheet, item, 2));
+        put_word(bank, place + 1, item_word(sheet, item, 3));
+    } else {
+        put_word(bank, place, item_word(sheet, item, 3));
+    }
+}
+
+/* "A fresh bank has each item at its low bound, except address 1 and rate 1
+ * (9600; 0 is 4800), read-only words 0, mark 0." */
+uint32_t second_bank_fresh(const uint8_t *sheet, size_t sheet_n,
+                           uint8_t *bank, size_t bank_n)
+{
+    struct sheet rows = { sheet, sheet_n };
+    uint32_t number = refuse_size(&rows, bank_n);
+    if (number != NUMBER_DONE)
+        return number;
+    memset(bank, 0, bank_n);
+    for (size_t item = 0; item < item_count(&rows); item++)
+        put_low_bound(&rows, bank, item);
+    put_word(bank, address_place(&rows), 1);
+    put_word(bank, rate_place(&rows), 1);
+    return NUMBER_DONE;
+}
+
+/* ---- Posting and the mark ---- */
+
+static bool address_has_access(const struct sheet *sheet, uint64_t address, uint32_t access)
+{
+    size_t area = area_of_address(sheet, address);
+    return area < area_count(sheet) && area_access(sheet, area) == access;
+}
+
+/* The place of an address that lies in an area. */
+static uint32_t place_of(const struct sheet *sheet, uint32_t address)
+{
+    size_t area = area_of_address(sheet, address);
+    return area_place(sheet, area) + (address - area_first(sheet, area));
+}
+
+/* "Posting writes words from a given address upward, all in access 1 areas." */
+static bool posted_addresses_good(const struct sheet *sheet, uint32_t address, size_t count)
+{
+    for (size_t i = 0; i < count; i++)
+        if (!address_has_access(sheet, (uint64_t)address + i, 1))
+            return false;
+    return true;
+}
+
+uint32_t second_post(const uint8_t *sheet, size_t sheet_n,
+                     uint8_t *bank, size_t bank_n, uint32_t address,
+                     const uint8_t *words, size_t words_n)
+{
+    struct sheet rows = { sheet, sheet_n };
+    uint32_t number = refuse_bank(&rows, bank, bank_n);
+    if (number != NUMBER_DONE)
+        return number;
+    if (words_n == 0 || words_n % 2 == 1)
+        return NUMBER_POSTED_BYTES_OR_MARK;
+    if (!posted_addresses_good(&rows, address, words_n / 2))
+        return NUMBER_POSTED_ADDRESS;
+    for (uint32_t i = 0; i < words_n / 2; i++)
+        put_word(bank, place_of(&rows, address + i), word_at(words, i));
+    return NUMBER_DONE;
+}
+
+/* "Setting the mark stores a given 0 or 1 there." */
+uint32_t second_set_mark(const uint8_t *sheet, size_t sheet_n,
+                         uint8_t *bank, size_t bank_n, uint32_t mark)
+{
+    struct sheet rows = { sheet, sheet_n };
+    uint32_t number = refuse_bank(&rows, bank, bank_n);
+    if (number != NUMBER_DONE)
+        return number;
+    if (mark > 1)
+        return NUMBER_POSTED_BYTES_OR_MARK;
+    put_word(bank, bank_words(&rows), mark);
+    return NUMBER_DONE;
+}
+
+/* ---- The check value ---- */
+
+/* "Start at FFFF." */
+uint16_t second_check_start(void)
+{
+    return 0xFFFF;
+}
+
+/* "For each byte, exclusive-or it into the low eight bits; eight times shift
+ * right by one and, if the bit shifted out was 1, exclusive-or A001." */
+uint16_t second_check_take(uint16_t state, uint8_t byte)
+{
+    uint32_t value = (uint32_t)state ^ byte;
+    for (int i = 0; i < 8; i++) {
+        uint32_t out = value & 1;
+        value >>= 1;
+        if (out == 1)
+            value ^= 0xA001;
+    }
+    return (uint16_t)value;
+}
+
+uint16_t second_check_value(const uint8_t *bytes, size_t bytes_n)
+{
+    uint16_t state = second_check_start();
+    for (size_t i = 0; i < bytes_n; i++)
+        state = second_check_take(state, bytes[i]);
+    return state;
+}
+
+/* "It covers all bytes but the last two, which hold it, low byte first." */
+static bool check_agrees(const uint8_t *frame, size_t frame_n)
+{
+    uint16_t value = second_check_value(frame, frame_n - 2);
+    return frame[frame_n - 2] == (value & 0xFF) && frame[frame_n - 1] == value >> 8;
+}
+
+/* ---- The parts of a frame ---- */
+
+enum { READ = 0x03, CLEAR = 0x05, WRITE_ONE = 0x06, WRITE_MANY = 0x10 };
+
+/* A frame before a sound sheet and a sound bank. */
+struct query {
+    struct sheet sheet;
+    const uint8_t *bank;
+    const uint8_t *frame;
+    size_t n;
+};
+
+static uint32_t function_of(const struct query *query) { return query->frame[1]; }
+static uint32_t start_of(const struct query *query) { return word_at(query->frame + 2, 0); }
+
+/* The count of a 03 or 10, the value of a 05 or 06. */
+static uint32_t count_or_value_of(const struct query *query)
+{
+    return word_at(query->frame + 4, 0);
+}
+
+static bool is_write(const struct query *query)
+{
+    return function_of(query) == WRITE_ONE || function_of(query) == WRITE_MANY;
+}
+
+/* How many addresses the run of a 03, 06 or 10 has. */
+static uint32_t run_of(const struct query *query)
+{
+    return function_of(query) == WRITE_ONE ? 1 : count_or_value_of(query);
+}
+
+/* The i-th word that a write brings. */
+static uint32_t written_word(const struct query *query, uint32_t i)
+{
+    if (function_of(query) == WRITE_ONE)
+        return count_or_value_of(query);
+    return word_at(query->frame + 7, i);
+}
+
+/* ---- The order of judgement, one function for each step ----
+ * Each gives the step that the frame stops at, or lets it go on. */
+#define GOES_ON STEP_REFUSED
+
+/* "1. Length not 4..100, or wrong check: silence." */
+static enum second_step step_1(const struct query *query)
+{
+    if (query->n < 4)
+        return STEP_1_SHORT;
+    if (query->n > 100)
+        return STEP_1_LONG;
+    if (!check_agrees(query->frame, query->n))
+        return STEP_1_CHECK;
+    return GOES_ON;
+}
+
+/* "2. Station byte differs from the bank's address: silence. Address 0 is
+ * compared like any other." */
+static enum second_step step_2(const struct query *query)
+{
+    if (query->frame[0] != word_at(query->bank, address_place(&query->sheet)))
+        return STEP_2_STATION;
+    return GOES_ON;
+}
+
+/* "(1 for 03, 2 for 05, 4 for 06, 8 for 10, summed)" */
+static uint32_t function_bit(uint32_t function)
+{
+    switch (function) {
+    case READ: return 1;
+    case CLEAR: return 2;
+    case WRITE_ONE: return 4;
+    case WRITE_MANY: return 8;
+    default: return 0;
+    }
+}
+
+/* "3. Function not allowed: error 01." */
+static enum second_step step_3(const struct query *query)
+{
+    if ((functions(&query->sheet) & function_bit(function_of(query))) == 0)
+        return STEP_3_FUNCTION;
+    return GOES_ON;
+}
+
+/* "4. 03, 05, 06 not of 8 bytes; 10 below 9 bytes or not 9 plus its byte
+ * count: silence." */
+static enum second_step step_4(const struct query *query)
+{
+    if (function_of(query) != WRITE_MANY)
+        return query->n == 8 ? GOES_ON : STEP_4_NOT_8;
+    if (query->n < 9)
+        return STEP_4_BELOW_9;
+    if (query->n != 9 + (size_t)query->frame[6])
+        return STEP_4_NOT_9_PLUS;
+    return GOES_ON;
+}
+
+/* "5. 03 with count 0; 10 with count 0 or byte count not twice the count:
+ * error 03." */
+static enum second_step step_5(const struct query *query)
+{
+    uint32_t count = count_or_value_of(query);
+    if (function_of(query) == READ && count == 0)
+        return STEP_5_READ_COUNT_0;
+    if (function_of(query) == WRITE_MANY && count == 0)
+        return STEP_5_WRITE_COUNT_0;
+    if (function_of(query) == WRITE_MANY && query->frame[6] != 2 * count)
+        return STEP_5_BYTE_COUNT;
+    return GOES_ON;
+}
+
+/* "An address of the run in no area, or for a write in an access 1 area, or
+ * above FFFF" */
+static enum second_step step_6_address(const struct query *query, uint32_t address)
+{
+    if (address > 0xFFFF)
+        return STEP_6_ABOVE_FFFF;
+    if (area_of_address(&query->sheet, address) == area_count(&query->sheet))
+        return STEP_6_NO_AREA;
+    if (is_write(query) && address_has_access(&query->sheet, address, 1))
+        return STEP_6_READ_ONLY;
+    return GOES_ON;
+}
+
+static enum second_step step_6_run(const struct query *query)
+{
+    enum second_step step = GOES_ON;
+    for (uint32_t i = 0; i < run_of(query) && step == GOES_ON; i++)
+        step = step_6_address(query, start_of(query) + i);
+    return step;
+}
+
+/* "6. An address of the run in no area, or for a write in an access 1 area, or
+ * above FFFF; 03 with count over 47; 05 at another address than the clear
+ * address: error 02." */
+static enum second_step step_6(const struct query *query)
+{
+    if (function_of(query) == CLEAR)
+        return start_of(query) == clear_address(&query->sheet)
+            ? GOES_ON : STEP_6_NOT_CLEAR;
+    enum second_step step = step_6_run(query);
+    if (step == GOES_ON && function_of(query) == READ && count_or_value_of(query) > 47)
+        return STEP_6_OVER_47;
+    return step;
+}
+
+/* ---- A write cut into items ---- */
+
+static size_t written_item(const struct query *query, uint32_t i)
+{
+    return item_at(&query->sheet, place_of(&query->sheet, start_of(query) + i));
+}
+
+/* Whether the i-th word of the write is the upper half of a pair. */
+static bool is_upper_half(const struct query *query, uint32_t i)
+{
+    size_t item = written_item(query, i);
+    return item_is_pair(&query->sheet, item)
+        && item_place(&query->sheet, item) == place_of(&query->sheet, start_of(query) + i);
+}
+
+/* How many words of the write the item at the i-th word takes: "A pair with
+ * both halves in the write is one item". */
+static uint32_t words_taken(const struct query *query, uint32_t i)
+{
+    return is_upper_half(query, i) && i + 1 < run_of(query) ? 2 : 1;
+}
+
+/* The value that a pair would get from the i-th word on: "a half alone is
+ * judged with the other half now in the bank." */
+static int64_t pair_to_be(const struct query *query, uint32_t i)
+{
+    uint32_t place = item_place(&query->sheet, written_item(query, i));
+    uint32_t upper = word_at(query->bank, place);
+    uint32_t lower = word_at(query->bank, place + 1);
+    if (is_upper_half(query, i)) {
+        upper = written_word(query, i);
+        if (words_taken(query, i) == 2)
+            lower = written_word(query, i + 1);
+    } else {
+        lower = written_word(query, i);
+    }
+    return value_of(2, upper, lower);
+}
+
+static bool written_item_good(const struct query *query, uint32_t i)
+{
+    const struct sheet *sheet = &query->sheet;
+    size_t item = written_item(query, i);
+    if (item_is_pair(sheet, item))
+        return item_range_holds(sheet, item, pair_to_be(query, i));
+    return item_range_holds(sheet, item,
+                            value_of(item_kind(sheet, item), 0, written_word(query, i)));
+}
+
+/* "A write is cut into items." How many of its words stand in front of the
+ * first bad item; all of them if no item is bad. */
+static uint32_t words_before_bad(const struct query *query)
+{
+    uint32_t i = 0;
+    while (i < run_of(query) && written_item_good(query, i))
+        i += words_taken(query, i);
+    return i;
+}
+
+/* "7. 05 with a value other than 0; a write with a bad item: error 03." */
+static enum second_step step_7(const struct query *query)
+{
+    if (function_of(query) == CLEAR && count_or_value_of(query) != 0)
+        return STEP_7_CLEAR_VALUE;
+    if (is_write(query) && words_before_bad(query) < run_of(query))
+        return STEP_7_BAD_ITEM;
+    return GOES_ON;
+}
+
+static enum second_step good_step(const struct query *query)
+{
+    switch (function_of(query)) {
+    case READ: return STEP_GOOD_READ;
+    case CLEAR: return STEP_GOOD_CLEAR;
+    case WRITE_ONE: return STEP_GOOD_WRITE_ONE;
+    default: return STEP_GOOD_WRITE_MANY;
+    }
+}
+
+/* The steps one after the other. */
+static enum second_step judge(const struct query *query)
+{
+    static enum second_step (*const steps[7])(const struct query *) = {
+        step_1, step_2, step_3, step_4, step_5, step_6, step_7
+    };
+    for (int i = 0; i < 7; i++) {
+        enum second_step step = steps[i](query);
+        if (step != GOES_ON)
+            return step;
+    }
+    return good_step(query);
+}
+
+/* ---- What a frame does to the bank ---- */
+
+/* "Items in front of the first bad one are stored; the rest of the bank
+ * stays." The number of words is taken before any is stored. */
+static void store_words(const struct query *query, uint8_t *bank)
+{
+    uint32_t count = words_before_bad(query);
+    for (uint32_t i = 0; i < count; i++)
+        put_word(bank, place_of(&query->sheet, start_of(query) + i), written_word(query, i));
+}
+
+/* "A good 05 sets the mark to 0." */
+static void store(const struct query *query, uint8_t *bank, enum second_step step)
+{
+    if (step == STEP_GOOD_CLEAR)
+        put_word(bank, bank_words(&query->sheet), 0);
+    if (step == STEP_GOOD_WRITE_ONE || step == STEP_GOOD_WRITE_MANY || step == STEP_7_BAD_ITEM)
+        store_words(query, bank);
+}
+
+/* ---- Replies ---- */
+
+/* The error code of a step; 0 for silence and for good frames. */
+static uint8_t error_of(enum second_step step)
+{
+    switch (step) {
+    case STEP_3_FUNCTION:
+        return 1;
+    case STEP_6_ABOVE_FFFF: case STEP_6_NO_AREA: case STEP_6_READ_ONLY:
+    case STEP_6_OVER_47: case STEP_6_NOT_CLEAR:
+        return 2;
+    case STEP_5_READ_COUNT_0: case STEP_5_WRITE_COUNT_0: case STEP_5_BYTE_COUNT:
+    case STEP_7_CLEAR_VALUE: case STEP_7_BAD_ITEM:
+        return 3;
+    default:
+        return 0;
+    }
+}
+
+static bool is_silence(enum second_step step)
+{
+    return step < STEP_GOOD_READ && error_of(step) == 0;
+}
+
+/* "03 gives station, 03, twice the count, the words" */
+static uint32_t reply_words(const struct query *query, uint8_t *out)
+{
+    uint32_t count = count_or_value_of(query);
+    out[0] = query->frame[0];
+    out[1] = READ;
+    out[2] = (uint8_t)(2 * count);
+    for (uint32_t i = 0; i < count; i++)
+        put_word(out + 3, i, word_at(query->bank, place_of(&query->sheet, start_of(query) + i)));
+    return 3 + 2 * count;
+}
+
+/* "05 and 06 echo; 10 gives station, 10, start, count": both are the first six
+ * bytes of the frame. */
+static uint32_t reply_echo(const struct query *query, uint8_t *out)
+{
+    memcpy(out, query->frame, 6);
+    return 6;
+}
+
+/* "an error gives station, function with its top bit set, code" */
+static uint32_t reply_error(const struct query *query, uint8_t *out, uint8_t code)
+{
+    out[0] = query->frame[0];
+    out[1] = query->frame[1] | 0x80;
+    out[2] = code;
+    return 3;
+}
+
+static uint32_t reply_body(const struct query *query, uint8_t *out, enum second_step step)
+{
+    if (error_of(step) != 0)
+        return reply_error(query, out, error_of(step));
+    if (step == STEP_GOOD_READ)
+        return reply_words(query, out);
+    return reply_echo(query, out);
+}
+
+/* "each then its check." */
+static uint32_t reply(const struct query *query, uint8_t *out, enum second_step step)
+{
+    uint32_t n = reply_body(query, out, step);
+    uint16_t value = second_check_value(out, n);
+    out[n] = (uint8_t)(value & 0xFF);
+    out[n + 1] = (uint8_t)(value >> 8);
+    return n + 2;
+}
+
+/* "Station and rate are those before the frame, also after an error that
+ * stored part." The station is that of the frame, which agreed in step 2. */
+uint32_t second_answer(const uint8_t *sheet, size_t sheet_n,
+                       uint8_t *bank, size_t bank_n,
+                       const uint8_t *frame, size_t frame_n,
+                       uint8_t *out, size_t out_n,
+                       uint32_t *length, uint32_t *rate)
+{
+    struct query query = { { sheet, sheet_n }, bank, frame, frame_n };
+    *length = 0;
+    *rate = 0;
+    uint32_t number = refuse_bank(&query.sheet, bank, bank_n);
+    if (number != NUMBER_DONE)
+        return number;
+    if (out_n < 100)
+        return NUMBER_BUFFER;
+    enum second_step step = judge(&query);
+    if (is_silence(step))
+        return NUMBER_SILENCE;
+    *rate = word_at(bank, rate_place(&query.sheet));
+    *length = reply(&query, out, step);
+    store(&query, bank, step);
+    return NUMBER_DONE;
+}
+
+enum second_step second_step(const uint8_t *sheet, size_t sheet_n,
+                             const uint8_t *bank, size_t bank_n,
+                             const uint8_t *frame, size_t frame_n)
+{
+    struct query query = { { sheet, sheet_n }, bank, frame, frame_n };
+    if (refuse_bank(&query.sheet, bank, bank_n) != NUMBER_DONE)
+        return STEP_REFUSED;
+    return judge(&query);
+}
+
+static const char *const step_names[STEP_COUNT] = {
+    [STEP_REFUSED] = "refused before any step",
+    [STEP_1_SHORT] = "1 below 4 bytes",
+    [STEP_1_LONG] = "1 above 100 bytes",
+    [STEP_1_CHECK] = "1 wrong check",
+    [STEP_2_STATION] = "2 other station",
+    [STEP_3_FUNCTION] = "3 function not allowed",
+    [STEP_4_NOT_8] = "4 not of 8 bytes",
+    [STEP_4_BELOW_9] = "4 10 below 9 bytes",
+    [STEP_4_NOT_9_PLUS] = "4 10 not 9 plus byte count",
+    [STEP_5_READ_COUNT_0] = "5 03 with count 0",
+    [STEP_5_WRITE_COUNT_0] = "5 10 with count 0",
+    [STEP_5_BYTE_COUNT] = "5 byte count not twice",
+    [STEP_6_ABOVE_FFFF] = "6 above FFFF",
+    [STEP_6_NO_AREA] = "6 in no area",
+    [STEP_6_READ_ONLY] = "6 write to access 1",
+    [STEP_6_OVER_47] = "6 count over 47",
+    [STEP_6_NOT_CLEAR] = "6 not the clear address",
+    [STEP_7_CLEAR_VALUE] = "7 clear value not 0",
+    [STEP_7_BAD_ITEM] = "7 bad item",
+    [STEP_GOOD_READ] = "good 03",
+    [STEP_GOOD_CLEAR] = "good 05",
+    [STEP_GOOD_WRITE_ONE] = "good 06",
+    [STEP_GOOD_WRITE_MANY] = "good 10"
+};
+
+const char *second_step_name(enum second_step step)
+{
+    return step_names[step];
+}

@@ -1,0 +1,130 @@
+/* A second statement of the rules of document 01, for the host tests.
+ *
+ * The nine functions do what the library's nine do. They are written for
+ * reading, rule by rule in 01's order, and share nothing with the library.
+ * Words are two bytes, upper byte first. A null pointer with length 0 is an
+ * empty slice. Frame and answer buffer must be separate memory. */
+#ifndef SECOND_H
+#define SECOND_H
+
+#include <stddef.h>
+#include <stdint.h>
+
+uint16_t second_check_start(void);
+uint16_t second_check_take(uint16_t state, uint8_t byte);
+uint16_t second_check_value(const uint8_t *bytes, size_t bytes_n);
+
+uint32_t second_sheet_check(const uint8_t *sheet, size_t sheet_n);
+uint32_t second_bank_check(const uint8_t *sheet, size_t sheet_n,
+                           const uint8_t *bank, size_t bank_n);
+uint32_t second_bank_fresh(const uint8_t *sheet, size_t sheet_n,
+                           uint8_t *bank, size_t bank_n);
+uint32_t second_post(const uint8_t *sheet, size_t sheet_n,
+                     uint8_t *bank, size_t bank_n, uint32_t address,
+                     const uint8_t *words, size_t words_n);
+uint32_t second_set_mark(const uint8_t *sheet, size_t sheet_n,
+                         uint8_t *bank, size_t bank_n, uint32_t mark);
+uint32_t second_answer(const uint8_t *sheet, size_t sheet_n,
+                       uint8_t *bank, size_t bank_n,
+                       const uint8_t *frame, size_t frame_n,
+                       uint8_t *out, size_t out_n,
+                       uint32_t *length, uint32_t *rate);
+
+/* The numbers of 01's table. */
+enum second_number {
+    NUMBER_DONE = 0,
+    NUMBER_SILENCE = 1,
+    NUMBER_SHEET = 2,
+    NUMBER_BANK_SIZE = 3,
+    NUMBER_BANK_SOUND = 4,
+    NUMBER_BUFFER = 5,
+    NUMBER_POSTED_ADDRESS = 6,
+    NUMBER_POSTED_BYTES_OR_MARK = 7
+};
+
+/* The rules of 01's section on the sheet, in the order they are written. */
+enum second_rule {
+    RULE_NONE,
+    RULE_HEADER,
+    RULE_VERSION,
+    RULE_AREAS,
+    RULE_AREA_OFFSET,
+    RULE_ITEMS,
+    RULE_ITEM_OFFSET,
+    RULE_BANK_WORDS,
+    RULE_FUNCTIONS,
+    RULE_LENGTH_WORD,
+    RULE_WORD_11,
+    RULE_BYTE_LENGTH,
+    RULE_ACCESS,
+    RULE_FIRST_ABOVE_LAST,
+    RULE_AREAS_ASCEND,
+    RULE_AREAS_SHARE,
+    RULE_AREA_FIRST_PLACE,
+    RULE_LENGTHS_SUM,
+    RULE_CLEAR_IN_AREA,
+    RULE_CLEAR_NOT_ZERO,
+    RULE_KIND,
+    RULE_LOW_FIRST_WORD,
+    RULE_HIGH_FIRST_WORD,
+    RULE_LOW_ABOVE_HIGH,
+    RULE_ITEMS_ASCEND,
+    RULE_PLACE_MISSING,
+    RULE_PLACE_TWICE,
+    RULE_PLACE_OTHER,
+    RULE_PAIR_TWO_AREAS,
+    RULE_SAME_PLACE,
+    RULE_ADDRESS_ITEM,
+    RULE_RATE_ITEM,
+    RULE_ADDRESS_HOLDS_1,
+    RULE_RATE_HOLDS_1,
+    RULE_ADDRESS_RANGE,
+    RULE_RATE_RANGE,
+    RULE_COUNT
+};
+
+/* Where a frame stopped in 01's order of judgement, or what sort of good
+ * frame it was. STEP_REFUSED: sheet or bank is refused before any step. */
+enum second_step {
+    STEP_REFUSED,
+    STEP_1_SHORT,
+    STEP_1_LONG,
+    STEP_1_CHECK,
+    STEP_2_STATION,
+    STEP_3_FUNCTION,
+    STEP_4_NOT_8,
+    STEP_4_BELOW_9,
+    STEP_4_NOT_9_PLUS,
+    STEP_5_READ_COUNT_0,
+    STEP_5_WRITE_COUNT_0,
+    STEP_5_BYTE_COUNT,
+    STEP_6_ABOVE_FFFF,
+    STEP_6_NO_AREA,
+    STEP_6_READ_ONLY,
+    STEP_6_OVER_47,
+    STEP_6_NOT_CLEAR,
+    STEP_7_CLEAR_VALUE,
+    STEP_7_BAD_ITEM,
+    STEP_GOOD_READ,
+    STEP_GOOD_CLEAR,
+    STEP_GOOD_WRITE_ONE,
+    STEP_GOOD_WRITE_MANY,
+    STEP_COUNT
+};
+
+/* The first rule that the sheet breaks, RULE_NONE if it is sound. */
+enum second_rule second_broken_rule(const uint8_t *sheet, size_t sheet_n);
+
+/* All rules that the sheet breaks: bit r is set if rule r is broken. Rows are
+ * judged only up to one area and one item above the largest numbers. */
+uint64_t second_broken_rules(const uint8_t *sheet, size_t sheet_n);
+
+/* The step a frame stops at; nothing is written. */
+enum second_step second_step(const uint8_t *sheet, size_t sheet_n,
+                             const uint8_t *bank, size_t bank_n,
+                             const uint8_t *frame, size_t frame_n);
+
+const char *second_rule_name(enum second_rule rule);
+const char *second_step_name(enum second_step step);
+
+#endif

@@ -1,0 +1,70 @@
+/* Sheets and banks made for the comparison. */
+#ifndef SHEETS_MADE_H
+#define SHEETS_MADE_H
+
+#include "second.h"
+
+#include <stdbool.h>
+
+enum { SHEET_ROOM = 2048, BANK_ROOM = 1024 };
+
+struct made_area {
+    uint32_t first, last, place, access;
+};
+
+struct made_item {
+    uint32_t kind, place;
+    int64_t low, high;
+};
+
+/* A sheet before it is put into words; one area and a few items more than 01
+ * allows, so that those limits can be broken. */
+struct made {
+    uint32_t areas_n, items_n, bank_words, functions, address_place, rate_place, clear;
+    struct made_area areas[10];
+    struct made_item items[70];
+};
+
+/* A sound sheet of some shape. */
+void make_sound(struct made *made);
+
+/* The two makers' maps; 0109 of AS-WE goes up to 10, 1E or 3C for bore 40, 50
+ * or 80. */
+void make_ux(struct made *made);
+void make_as_we(struct made *made, uint32_t bore);
+
+/* The sheet in bytes; the number of bytes is handed back. */
+size_t put_sheet(const struct made *made, uint8_t *bytes);
+
+/* An otherwise sound sheet with this rule broken alone; the sound sheet it was
+ * made from is left in made. False if none was found. */
+bool make_broken(enum second_rule rule, struct made *made, uint8_t *bytes, size_t *n);
+
+/* Whether a sheet can break the rule and no other. */
+bool can_break_alone(enum second_rule rule);
+
+/* A sound bank with noise in the read-only words. */
+void make_bank(const struct made *made, uint8_t *bank);
+
+/* Puts one item just outside one of its bounds; false if its range is all that
+ * its words can hold on that side. */
+bool spoil_item(const struct made *made, uint8_t *bank);
+
+/* The area or item that an address or place lies in, -1 if in none. */
+int made_area_of(const struct made *made, uint32_t address);
+int made_item_of(const struct made *made, uint32_t place);
+
+/* The least and the largest value that the words of a kind can hold. */
+int64_t kind_least(uint32_t kind);
+int64_t kind_most(uint32_t kind);
+
+/* A value within the bounds, often at one of them. */
+int64_t value_within(const struct made_item *item);
+
+/* A value just outside the bounds; false if there is none on the chosen side. */
+bool value_outside(const struct made_item *item, int64_t *value);
+
+void put16(uint8_t *bytes, size_t index, uint32_t word);
+uint32_t get16(const uint8_t *bytes, size_t index);
+
+#endif
