@@ -20,12 +20,13 @@ use Rattle.bank.specs.declared.Answer.{Answer}
 use Rattle.bank.specs.declared.Answer.the-variants.{Done, SheetBreaksRule, BankMisfits, BankNotSound, NotReadOnly, BadInput}
 use Rattle.bank.specs.Stores.{Store, wordOf, stored}
 use Rattle.bank.specs.Bank.{fits, bankSound, markPlace, placeIn, postedRun, allReadOnly, emptyOrOdd, postStore, postStores, markStores}
+use Rattle.bank.specs.Cases.{NoneOf}
 use Rattle.bank.specs.Calls.{numberOf, brokenSheet, misfittingBank, unsoundBank, badMark, badAddress, outcomeOf, checkAnswer, freshAnswer, postAnswer, markAnswer, postOutcome, markOutcome}
 use Rattle.bank.proofs.Stores.{stored-length}
 use Rattle.bank.proofs.Latest.{latest, words-left, latest-none, latest-agreed}
 use Rattle.bank.proofs.Held.{held-below, read-only-unheld}
 use Rattle.bank.proofs.Inside.{map-among, number-among, posted-read-only, posted-store, mark-stores-inside, post-stores-inside}
-use Rattle.bank.proofs.Numbers.{NoneOf, check-numbers, fresh-numbers, post-numbers, mark-numbers}
+use Rattle.bank.proofs.Numbers.{check-numbers, fresh-numbers, post-numbers, mark-numbers}
 
 -- ---- any call: its stores where it is done, nothing where it refuses
 

@@ -13,24 +13,8 @@ use Rattle.sheet.proofs.Among.{Among, there, among-same}
 use Rattle.bank.specs.declared.Answer.{Answer}
 use Rattle.bank.specs.declared.Answer.the-variants.{Done, SheetBreaksRule, BankMisfits, BankNotSound, NotReadOnly, BadInput}
 use Rattle.bank.specs.Bank.{emptyOrOdd}
-use Rattle.bank.specs.Cases.{Case, when, firstCase}
+use Rattle.bank.specs.Cases.{Case, when, firstCase, NoneOf, FirstAfter, InOrder, numbersOf}
 use Rattle.bank.specs.Calls.{numberOf, brokenSheet, misfittingBank, unsoundBank, badMark, badAddress, checkAnswer, freshAnswer, postAnswer, markAnswer}
-
--- none of some conditions holds
-abbrev pub NoneOf : List Bool → Type 0
-NoneOf [] = Unit {0}
-NoneOf (condition ∷ more) = (condition ≡ false) × NoneOf more
-
--- none of some conditions holds, and then this one does
-abbrev pub FirstAfter : List Bool → Bool → Type 0
-FirstAfter earlier this = NoneOf earlier × (this ≡ true)
-
--- a number is handed back by cases in their order, some of which were passed before: it is a case's exactly if none of the earlier ones
--- holds and this one does, and 0 exactly if none holds
-abbrev pub Told : ℕ → List Bool → List (Case ℕ) → Type 0
-Told number earlier [] = (number ≡ 0) ↔ NoneOf earlier
-Told number earlier (this ∷ behind) =
-    ((number ≡ this .outcome) ↔ FirstAfter earlier (this .holds)) × Told number (earlier ++ (this .holds ∷ [])) behind
 
 -- a number is none of the cases'
 unfoldable pub apart : ℕ → List (Case ℕ) → Bool
@@ -85,7 +69,7 @@ apart-first number (this ∷ behind) some e =
 module _ (number : ℕ) where
   -- an earlier case holds: its number is none of those behind
   told-before : (earlier : List Bool) (cases : List (Case ℕ)) → (NoneOf earlier → ⊥) → (number ≡ 0 → ⊥) → apart number cases ≡ true
-      → Told number earlier cases
+      → InOrder number earlier cases
   told-before earlier [] one some e = (λ zero. absurd (some zero), λ none. absurd (one none))
   told-before earlier (this ∷ behind) one some e = (
     (λ same. absurd (apart-here number this behind e same), λ first. absurd (one (first .0))),
@@ -95,7 +79,7 @@ module _ (number : ℕ) where
 
   -- none of the earlier cases holds: the first of those left that holds gives its number
   told-after : (earlier : List Bool) (cases : List (Case ℕ)) → NoneOf earlier → differ cases ≡ true → number ≡ firstCase cases 0
-      → Told number earlier cases
+      → InOrder number earlier cases
   unfolding firstCase differ
   told-after earlier [] none e is = (λ zero. none, λ all. is)
   told-after earlier (this ∷ behind) none e is =
@@ -116,8 +100,8 @@ module _ (number : ℕ) where
       rest = second-of (not (eqb (this .outcome) 0) && apart (this .outcome) behind) (differ behind) e
 
       go : (holds : Bool) → this .holds ≡ holds → number ≡ cond holds (this .outcome) (firstCase behind 0)
-          → (NoneOf (earlier ++ (this .holds ∷ [])) → number ≡ firstCase behind 0 → Told number (earlier ++ (this .holds ∷ [])) behind)
-          → Told number earlier (this ∷ behind)
+          → (NoneOf (earlier ++ (this .holds ∷ [])) → number ≡ firstCase behind 0 → InOrder number (earlier ++ (this .holds ∷ [])) behind)
+          → InOrder number earlier (this ∷ behind)
       go true h is again = (
         (λ same. (none, h), λ first. is),
         told-before (earlier ++ (this .holds ∷ [])) behind
@@ -134,11 +118,7 @@ module _ (number : ℕ) where
 
 -- ---- a number that cases hand back is one of theirs, or 0
 
-abbrev pub numbersOf : List (Case ℕ) → List ℕ
-numbersOf [] = 0 ∷ []
-numbersOf (this ∷ behind) = this .outcome ∷ numbersOf behind
-
-pub told-among : (number : ℕ) (earlier : List Bool) (cases : List (Case ℕ)) → NoneOf earlier → Told number earlier cases
+pub told-among : (number : ℕ) (earlier : List Bool) (cases : List (Case ℕ)) → NoneOf earlier → InOrder number earlier cases
     → Among number (numbersOf cases)
 told-among number earlier [] none told = among-same (told .1 none)
 told-among number earlier (this ∷ behind) none told =
@@ -171,6 +151,21 @@ module _ {A : Type 0} where
   first-after (other ∷ front) this behind otherwise first =
       ap (λ (b : Bool). cond b (other .outcome) (firstCase (front ++ (this ∷ behind)) otherwise)) (first .0 .0)
       ∙ first-after front this behind otherwise (first .0 .1, first .1)
+
+  -- where one in front holds, it is one of those in front: what a test tells of all of these it tells of it
+  pub first-in-front : (test : A → Bool) (front behind : List (Case A)) (otherwise : A) → each (λ this. test (this .outcome)) front ≡ true
+      → (NoneOf (conditions front) → ⊥) → test (firstCase (front ++ behind) otherwise) ≡ true
+  unfolding firstCase each
+  first-in-front test [] behind otherwise all some = absurd (some tt)
+  first-in-front test (this ∷ front) behind otherwise all some =
+      go (this .holds) refl
+      (λ none-here. first-in-front test front behind otherwise (second-of (test (this .outcome)) (each (λ this. test (this .outcome)) front) all)
+      (λ none. some (none-here, none)))
+    where
+      go : (holds : Bool) → this .holds ≡ holds → (this .holds ≡ false → test (firstCase (front ++ behind) otherwise) ≡ true)
+          → test (cond holds (this .outcome) (firstCase (front ++ behind) otherwise)) ≡ true
+      go true e rest = first-of (test (this .outcome)) (each (λ this. test (this .outcome)) front) all
+      go false e rest = rest e
 
   -- where it is another outcome than any of the cases has, as a test tells, none holds
   pub none-holds : (test : A → Bool) (cases : List (Case A)) (otherwise : A) → each (λ this. not (test (this .outcome))) cases ≡ true
@@ -207,7 +202,7 @@ module _ {A B : Type 0} (seen : A → B) where
 module _ {A : Type 0} (number : A → ℕ) where
   -- an answer's number is handed back by its cases in their order, where no two have one number
   pub told-in-order : (cases : List (Case A)) (otherwise : A) → number otherwise ≡ 0 → differ (mapped number cases) ≡ true
-      → Told (number (firstCase cases otherwise)) [] (mapped number cases)
+      → InOrder (number (firstCase cases otherwise)) [] (mapped number cases)
   told-in-order cases otherwise none e =
       told-after (number (firstCase cases otherwise)) [] (mapped number cases) tt e
       (mapped-first number cases otherwise ∙ ap (firstCase (mapped number cases)) none)
@@ -221,16 +216,16 @@ module _ (sheet bank : List ℕ) where
   abbrev whole-bank : List (Case Answer)
   whole-bank = sheet-and-size ++ (when (unsoundBank sheet bank) BankNotSound ∷ [])
 
-  pub check-numbers : Told (numberOf (checkAnswer sheet bank)) []
+  pub check-numbers : InOrder (numberOf (checkAnswer sheet bank)) []
       (when (brokenSheet sheet) 2 ∷ when (misfittingBank sheet bank) 3 ∷ when (unsoundBank sheet bank) 4 ∷ [])
   unfolding checkAnswer differ
   check-numbers = told-in-order numberOf whole-bank Done refl refl
 
-  pub fresh-numbers : Told (numberOf (freshAnswer sheet bank)) [] (when (brokenSheet sheet) 2 ∷ when (misfittingBank sheet bank) 3 ∷ [])
+  pub fresh-numbers : InOrder (numberOf (freshAnswer sheet bank)) [] (when (brokenSheet sheet) 2 ∷ when (misfittingBank sheet bank) 3 ∷ [])
   unfolding freshAnswer differ
   fresh-numbers = told-in-order numberOf sheet-and-size Done refl refl
 
-  pub post-numbers : (address : ℕ) (bytes : List ℕ) → Told (numberOf (postAnswer sheet bank address bytes)) []
+  pub post-numbers : (address : ℕ) (bytes : List ℕ) → InOrder (numberOf (postAnswer sheet bank address bytes)) []
       (when (brokenSheet sheet) 2 ∷ when (misfittingBank sheet bank) 3 ∷ when (unsoundBank sheet bank) 4
       ∷ when (emptyOrOdd bytes) 7 ∷ when (badAddress sheet address bytes) 6 ∷ [])
   unfolding postAnswer differ
@@ -238,7 +233,7 @@ module _ (sheet bank : List ℕ) where
       told-in-order numberOf
       (whole-bank ++ (when (emptyOrOdd bytes) BadInput ∷ when (badAddress sheet address bytes) NotReadOnly ∷ [])) Done refl refl
 
-  pub mark-numbers : (mark : ℕ) → Told (numberOf (markAnswer sheet bank mark)) []
+  pub mark-numbers : (mark : ℕ) → InOrder (numberOf (markAnswer sheet bank mark)) []
       (when (brokenSheet sheet) 2 ∷ when (misfittingBank sheet bank) 3 ∷ when (unsoundBank sheet bank) 4 ∷ when (badMark mark) 7 ∷ [])
   unfolding markAnswer differ
   mark-numbers mark = told-in-order numberOf (whole-bank ++ (when (badMark mark) BadInput ∷ [])) Done refl refl

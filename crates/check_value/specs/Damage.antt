@@ -1,5 +1,5 @@
 -- What demand 3 says of a frame and of what arrives of it: the bits in the order sent, those that were changed, and which changes the check
--- is to catch. The words quoted are the demand's. Assumes nothing.
+-- is to catch. The words quoted are the demand's, and for the order of the bits 01's. Assumes nothing.
 use mathlib.Core.Path.{_≡_}
 use mathlib.Core.Logic.{_⊎_}
 use mathlib.Core.Bool.{Bool, true, false, xor}

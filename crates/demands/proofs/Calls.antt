@@ -1,14 +1,14 @@
 -- The calls of the door as the customer sees them: what is lent, what is handed back, and what each lent buffer holds afterwards. Each is
--- the generated contract's own `Post`, at any lifetimes, arguments, result and exits; and what a contract allows is exactly what its
--- definition says. Assumes nothing.
-use mathlib.Core.Path.{_≡_}
-use mathlib.Core.List.{List}
+-- the generated contract's own `Post`, at any lifetimes, arguments, result and exits. Here too: no contract asks anything of its caller, for
+-- any input there is an outcome that it allows, and that outcome is the definition's. Assumes nothing.
+use mathlib.Core.Path.{_≡_, refl}
+use mathlib.Core.List.{List, []}
 use mathlib.Core.Logic.{_↔_}
 use Prim.Native.Nat.{ℕ}
 use contract.Lifetimes.{Lfts}
-use denote.Ref.{now}
+use denote.Ref.{RefT, now}
 use denote.Triple.Clauses.{AtExit}
-use borrow.Fn.Kinds.{PK, RK, Out, Dens, endedOf, resT}
+use borrow.Fn.Kinds.{PK, RK, In, Out, Dens, endedOf, resT}
 use Rattle.sheet.specs.Rules.{judgedSheet, sheetNumber}
 use Rattle.bank.specs.Calls.{numberOf, checkAnswer, freshOutcome, postOutcome, markOutcome}
 use Rattle.meter.specs.Answer.{answerOutcome}
@@ -94,3 +94,101 @@ pub answer-exactly : (κs : Lfts 6) (lent : Dens κs answer.ps) (result : resT a
     ↔ (handed result (now (exit .1 .1 .1 .1 .0)) (now (exit .1 .1 .1 .1 .1 .0)) (now (exit .1 .0)) (now (exit .1 .1 .1 .0))
     ≡ handedOf (answerOutcome (now (lent .0)) (now (lent .1 .0)) (now (lent .1 .1 .0)) (now (lent .1 .1 .1 .0))))
 answer-exactly κs lent result exit = (λ p. p, λ p. p)
+
+-- ---- demand 1, "Any sheet, bank, frame and answer buffer is taken": no contract asks anything of what is lent ..
+
+abbrev pub Takes : (n : ℕ) (ps : List (PK n)) → In n ps → Type 0
+Takes n ps Pre = (κs : Lfts n) (lent : Dens κs ps) → Pre κs lent
+
+pub sheet-check-takes : Takes 1 sheet-check.ps sheet-check-reads.Pre
+sheet-check-takes κs lent = tt
+
+pub bank-check-takes : Takes 2 bank-check.ps bank-check-reads.Pre
+bank-check-takes κs lent = tt
+
+pub bank-fresh-takes : Takes 2 bank-fresh.ps bank-fresh-reads.Pre
+bank-fresh-takes κs lent = tt
+
+pub post-takes : Takes 3 post.ps post-reads.Pre
+post-takes κs lent = tt
+
+pub set-mark-takes : Takes 2 set-mark.ps set-mark-reads.Pre
+set-mark-takes κs lent = tt
+
+pub answer-takes : Takes 6 answer.ps answer-reads.Pre
+answer-takes κs lent = tt
+
+-- .. and for any of it there is a call that the contract allows, so that no statement about calls is empty
+
+abbrev ref : {X : Type 0} → X → RefT X
+ref x = record { ptr = (0, 0); name = 0; now = x }
+
+pub some-sheet-check : (sheet : List ℕ) → ChecksSheet sheet (sheetNumber (judgedSheet sheet))
+some-sheet-check sheet =
+    checks-sheet
+    record {
+      lifetimes = ([], tt);
+      lent = (ref sheet, tt);
+      result = sheetNumber (judgedSheet sheet);
+      exit = (ref sheet, tt);
+      post = refl;
+    }
+
+pub some-bank-check : (sheet bank : List ℕ) → ChecksBank sheet bank (numberOf (checkAnswer sheet bank))
+some-bank-check sheet bank =
+    checks-bank
+    record {
+      lifetimes = ([], ([], tt));
+      lent = (ref sheet, (ref bank, tt));
+      result = numberOf (checkAnswer sheet bank);
+      exit = (ref sheet, (ref bank, tt));
+      post = refl;
+    }
+
+pub some-fresh : (sheet bank : List ℕ) → Freshens sheet bank (toldOf (freshOutcome sheet bank))
+some-fresh sheet bank =
+    let left : Told = toldOf (freshOutcome sheet bank) in
+    freshens
+    record {
+      lifetimes = ([], ([], tt));
+      lent = (ref sheet, (ref bank, tt));
+      result = left .number;
+      exit = (ref sheet, (ref (left .bank), tt));
+      post = refl;
+    }
+
+pub some-post : (sheet bank : List ℕ) (address : ℕ) (words : List ℕ) → Posts sheet bank address words (toldOf (postOutcome sheet bank address words))
+some-post sheet bank address words =
+    let left : Told = toldOf (postOutcome sheet bank address words) in
+    posts
+    record {
+      lifetimes = ([], ([], ([], tt)));
+      lent = (ref sheet, (ref bank, (address, (ref words, tt))));
+      result = left .number;
+      exit = (ref sheet, (ref (left .bank), (address, (ref words, tt))));
+      post = refl;
+    }
+
+pub some-mark : (sheet bank : List ℕ) (mark : ℕ) → Marks sheet bank mark (toldOf (markOutcome sheet bank mark))
+some-mark sheet bank mark =
+    let left : Told = toldOf (markOutcome sheet bank mark) in
+    marks
+    record {
+      lifetimes = ([], ([], tt));
+      lent = (ref sheet, (ref bank, (mark, tt)));
+      result = left .number;
+      exit = (ref sheet, (ref (left .bank), (mark, tt)));
+      post = refl;
+    }
+
+pub some-answer : (sheet bank frame buffer : List ℕ) → Answers sheet bank frame buffer (handedOf (answerOutcome sheet bank frame buffer))
+some-answer sheet bank frame buffer =
+    let left : Handed = handedOf (answerOutcome sheet bank frame buffer) in
+    answers
+    record {
+      lifetimes = ([], ([], ([], ([], ([], ([], tt))))));
+      lent = (ref sheet, (ref bank, (ref frame, (ref buffer, (ref 0, (ref 0, tt))))));
+      result = left .number;
+      exit = (ref sheet, (ref (left .bank), (ref frame, (ref (left .buffer), (ref (left .length), (ref (left .rate), tt))))));
+      post = refl;
+    }

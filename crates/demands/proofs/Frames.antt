@@ -3,29 +3,35 @@
 -- where it gives error k, and a reply without the error bit exactly where no step holds. Assumes nothing.
 use mathlib.Core.Path.{_≡_, refl, sym, ap, subst, _∙_}
 use mathlib.Core.Bool.{Bool, true, false, cond, _||_, true≢false}
-use mathlib.Core.List.{List, _∷_, _++_}
-use mathlib.Core.Logic.{_↔_}
+use mathlib.Core.List.{List, [], _∷_, _++_}
+use mathlib.Core.Logic.{_↔_, _⊎_, inl, inr}
 use Prim.Native.Nat.{ℕ, _+_, _*_, _≤_, _<_}
 use native.Mathlib.Omega.{arith}
 use lib.Dec.{ltb, eqb}
-use lib.ListN.{length}
+use lib.ListN.{length, take, drop}
+use lib.Seq.{take-at, drop-append-seam}
 use borrow.Author.Tests.{eqb-true, le-ltb, ltb-false, not-false}
 use Rattle.words.specs.Words.{byteAt}
+use Rattle.check_value.specs.Frame.{passes}
 use Rattle.sheet.specs.Rules.{each, upFrom}
 use Rattle.bank.specs.Bank.{rateOf}
-use Rattle.bank.specs.Cases.{firstCase}
+use Rattle.bank.specs.Cases.{firstCase, NoneOf}
 use Rattle.bank.specs.Stores.{stored}
-use Rattle.bank.proofs.Numbers.{NoneOf, conditions, mapped-first, first-none, none-holds}
+use Rattle.bank.proofs.Numbers.{conditions, mapped-first, first-none, first-in-front, none-holds}
+use Rattle.bank.proofs.Stores.{stored-length}
 use Rattle.meter.specs.declared.Judged.{Judged}
 use Rattle.meter.specs.declared.Judged.the-variants.{FailsCheck, OtherStation, FunctionNotAllowed, WrongLength, WrongCount, WrongAddress, WrongValue, BadItem, GoodRead, GoodClear, GoodWrite}
 use Rattle.meter.specs.Frame.{reads, clears, writesOne, writesMany, station, function, start, second, isWrite, count, functionAllowed}
 use Rattle.meter.specs.Write.{firstPlace}
 use Rattle.meter.specs.Steps as meter
 use Rattle.meter.specs.Reply.{wordBytes, bankRun, echo, writeReply, errorReply, topBitSet, withCheck, replyTo, storesOf}
-use Rattle.meter.specs.Answer.{laid, leastBuffer, outcome, answeredWith, actedOn, answerOutcome}
+use Rattle.meter.specs.Answer.{numberOf, laid, leastBuffer, outcome, answeredWith, actedOn, answerOutcome}
+use Rattle.meter.proofs.Staging.{judged-fits}
+use Rattle.meter.proofs.Closing.{reply-length, reply-passes}
+use Rattle.meter.proofs.Outcomes.{quiet, quiet-changes-nothing, outcome-cases}
 use Rattle.meter.proofs.Soundness.{writes}
 use Rattle.cedarskein.specs.Door.{Handed, handed, handedOf}
-use Rattle.demands.specs.Verdict.{Accepted, Silent, IsError, IsGood, Verdict, silence, error, good, steps, verdict}
+use Rattle.demands.specs.Verdict.{Accepted, Silent, IsError, IsGood, Verdict, silence, error, good, steps, verdict, earlierSteps}
 use Rattle.demands.proofs.Calls.{Answers, answers-is}
 
 -- where nothing is refused, the frame is acted on
@@ -113,6 +119,16 @@ top-bit byte = go (ltb byte 0x80) refl
     go true e = omega arith
     go false e = ltb-false byte 0x80 e
 
+-- the reply to 10 is its first six bytes again, as the echo of 06 is
+pub write-echo : (frame : List ℕ) → writeReply frame ≡ echo frame
+write-echo frame = go (eqb (function frame) writesMany) refl
+  where
+    go : (many : Bool) → eqb (function frame) writesMany ≡ many
+        → cond many (station frame ∷ writesMany ∷ wordBytes (start frame) ++ wordBytes (second frame)) (echo frame) ≡ echo frame
+    go true e =
+        ap (λ (code : ℕ). station frame ∷ code ∷ wordBytes (start frame) ++ wordBytes (second frame)) (sym (eqb-true (function frame) writesMany e))
+    go false e = refl
+
 module _ (sheet bank frame buffer : List ℕ) where
   Shown : Verdict → Handed → Type 0
   Shown silence left = Silent bank buffer left
@@ -147,16 +163,6 @@ module _ (sheet bank frame buffer : List ℕ) where
   unfolding withCheck
   reply-shown code more after low = record { replied = refl; noErrorBit = low }
 
-  -- the reply to 10 is its first six bytes again, as the echo of 06 is
-  pub write-echo : writeReply frame ≡ echo frame
-  write-echo = go (eqb (function frame) writesMany) refl
-    where
-      go : (many : Bool) → eqb (function frame) writesMany ≡ many
-          → cond many (station frame ∷ writesMany ∷ wordBytes (start frame) ++ wordBytes (second frame)) (echo frame) ≡ echo frame
-      go true e =
-          ap (λ (code : ℕ). station frame ∷ code ∷ wordBytes (start frame) ++ wordBytes (second frame)) (sym (eqb-true (function frame) writesMany e))
-      go false e = refl
-
   writes-low : isWrite frame ≡ true → function frame < 0x80
   writes-low write = go (eqb (function frame) writesOne) refl write
     where
@@ -172,7 +178,7 @@ module _ (sheet bank frame buffer : List ℕ) where
       (stored bank (storesOf (GoodRead (firstPlace sheet frame) (count frame)) sheet frame)) (omega arith))
       (λ clear. reply-shown (function frame) (wordBytes (start frame) ++ wordBytes (second frame)) (stored bank (storesOf GoodClear sheet frame)) (omega arith))
       (λ write. let after : List ℕ = stored bank (storesOf (GoodWrite (firstPlace sheet frame) (count frame)) sheet frame) in
-      subst (λ (reply : List ℕ). IsGood (replied reply after)) (sym write-echo)
+      subst (λ (reply : List ℕ). IsGood (replied reply after)) (sym (write-echo frame))
       (reply-shown (function frame) (wordBytes (start frame) ++ wordBytes (second frame)) after (writes-low write)))
 
   -- the first step that holds says what is seen
@@ -245,3 +251,75 @@ frame-answered sheet bank frame buffer {left} accepted call =
 
     is : Shown sheet bank frame buffer (verdict sheet bank frame) left
     is = subst (Shown sheet bank frame buffer (verdict sheet bank frame)) (sym (acted sheet bank frame buffer accepted call)) (shown sheet bank frame buffer)
+
+-- ---- what every reply has: 5 to 99 bytes that pass the check, the rate before the frame, and the buffer beyond as before
+
+pub record Replied (sheet bank buffer : List ℕ) (left : Handed) : Type 0 where
+  pub least : 5 ≤ left .length
+  pub most : left .length ≤ 99
+  pub checked : passes (take (left .length) (left .buffer)) ≡ true
+  pub beyond : drop (left .length) (left .buffer) ≡ drop (left .length) buffer
+  pub rateBefore : left .rate ≡ rateOf sheet bank
+
+reply-has : (sheet bank buffer reply after : List ℕ) → (reply ≡ []) ⊎ ((5 ≤ length reply) × (length reply ≤ 99))
+    → ((reply ≡ [] → ⊥) → passes reply ≡ true) → numberOf (answeredWith reply (rateOf sheet bank)) ≡ 0
+    → Replied sheet bank buffer (handedOf (outcome (answeredWith reply (rateOf sheet bank)) after (laid reply buffer)))
+reply-has sheet bank buffer [] after long right e = absurd (omega (arith, e))
+reply-has sheet bank buffer (byte ∷ bytes) after (inl none) right e = absurd (some none)
+  where
+    some : byte ∷ bytes ≡ [] → ⊥
+    some none = omega (arith, ap length none)
+reply-has sheet bank buffer (byte ∷ bytes) after (inr long) right e =
+    let reply : List ℕ = byte ∷ bytes in
+    record {
+      least = long .0;
+      most = long .1;
+      checked = ap passes (take-at reply (drop (length reply) buffer) (length reply) refl) ∙ right (λ none. omega (arith, ap length none));
+      beyond = drop-append-seam reply (drop (length reply) buffer);
+      rateBefore = refl;
+    }
+
+pub reply-sent : (sheet bank frame buffer : List ℕ) {left : Handed} → Accepted sheet bank buffer → Answers sheet bank frame buffer left
+    → left .number ≡ 0 → Replied sheet bank buffer left
+unfolding actedOn
+reply-sent sheet bank frame buffer {left} accepted call replied =
+    let judged : Judged = meter.judgedFrame sheet bank frame in
+    let is = acted sheet bank frame buffer accepted call in
+    let fits = judged-fits sheet bank frame in
+    subst (Replied sheet bank buffer) (sym is)
+    (reply-has sheet bank buffer (replyTo judged bank frame) (stored bank (storesOf judged sheet frame)) (reply-length judged bank frame fits)
+    (reply-passes judged bank frame fits) (ap (λ (h : Handed). h .number) (sym is) ∙ replied))
+
+-- ---- a step in front of the judgement of items leaves the bank: an error by it, like silence, stores nothing
+
+pub stopped-early : (sheet bank frame buffer : List ℕ) {left : Handed} → Accepted sheet bank buffer → Answers sheet bank frame buffer left
+    → (NoneOf (earlierSteps sheet bank frame) → ⊥) → left .bank ≡ bank
+unfolding meter.judgedFrame each
+stopped-early sheet bank frame buffer accepted call stopped =
+    ap (λ (h : Handed). h .bank) (acted sheet bank frame buffer accepted call)
+    ∙ quiet-changes-nothing (meter.judgedFrame sheet bank frame) sheet bank frame buffer
+    (first-in-front quiet (take 7 (meter.steps sheet bank frame)) (drop 7 (meter.steps sheet bank frame)) (meter.goodFrame sheet frame) refl stopped)
+
+-- ---- with any number but 0 nothing is written, and length and rate are 0
+
+pub unless-replied : (sheet bank frame buffer : List ℕ) {left : Handed} → Accepted sheet bank buffer → Answers sheet bank frame buffer left
+    → (left .number ≡ 0 → ⊥) → Silent bank buffer left
+unfolding Shown
+unless-replied sheet bank frame buffer {left} accepted call unreplied = go (verdict sheet bank frame) is
+  where
+    is : Shown sheet bank frame buffer (verdict sheet bank frame) left
+    is = subst (Shown sheet bank frame buffer (verdict sheet bank frame)) (sym (acted sheet bank frame buffer accepted call)) (shown sheet bank frame buffer)
+
+    go : (v : Verdict) → Shown sheet bank frame buffer v left → Silent bank buffer left
+    go silence seen = seen
+    go (error code) seen = absurd (unreplied (seen .replied))
+    go good seen = absurd (unreplied (seen .replied))
+
+-- ---- the bank keeps its size, whatever the call answers
+
+pub size-kept : (sheet bank frame buffer : List ℕ) {left : Handed} → Answers sheet bank frame buffer left → length (left .bank) ≡ length bank
+unfolding actedOn
+size-kept sheet bank frame buffer call =
+    ap (λ (h : Handed). length (h .bank)) (answers-is call)
+    ∙ outcome-cases (λ o. length (o .bank) ≡ length bank) sheet bank frame buffer (λ answered refused. refl)
+    (λ right fitting whole. stored-length bank (storesOf (meter.judgedFrame sheet bank frame) sheet frame))

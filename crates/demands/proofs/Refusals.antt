@@ -1,6 +1,7 @@
 -- Demand 1: "A sheet that breaks its rules, a bank that does not fit it, or a buffer under 100 bytes is refused by number, with nothing
--- written." For any call that a contract of the door allows: one of 01's numbers is handed back; each refusal's number exactly if its
--- condition holds and none does that comes before it in 01's order; and with a refusal nothing is written. Assumes nothing.
+-- written, and every call ends." For any call that a contract of the door allows: one of 01's numbers is handed back; each refusal's number
+-- exactly if its condition holds and none does that comes before it in 01's order; and with a refusal nothing is written. That every call
+-- ends is no statement of a contract: only a function that is shown to end is proved at all. Assumes nothing.
 use mathlib.Core.Path.{_≡_, refl, sym, subst, _∙_}
 use mathlib.Core.Bool.{Bool, true, false, not}
 use mathlib.Core.List.{List, [], _∷_}
@@ -12,10 +13,9 @@ use Rattle.sheet.proofs.Among.{Among, here, there}
 use Rattle.bank.specs.declared.Answer.{Answer}
 use Rattle.bank.specs.Stores.{Store}
 use Rattle.bank.specs.Bank.{emptyOrOdd, freshStores, postStores, markStores, rateOf}
-use Rattle.bank.specs.Cases.{Case, when, firstCase}
+use Rattle.bank.specs.Cases.{Case, when, firstCase, FirstAfter, InOrder, numbersOf}
 use Rattle.bank.specs.Calls.{numberOf, brokenSheet, misfittingBank, unsoundBank, badMark, badAddress, freshAnswer, postAnswer, markAnswer, outcomeOf, freshOutcome, postOutcome, markOutcome}
-use Rattle.bank.proofs.Numbers as numbers
-use Rattle.bank.proofs.Numbers.{FirstAfter, numbersOf, told-among, told-in-order, differ, check-numbers, fresh-numbers, post-numbers, mark-numbers}
+use Rattle.bank.proofs.Numbers.{told-among, told-in-order, differ, check-numbers, fresh-numbers, post-numbers, mark-numbers}
 use Rattle.bank.proofs.Changes.{refused-as-before}
 use Rattle.meter.specs.declared.Answered.{Answered}
 use Rattle.meter.specs.declared.Answered.the-variants.{Reply, Silence, SheetBreaksRule, BankMisfits, BankNotSound, SmallBuffer}
@@ -32,20 +32,20 @@ use Rattle.demands.proofs.Calls.{ChecksSheet, ChecksBank, Freshens, Pos
 -- a number by its cases in 01's order
 pub record ByNumber (cases : List (Case ℕ)) (number : ℕ) : Type 0 where
   pub oneOf : Among number (numbersOf cases)
-  pub exactly : numbers.Told number [] cases
+  pub exactly : InOrder number [] cases
 
 -- and nothing written with any number but 0
 pub record Refuses (bank : List ℕ) (cases : List (Case ℕ)) (left : Told) : Type 0 where
   pub byNumber : ByNumber cases (left .number)
   pub nothingWritten : (left .number ≡ 0 → ⊥) → left .bank ≡ bank
 
-by-number : (cases : List (Case ℕ)) {number other : ℕ} → number ≡ other → numbers.Told other [] cases → ByNumber cases number
+by-number : (cases : List (Case ℕ)) {number other : ℕ} → number ≡ other → InOrder other [] cases → ByNumber cases number
 by-number cases {number} {other} same exactly =
     subst (ByNumber cases) (sym same) record { oneOf = told-among other [] cases tt exactly; exactly = exactly }
 
 -- the law for all calls on a bank
 refuses : (cases : List (Case ℕ)) (answer : Answer) (bank : List ℕ) (stores : List Store) {left : Told}
-    → left ≡ toldOf (outcomeOf answer bank stores) → numbers.Told (numberOf answer) [] cases → Refuses bank cases left
+    → left ≡ toldOf (outcomeOf answer bank stores) → InOrder (numberOf answer) [] cases → Refuses bank cases left
 refuses cases answer bank stores same exactly =
     subst (Refuses bank cases) (sym same)
     record { byNumber = by-number cases refl exactly; nothingWritten = refused-as-before bank stores answer }
@@ -135,7 +135,7 @@ module _ (sheet bank frame buffer : List ℕ) where
   abbrev result : meter.Outcome
   result = meter.answerOutcome sheet bank frame buffer
 
-  in-order : numbers.Told (refusal (result .answered)) [] (frameRefusals sheet bank buffer)
+  in-order : InOrder (refusal (result .answered)) [] (frameRefusals sheet bank buffer)
   unfolding meter.answerOutcome meter.actedOn differ refusal
   in-order =
       told-in-order (λ (o : meter.Outcome). refusal (o .answered))

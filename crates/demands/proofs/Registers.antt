@@ -19,9 +19,9 @@ use Rattle.sheet.specs.Lookup.{liesIn}
 use Rattle.sheet.proofs.Tests.{first-of, second-of}
 use Rattle.sheet.proofs.Among.{Among}
 use Rattle.bank.specs.Stores.{wordOf, stored}
-use Rattle.bank.specs.Cases.{when}
+use Rattle.bank.specs.Cases.{when, NoneOf, FirstAfter}
 use Rattle.bank.specs.Bank.{placeIn, rateOf, goodBy, markPlace, markStores}
-use Rattle.bank.proofs.Numbers.{NoneOf, FirstAfter, conditions, first-after}
+use Rattle.bank.proofs.Numbers.{conditions, first-after}
 use Rattle.bank.proofs.Changes.{mark-there, mark-apart}
 use Rattle.meter.specs.declared.Judged.{Judged}
 use Rattle.meter.specs.declared.Judged.the-variants.{BadItem, GoodRead, GoodClear, GoodWrite}
@@ -30,8 +30,8 @@ use Rattle.meter.specs.Frame.{reads, clears, writesOne, writesMany, station, fu
 use Rattle.meter.specs.Runs.{allOpen}
 use Rattle.meter.specs.Write.{firstPlace, inRun, wouldBe, touched, badItem, someBad, stopIn, stopPlace, runStores}
 use Rattle.meter.specs.Steps as meter
-use Rattle.meter.specs.Reply.{bankRun, readReply, withCheck, replyTo, storesOf}
-use Rattle.meter.specs.Answer.{actedOn}
+use Rattle.meter.specs.Reply.{bankRun, readReply, echo, withCheck, replyTo, storesOf}
+use Rattle.meter.specs.Answer.{outcome, answeredWith, laid, actedOn}
 use Rattle.meter.proofs.Reading.{check-length, read-length}
 use Rattle.meter.proofs.Written.{run-place, each-open}
 use Rattle.meter.proofs.Judging.{run-test, run-above}
@@ -41,7 +41,7 @@ use Rattle.meter.proofs.Keeping as keeping
 use Rattle.cedarskein.specs.Door.{Handed, handedOf}
 use Rattle.demands.specs.Verdict.{Accepted, IsError, error, good, steps, verdict, earlierSteps}
 use Rattle.demands.proofs.Calls.{Answers}
-use Rattle.demands.proofs.Frames.{acted, good-none, judged-good, frame-answered}
+use Rattle.demands.proofs.Frames.{acted, good-none, judged-good, write-echo, frame-answered}
 
 -- the address of the k-th register of a run lies at a place of the bank
 abbrev pub LiesAt : List ℕ → List ℕ → ℕ → ℕ → Type 0
@@ -223,20 +223,35 @@ module _ (sheet bank frame buffer : List ℕ) (accepted : Accepted sheet bank bu
 
 -- ---- (c) a good write
 
--- every written address holds the word sent; every other word, and the mark, are as before
-pub record WriteStored (sheet bank frame : List ℕ) (left : Handed) : Type 0 where
+-- "05 and 06 echo; 10 gives station, 10, start, count": station, function and two words as they came, and their check
+pub record Echoed (frame buffer : List ℕ) (left : Handed) : Type 0 where
   pub replied : left .number ≡ 0
+  pub eight : left .length ≡ 8
+  pub sent : left .buffer ≡ laid (withCheck (echo frame)) buffer
+
+-- every written address holds the word sent; every other word, and the mark, are as before
+pub record WriteStored (sheet bank frame buffer : List ℕ) (left : Handed) : Type 0 where
+  pub echoed : Echoed frame buffer left
   pub stored : (k : ℕ) → k < count frame → (place : ℕ) × LiesAt sheet frame k place × (wordOf (left .bank) place ≡ sent frame k)
   pub othersBefore : (place : ℕ) → ((k : ℕ) → k < count frame → LiesAt sheet frame k place → ⊥) → wordOf (left .bank) place ≡ wordOf bank place
   pub markBefore : wordOf (left .bank) (markPlace sheet) ≡ wordOf bank (markPlace sheet)
 
+-- what is left by a judgement whose reply is the echo
+echoes : (sheet bank frame buffer after : List ℕ) {reply : List ℕ} → reply ≡ echo frame
+    → Echoed frame buffer (handedOf (outcome (answeredWith (withCheck reply) (rateOf sheet bank)) after (laid (withCheck reply) buffer)))
+unfolding withCheck
+echoes sheet bank frame buffer after same =
+    subst (λ (r : List ℕ). Echoed frame buffer (handedOf (outcome (answeredWith (withCheck r) (rateOf sheet bank)) after (laid (withCheck r) buffer))))
+    (sym same) record { replied = refl; eight = refl; sent = refl }
+
 module _ (sheet bank frame buffer : List ℕ) {left : Handed} (accepted : Accepted sheet bank buffer)
     (call : Answers sheet bank frame buffer left) where
-  pub good-write-stores : verdict sheet bank frame ≡ good → isWrite frame ≡ true → WriteStored sheet bank frame left
-  unfolding actedOn storesOf
+  pub good-write-stores : verdict sheet bank frame ≡ good → isWrite frame ≡ true → WriteStored sheet bank frame buffer left
+  unfolding actedOn storesOf replyTo
   good-write-stores fine write =
       record {
-        replied = frame-answered sheet bank frame buffer accepted call .byReply .1 fine .replied;
+        echoed = subst (Echoed frame buffer) (sym whole)
+            (echoes sheet bank frame buffer (stored bank (storesOf (GoodWrite (firstPlace sheet frame) (count frame)) sheet frame)) (write-echo frame));
         stored = λ k less. let place : ℕ = firstPlace sheet frame + k in
             let lies = lies-there sheet bank frame buffer accepted opened k less in
             (place, lies, here place ∙ in-front sheet bank frame buffer accepted opened k place less lies (omega (arith, end)));
@@ -258,10 +273,14 @@ module _ (sheet bank frame buffer : List ℕ) {left : Handed} (accepted : Accept
       end : stopPlace sheet bank frame ≡ firstPlace sheet frame + count frame
       end = stops-at-end sheet bank frame no-bad
 
+      whole : left ≡ handedOf (actedOn (GoodWrite (firstPlace sheet frame) (count frame)) sheet bank frame buffer)
+      whole =
+          acted sheet bank frame buffer accepted call
+          ∙ ap (λ (judged : Judged). handedOf (actedOn judged sheet bank frame buffer)) (judged-good sheet bank frame none ∙ good-write sheet frame write)
+
       is : left .bank ≡ stored bank (runStores frame (firstPlace sheet frame) (stopPlace sheet bank frame))
       is =
-          ap (λ (h : Handed). h .bank) (acted sheet bank frame buffer accepted call)
-          ∙ ap (λ (judged : Judged). stored bank (storesOf judged sheet frame)) (judged-good sheet bank frame none ∙ good-write sheet frame write)
+          ap (λ (h : Handed). h .bank) whole
           ∙ ap (λ (n : ℕ). stored bank (runStores frame (firstPlace sheet frame) n)) (sym end)
 
       here : (place : ℕ) → wordOf (left .bank) place
@@ -280,8 +299,8 @@ pub record WriteStopped (sheet bank frame buffer : List ℕ) (left : Handed) : T
   pub outOfRange : goodBy (wouldBe (firstPlace sheet frame) (count frame) bank frame) bad ≡ false
   pub isFirst : (item : Item) → Among item (items sheet) → touched (firstPlace sheet frame) (count frame) item ≡ true → item .place < bad .place
       → goodBy (wouldBe (firstPlace sheet frame) (count frame) bank frame) item ≡ true
-  pub storedInFront : (k place : ℕ) → k < count frame → LiesAt sheet frame k place → place < bad .place
-      → wordOf (left .bank) place ≡ sent frame k
+  pub storedInFront : (k : ℕ) → k < count frame
+      → (place : ℕ) × LiesAt sheet frame k place × (place < bad .place → wordOf (left .bank) place ≡ sent frame k)
   pub othersBefore : (place : ℕ) → ((k : ℕ) → k < count frame → LiesAt sheet frame k place → place < bad .place → ⊥)
       → wordOf (left .bank) place ≡ wordOf bank place
   pub markBefore : wordOf (left .bank) (markPlace sheet) ≡ wordOf bank (markPlace sheet)
@@ -326,8 +345,12 @@ module _ (sheet bank frame buffer : List ℕ) {left : Handed} (accepted : Accept
             (ap (λ (b : Bool). b && not (goodBy (wouldBe begin (count frame) bank frame) item)) (sym touch)
             ∙ keeping.front-fine sheet bank frame (accepted .sheetSound) (accepted .bankFits) (accepted .bankWhole) (opened .all) m
             (omega (arith, front, at .there)));
-        storedInFront = λ k place less lies front. here place
-            ∙ in-front sheet bank frame buffer accepted opened k place less lies (omega (arith, front, at .there));
+        storedInFront = λ k less. let place : ℕ = firstPlace sheet frame + k in
+            let lies = lies-there sheet bank frame buffer accepted opened k less in (
+              place,
+              lies,
+              λ front. here place ∙ in-front sheet bank frame buffer accepted opened k place less lies (omega (arith, front, at .there)),
+            );
         othersBefore = λ place unwritten. here place
             ∙ elsewhere sheet bank frame buffer accepted opened place (λ k less lies front. unwritten k less lies (omega (arith, front, at .there)));
         markBefore = here (markPlace sheet)
@@ -363,27 +386,27 @@ module _ (sheet bank frame buffer : List ℕ) {left : Handed} (accepted : Accept
 -- ---- (e) a good 05
 
 -- the mark is 0, and all words are as before
-pub record MarkCleared (sheet bank : List ℕ) (left : Handed) : Type 0 where
-  pub replied : left .number ≡ 0
+pub record MarkCleared (sheet bank frame buffer : List ℕ) (left : Handed) : Type 0 where
+  pub echoed : Echoed frame buffer left
   pub cleared : wordOf (left .bank) (markPlace sheet) ≡ 0
   pub othersBefore : (place : ℕ) → (markPlace sheet ≡ place → ⊥) → wordOf (left .bank) place ≡ wordOf bank place
 
 module _ (sheet bank frame buffer : List ℕ) {left : Handed} (accepted : Accepted sheet bank buffer)
     (call : Answers sheet bank frame buffer left) where
-  pub good-clear-clears : verdict sheet bank frame ≡ good → function frame ≡ clears → MarkCleared sheet bank left
-  unfolding actedOn storesOf
+  pub good-clear-clears : verdict sheet bank frame ≡ good → function frame ≡ clears → MarkCleared sheet bank frame buffer left
+  unfolding actedOn storesOf replyTo
   good-clear-clears fine clear =
       record {
-        replied = frame-answered sheet bank frame buffer accepted call .byReply .1 fine .replied;
+        echoed = subst (Echoed frame buffer) (sym whole) (echoes sheet bank frame buffer (stored bank (storesOf GoodClear sheet frame)) refl);
         cleared = here (markPlace sheet) ∙ mark-there sheet bank (accepted .sheetSound) (accepted .bankFits) 0;
         othersBefore = λ place apart. here place ∙ mark-apart sheet bank (accepted .sheetSound) (accepted .bankFits) 0 place apart;
       }
     where
-      is : left .bank ≡ stored bank (markStores sheet 0)
-      is =
-          ap (λ (h : Handed). h .bank) (acted sheet bank frame buffer accepted call)
-          ∙ ap (λ (judged : Judged). stored bank (storesOf judged sheet frame))
+      whole : left ≡ handedOf (actedOn GoodClear sheet bank frame buffer)
+      whole =
+          acted sheet bank frame buffer accepted call
+          ∙ ap (λ (judged : Judged). handedOf (actedOn judged sheet bank frame buffer))
           (judged-good sheet bank frame (good-none sheet bank frame fine) ∙ good-clear sheet frame clear)
 
       here : (place : ℕ) → wordOf (left .bank) place ≡ wordOf (stored bank (markStores sheet 0)) place
-      here place = ap (λ (b : List ℕ). wordOf b place) is
+      here place = ap (λ (h : Handed). wordOf (h .bank) place) whole

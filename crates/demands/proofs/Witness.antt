@@ -1,11 +1,12 @@
--- No statement of the demands is empty: on the UX sheet and a fresh bank, one frame for each sort of damage, and one undamaged frame that
--- gets a reply; one frame for each step of the judgement; and for each refusal number of each call an input that gets it. Assumes nothing.
+-- What the statements of the demands suppose is met: on the UX sheet and a fresh bank, one frame for each sort of damage, and one undamaged
+-- frame that gets a reply; a frame that stops at each step, and good ones; and for each refusal number of each call an input that gets it.
+-- (That there are such calls at all: `Calls`.) Assumes nothing.
 use mathlib.Core.Path.{_≡_, refl}
 use mathlib.Core.Bool.{true}
 use mathlib.Core.List.{List, [], _∷_, _++_, map}
 use Prim.Native.Nat.{ℕ}
 use native.Mathlib.Omega.{arith}
-use lib.ListN.{drop, replicate}
+use lib.ListN.{take, drop, replicate}
 use Rattle.words.specs.Words.{wordAt, withWord}
 use Rattle.check_value.specs.Check.{valueOf}
 use Rattle.check_value.specs.Frame.{passes}
@@ -20,6 +21,7 @@ use Rattle.bank.specs.Stores.{stored}
 use Rattle.bank.specs.Bank.{bankSound, goodBy, lowStores, freshStores, postStores, allReadOnly}
 use Rattle.bank.specs.Cases.{firstCase}
 use Rattle.bank.specs.Calls.{numberOf, checkAnswer, freshAnswer, postAnswer, markAnswer, freshOutcome, postOutcome, markOutcome}
+use Rattle.meter.specs.declared.Judged.the-variants.{FailsCheck, OtherStation, FunctionNotAllowed, WrongLength, WrongCount, WrongAddress, WrongValue, BadItem, GoodRead, GoodClear, GoodWrite}
 use Rattle.meter.specs.Runs.{allOpen}
 use Rattle.meter.specs.Write.{badItem, someBad, stopIn, stopPlace, runStores}
 use Rattle.meter.specs.Steps.{judgedFrame}
@@ -27,7 +29,7 @@ use Rattle.meter.specs.Reply.{bankRun, withCheck, replyTo, storesOf}
 use Rattle.meter.specs.Answer.{actedOn, answerOutcome}
 use Rattle.meter.proofs.CaseSet.{uxMeter, bytesOf}
 use Rattle.cedarskein.specs.Door.{Handed, handed, handedOf, toldOf}
-use Rattle.demands.specs.Verdict.{Accepted, silence, error, good, verdict}
+use Rattle.demands.specs.Verdict.{Accepted}
 
 abbrev uxSheet : List ℕ
 uxSheet = sheetOf ux
@@ -39,7 +41,7 @@ freshBank = bytesOf (uxMeter .fresh)
 abbrev answerBuffer : List ℕ
 answerBuffer = replicate 100 0xA5
 
--- it is what the call for a fresh bank makes of any 70 bytes, here of FF
+-- it is what the call for a fresh bank makes of 70 bytes, here of FF
 pub fresh-bank-made : toldOf (freshOutcome uxSheet (replicate 70 0xFF)) .bank ≡ freshBank
 unfolding freshOutcome freshAnswer freshStores lowStores stored bytesOf firstCase bankSound goodBy sound headerSound areasSound itemsSound settingsSound each some upFrom samePlaces itemPlaces writablePlaces placesFollow areasAscend lengthsSum areas items wordAt withWord inRange sheetOf
 fresh-bank-made = refl
@@ -88,6 +90,8 @@ judgedFrames =
     ∷ (0x01 ∷ 0x05 ∷ 0x03 ∷ 0x00 ∷ 0xFF ∷ 0x00 ∷ 0x8C ∷ 0x7E ∷ [])
     -- step 7: station 0 is out of its range
     ∷ (0x01 ∷ 0x06 ∷ 0x01 ∷ 0x0E ∷ 0x00 ∷ 0x00 ∷ 0xE9 ∷ 0xF5 ∷ [])
+    -- step 7: 0101 is stored, 0102 is out of its range
+    ∷ (0x01 ∷ 0x10 ∷ 0x01 ∷ 0x01 ∷ 0x00 ∷ 0x03 ∷ 0x06 ∷ 0x00 ∷ 0x04 ∷ 0x00 ∷ 0x02 ∷ 0x00 ∷ 0x00 ∷ 0xE3 ∷ 0xB9 ∷ [])
     -- a read
     ∷ (0x01 ∷ 0x03 ∷ 0x01 ∷ 0x01 ∷ 0x00 ∷ 0x02 ∷ 0x94 ∷ 0x37 ∷ [])
     -- a write
@@ -96,24 +100,43 @@ judgedFrames =
     ∷ (0x01 ∷ 0x05 ∷ 0x03 ∷ 0x00 ∷ 0x00 ∷ 0x00 ∷ 0xCD ∷ 0x8E ∷ [])
     ∷ []
 
-pub steps-met : map (verdict uxSheet freshBank) judgedFrames
-    ≡ silence ∷ silence ∷ error 1 ∷ silence ∷ error 3 ∷ error 2 ∷ error 3 ∷ error 3 ∷ good ∷ good ∷ good ∷ []
-unfolding verdict allOpen answerOutcome actedOn judgedFrame replyTo storesOf bankRun withCheck runStores stopPlace stopIn badItem someBad stored passes valueOf liesIn bytesOf firstCase bankSound goodBy sound headerSound areasSound itemsSound settingsSound each some upFrom samePlaces itemPlaces writablePlaces placesFollow areasAscend lengthsSum areas items wordAt withWord inRange sheetOf
+pub steps-met : map (judgedFrame uxSheet freshBank) judgedFrames
+    ≡ FailsCheck
+    ∷ OtherStation
+    ∷ FunctionNotAllowed
+    ∷ WrongLength
+    ∷ WrongCount
+    ∷ WrongAddress
+    ∷ WrongValue
+    ∷ BadItem 14 14
+    ∷ BadItem 1 2
+    ∷ GoodRead 1 2
+    ∷ GoodWrite 14 1
+    ∷ GoodClear
+    ∷ []
+unfolding allOpen answerOutcome actedOn judgedFrame replyTo storesOf bankRun withCheck runStores stopPlace stopIn badItem someBad stored passes valueOf liesIn bytesOf firstCase bankSound goodBy sound headerSound areasSound itemsSound settingsSound each some upFrom samePlaces itemPlaces writablePlaces placesFollow areasAscend lengthsSum areas items wordAt withWord inRange sheetOf
 steps-met = refl
 
 -- ---- demand 1: an input for each refusal of each call, and one that is not refused
 
--- a bank whose mark is 2
+-- the UX sheet, but of version 2
+abbrev otherVersion : List ℕ
+otherVersion = withWord uxSheet 0 2
+
+-- a bank without its last byte, and one whose mark is 2
+abbrev shortBank : List ℕ
+shortBank = take 69 freshBank
+
 abbrev unsoundBank : List ℕ
 unsoundBank = withWord freshBank 68 2
 
-pub sheet-check-numbers : map (λ sheet. sheetNumber (judgedSheet sheet)) ([] ∷ uxSheet ∷ []) ≡ 2 ∷ 0 ∷ []
+pub sheet-check-numbers : map (λ sheet. sheetNumber (judgedSheet sheet)) ([] ∷ otherVersion ∷ take 255 uxSheet ∷ uxSheet ∷ []) ≡ 2 ∷ 2 ∷ 2 ∷ 0 ∷ []
 unfolding bytesOf firstCase bankSound goodBy sound headerSound areasSound itemsSound settingsSound each some upFrom samePlaces itemPlaces writablePlaces placesFollow areasAscend lengthsSum areas items wordAt withWord inRange sheetOf
 sheet-check-numbers = refl
 
 abbrev bankChecks : List ℕ
 bankChecks =
-    numberOf (checkAnswer [] freshBank) ∷ numberOf (checkAnswer uxSheet []) ∷ numberOf (checkAnswer uxSheet unsoundBank)
+    numberOf (checkAnswer otherVersion freshBank) ∷ numberOf (checkAnswer uxSheet shortBank) ∷ numberOf (checkAnswer uxSheet unsoundBank)
     ∷ numberOf (checkAnswer uxSheet freshBank) ∷ []
 
 pub bank-check-numbers : bankChecks ≡ 2 ∷ 3 ∷ 4 ∷ 0 ∷ []
@@ -122,7 +145,7 @@ bank-check-numbers = refl
 
 abbrev freshCalls : List ℕ
 freshCalls =
-    toldOf (freshOutcome [] freshBank) .number ∷ toldOf (freshOutcome uxSheet []) .number ∷ toldOf (freshOutcome uxSheet unsoundBank) .number ∷ []
+    toldOf (freshOutcome otherVersion freshBank) .number ∷ toldOf (freshOutcome uxSheet shortBank) .number ∷ toldOf (freshOutcome uxSheet unsoundBank) .number ∷ []
 
 pub fresh-numbers : freshCalls ≡ 2 ∷ 3 ∷ 0 ∷ []
 unfolding freshOutcome freshAnswer freshStores lowStores stored bytesOf firstCase bankSound goodBy sound headerSound areasSound itemsSound settingsSound each some upFrom samePlaces itemPlaces writablePlaces placesFollow areasAscend lengthsSum areas items wordAt withWord inRange sheetOf
@@ -130,20 +153,21 @@ fresh-numbers = refl
 
 abbrev postCalls : List ℕ
 postCalls =
-    toldOf (postOutcome [] freshBank 0x0200 (0 ∷ 1 ∷ [])) .number
-    ∷ toldOf (postOutcome uxSheet [] 0x0200 (0 ∷ 1 ∷ [])) .number
+    toldOf (postOutcome otherVersion freshBank 0x0200 (0 ∷ 1 ∷ [])) .number
+    ∷ toldOf (postOutcome uxSheet shortBank 0x0200 (0 ∷ 1 ∷ [])) .number
     ∷ toldOf (postOutcome uxSheet unsoundBank 0x0200 (0 ∷ 1 ∷ [])) .number
-    ∷ toldOf (postOutcome uxSheet freshBank 0x0200 (0 ∷ [])) .number
+    ∷ toldOf (postOutcome uxSheet freshBank 0x0200 []) .number
+    ∷ toldOf (postOutcome uxSheet freshBank 0x0100 (0 ∷ [])) .number
     ∷ toldOf (postOutcome uxSheet freshBank 0x0100 (0 ∷ 1 ∷ [])) .number
     ∷ toldOf (postOutcome uxSheet freshBank 0x0200 (0 ∷ 1 ∷ [])) .number ∷ []
 
-pub post-numbers : postCalls ≡ 2 ∷ 3 ∷ 4 ∷ 7 ∷ 6 ∷ 0 ∷ []
+pub post-numbers : postCalls ≡ 2 ∷ 3 ∷ 4 ∷ 7 ∷ 7 ∷ 6 ∷ 0 ∷ []
 unfolding postOutcome postAnswer postStores allReadOnly liesIn bytesOf firstCase bankSound goodBy sound headerSound areasSound itemsSound settingsSound each some upFrom samePlaces itemPlaces writablePlaces placesFollow areasAscend lengthsSum areas items wordAt withWord inRange sheetOf
 post-numbers = refl
 
 abbrev markCalls : List ℕ
 markCalls =
-    toldOf (markOutcome [] freshBank 1) .number ∷ toldOf (markOutcome uxSheet [] 1) .number
+    toldOf (markOutcome otherVersion freshBank 1) .number ∷ toldOf (markOutcome uxSheet shortBank 1) .number
     ∷ toldOf (markOutcome uxSheet unsoundBank 1) .number ∷ toldOf (markOutcome uxSheet freshBank 2) .number
     ∷ toldOf (markOutcome uxSheet freshBank 1) .number ∷ []
 
@@ -153,8 +177,8 @@ mark-numbers = refl
 
 abbrev frameCalls : List ℕ
 frameCalls =
-    handedOf (answerOutcome [] freshBank frameSent answerBuffer) .number
-    ∷ handedOf (answerOutcome uxSheet [] frameSent answerBuffer) .number
+    handedOf (answerOutcome otherVersion freshBank frameSent answerBuffer) .number
+    ∷ handedOf (answerOutcome uxSheet shortBank frameSent answerBuffer) .number
     ∷ handedOf (answerOutcome uxSheet unsoundBank frameSent answerBuffer) .number
     ∷ handedOf (answerOutcome uxSheet freshBank frameSent (replicate 99 0)) .number
     ∷ handedOf (answerOutcome uxSheet freshBank [] answerBuffer) .number

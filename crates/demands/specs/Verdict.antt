@@ -13,7 +13,7 @@ use Rattle.meter.specs.Reply.{errorReply, withCheck}
 use Rattle.meter.specs.Answer.{leastBuffer, laid}
 use Rattle.cedarskein.specs.Door.{Handed, handed}
 
--- "a sound sheet, sound bank and buffer of at least 100 bytes": what no refusal meets
+-- a sound sheet, a bank that fits it and is sound, and a buffer of at least 100 bytes: none of the refusals 2 to 5 applies
 pub record Accepted (sheet bank buffer : List ℕ) : Type 0 where
   pub sheetSound : sound sheet ≡ true
   pub bankFits : fits sheet bank ≡ true

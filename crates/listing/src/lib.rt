@@ -37,7 +37,7 @@ fn has_place(area: Area, place: u16) -> bool
     area.first as u32 + (place - area.place) as u32 <= area.last as u32
 }
 
-// The address of a place; 10000, which is no address, where no area has the place.
+// The address of a place; 0x10000, which is no address, where no area has the place.
 fn address_of(sheet: &[u8], place: u16) -> u32
     ensures { λ r. ⌜ r ≡ addressOf (areas (now (sheet .entry))) place ⌝ }
 {

@@ -74,7 +74,7 @@ ux =
       rate = 0x010D;
     }
 
--- "AS-WE (22 items)", whose 0109 ends where the bore says
+-- "AS-WE (22 items)"; `bore` is the high bound of 0109, which is all that a bore changes
 abbrev pub asweRows : ℕ → List Row
 asweRows bore =
     plain 0x00FF 0x0 0x1
@@ -113,7 +113,7 @@ aswe bore =
       rate = 0x0107;
     }
 
--- "0109 0..10, 0..1E or 0..3C for bore 40, 50 or 80"
+-- "0109 0..10, 0..1E or 0..3C for bore 40, 50 or 80": the high bound of 0109 for each bore
 abbrev pub bore40 : ℕ
 bore40 = 0x10
 

@@ -72,7 +72,7 @@ actedOn judged sheet bank frame buffer =
     outcome (answeredWith (replyTo judged bank frame) (rateOf sheet bank)) (stored bank (storesOf judged sheet frame))
     (laid (replyTo judged bank frame) buffer)
 
--- a good read is of at most 47 registers, so that its reply has room
+-- a good read is of at most 47 registers, so that its reply has room; only private promises cite this
 abbrev pub readFits : Judged → Bool
 readFits FailsCheck = true
 readFits OtherStation = true

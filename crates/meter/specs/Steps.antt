@@ -79,7 +79,7 @@ goodFrame sheet frame =
     cond (eqb (function frame) reads) (GoodRead (firstPlace sheet frame) (count frame))
     (cond (eqb (function frame) clears) GoodClear (GoodWrite (firstPlace sheet frame) (count frame)))
 
--- where a frame stops, or that it is good, once so many of these conditions have let it through
+-- where a frame stops, or that it is good, once so many of these conditions have let it through; only private promises cite this
 unfoldable pub judgedFrom : ℕ → List ℕ → List ℕ → List ℕ → Judged
 judgedFrom passed sheet bank frame = firstCase (drop passed (steps sheet bank frame)) (goodFrame sheet frame)
 

@@ -16,7 +16,7 @@ signedWord = 1
 abbrev pub unsignedPair : ℕ
 unsignedPair = 2
 
--- a word as a signed number: from 8000 on it stands for itself less 10000
+-- a word as a signed number: from 0x8000 on it stands for itself less 0x10000
 unfoldable pub signedOf : ℕ → ℤ
 signedOf word = cond (ltb word 0x8000) (pos word) (pos word -ℤ pos 0x10000)
 

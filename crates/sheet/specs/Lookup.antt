@@ -15,7 +15,7 @@ liesIn [] address = Nowhere
 liesIn (area ∷ behind) address =
     cond (inArea address area) (At (area .place + (address - area .first)) (area .access)) (liesIn behind address)
 
--- the address of a place; 10000, which is no address, where no area has the place
+-- the address of a place; 0x10000, which is no address, where no area has the place
 unfoldable pub addressOf : List Area → ℕ → ℕ
 addressOf [] place = 0x10000
 addressOf (area ∷ behind) place =
