@@ -5,7 +5,7 @@ use mathlib.Core.List.{[], _∷_}
 use native.Mathlib.Omega.{arith}
 use borrow.Fn.Kinds.{In}
 use borrow.Fn.PlainCycle.{Measures, is, falls, and}
-use Rattle.listing.specs.Text.{digitOf}
+use Rattle.listing.specs.Text.{digitOf, decimal as decimalText}
 use Rattle.listing.specs.Line.{withByte, withText}
 use Rattle.listing.proofs.Digits.{decimal-one, decimal-more}
 use Rattle.listing.proofs.Lines.{byte-text, text-text}
