@@ -340,9 +340,9 @@ static inline uint32_t read_reply(const struct call *call, uint32_t place, uint3
 
 static inline uint32_t answer_read(const struct call *call)
 {
-    uint32_t count = word(call->frame + 4);
     if (call->frame_n != 8)
         return 0;
+    uint32_t count = word(call->frame + 4);
     if (count == 0)
         return error_reply(call, 3);
     if (count > MOST_READ)
