@@ -213,8 +213,8 @@ static void bad_check(struct row *row, size_t n)
 const char *const row_names[] = {
     "ux_read_2", "ux_read_23", "ux_write", "ux_write_2", "ux_other_station", "ux_bad_check_8", "ux_sheet_check",
     "largest_read_47", "largest_write_45", "largest_last_bad", "largest_sheet_check",
-    "items_2_check", "items_4_check", "items_8_check", "items_16_check", "items_32_check", "items_64_check",
-    "items_2_read", "items_4_read", "items_8_read", "items_16_read", "items_32_read", "items_64_read",
+    "items_2_check", "items_8_check", "items_32_check", "items_64_check",
+    "items_2_read", "items_8_read", "items_32_read", "items_64_read",
     "areas_1_check", "areas_2_check", "areas_4_check", "areas_8_check",
     "areas_1_read", "areas_2_read", "areas_4_read", "areas_8_read",
     "ux_bad_check_50", "ux_bad_check_100", NULL
