@@ -19,10 +19,10 @@ UX = [("ux_read_2", "UX, 03 of 2 words at 0101"), ("ux_read_23", "UX, 03 of 23 w
 LARGEST = [("largest_read_47", "largest sheet, 03 of 47 words"), ("largest_write_45", "largest sheet, 10 of 45 words"),
            ("largest_last_bad", "largest sheet, 10 of 45 words, the last item bad"),
            ("largest_sheet_check", "largest sheet, the sheet check alone")]
-GROWTH = [("items", "sheet check, {} items in 1 area", "items_{}_check", (2, 8, 32, 64)),
-          ("items", "03 of 2 words, {} items in 1 area", "items_{}_read", (2, 8, 32, 64)),
-          ("areas", "sheet check, 8 items in {} areas", "areas_{}_check", (1, 2, 4, 8)),
-          ("areas", "03 of 8 words, 8 items in {} areas", "areas_{}_read", (1, 2, 4, 8)),
+GROWTH = [("items", "sheet check, 1 area, items: {}", "items_{}_check", (2, 8, 32, 64)),
+          ("items", "03 of 2 words, 1 area, items: {}", "items_{}_read", (2, 8, 32, 64)),
+          ("areas", "sheet check, 8 items, areas: {}", "areas_{}_check", (1, 2, 4, 8)),
+          ("areas", "03 of 8 words, 8 items, areas: {}", "areas_{}_read", (1, 2, 4, 8)),
           ("bytes", "UX, a bad check, {} bytes", "ux_bad_check_{}", (8, 50, 100))]
 PROFILED = ["ux_read_2", "ux_write", "ux_sheet_check", "largest_write_45", "largest_sheet_check"]
 SIDES = ["archive", "fast"]
@@ -139,21 +139,25 @@ def all_tables(program, fast, archive):
     return "\n\n".join(parts + [profile_table(costs, row) for row in PROFILED])
 
 
-def record(document, tables):
+BETWEEN_MARKERS = re.compile(r"(<!-- tables -->\n).*?(<!-- end -->)", re.DOTALL)
+
+
+def text_of(document):
+    """The document's text. It is looked at before anything is measured, since that takes a while."""
     with open(document, encoding="utf-8") as file:
         text = file.read()
-    between = re.compile(r"(<!-- tables -->\n).*(\n<!-- end -->)", re.DOTALL)
-    if not between.search(text):
+    if not BETWEEN_MARKERS.search(text):
         raise SystemExit(f"{document} has no markers for the tables")
-    with open(document, "w", encoding="utf-8") as file:
-        file.write(between.sub(lambda marks: marks[1] + tables + marks[2], text))
+    return text
 
 
 def main(program, fast, archive, document=None):
+    text = text_of(document) if document else ""
     tables = all_tables(os.path.abspath(program), fast, archive)
     print(tables)
     if document:
-        record(document, tables)
+        with open(document, "w", encoding="utf-8") as file:
+            file.write(BETWEEN_MARKERS.sub(lambda marks: marks[1] + tables + "\n" + marks[2], text))
 
 
 main(*sys.argv[1:])
