@@ -1,11 +1,12 @@
 # Cedarskein: `make test` is the whole verdict. `make` alone says what there is.
 KIT := rattle-kit-5b logic 064da1ca440f63e7
 
-.PHONY: help test kit claims layout built host compare coverage
+.PHONY: help test kit claims layout built host compare coverage archive bench bench-record
 help: kit
 	@echo "make test    the names that docs/CLAIMS.md cites, the layout of the files, the archive in C programs, then the gate: every proof, every must-fail edit, every program"
 	@echo "make host    the archive in C programs, alone"
 	@echo "make compare    the archive against a second implementation in C, on 2,000,000 calls; make coverage: the branches that it takes"
+	@echo "make bench    what a call costs, beside the same functions by hand in C; make bench-record writes it into docs/BENCH.md"
 
 # The proofs are held to one kit. Another may well prove them too, but its verdict is not the one recorded here.
 kit:
@@ -28,6 +29,16 @@ host: built
 
 compare coverage: built
 	@$(MAKE) -s -C host $@
+
+# What a call costs. The archive alone is built for it.
+archive: kit
+	@said=$$(rt staticlib cedarskein 2>&1) || { echo "$$said"; exit 1; }
+
+bench: archive
+	@$(MAKE) -s -C bench bench
+
+bench-record: archive
+	@$(MAKE) -s -C bench record
 
 # The gate removes target/, so the host tests come before it.
 test: kit claims layout host

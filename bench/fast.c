@@ -1,0 +1,480 @@
+#include "fast.h"
+#include "cedarskein.h"
+#include "fast_table.h"
+
+enum { SHEET_HEADER = 24, AREA_ROW = 8, ITEM_ROW = 12, LONGEST_FRAME = 100, MOST_READ = 47, MOST_WORDS = 256 };
+
+static inline uint32_t word(const uint8_t *at)
+{
+    return (uint32_t)at[0] << 8 | at[1];
+}
+
+static inline uint32_t pair(const uint8_t *at)
+{
+    return (uint32_t)at[0] << 24 | (uint32_t)at[1] << 16 | (uint32_t)at[2] << 8 | at[3];
+}
+
+static inline void put_word(uint8_t *at, uint32_t value)
+{
+    at[0] = (uint8_t)(value >> 8);
+    at[1] = (uint8_t)value;
+}
+
+static inline void put_pair(uint8_t *at, uint32_t value)
+{
+    put_word(at, value >> 16);
+    put_word(at + 2, value);
+}
+
+/* ---- The check value ---- */
+
+static inline uint32_t taken(uint32_t state, uint8_t byte)
+{
+    return state >> 8 ^ fast_table[(state ^ byte) & 0xFF];
+}
+
+uint16_t fast_check_start(void)
+{
+    return 0xFFFF;
+}
+
+uint16_t fast_check_take(uint16_t state, uint8_t byte)
+{
+    return (uint16_t)taken(state, byte);
+}
+
+static inline uint32_t check_of(const uint8_t *bytes, size_t n)
+{
+    uint32_t state = 0xFFFF;
+    for (size_t k = 0; k < n; k++)
+        state = taken(state, bytes[k]);
+    return state;
+}
+
+uint16_t fast_check_value(const uint8_t *bytes, size_t bytes_n)
+{
+    return (uint16_t)check_of(bytes, bytes_n);
+}
+
+/* ---- The sheet and the bank ---- */
+
+static inline int header_sound(const uint8_t *sheet, size_t n)
+{
+    if (n < SHEET_HEADER)
+        return 0;
+    uint32_t areas = word(sheet + 2), items = word(sheet + 6), length = word(sheet + 14);
+    return word(sheet) == 1 && areas - 1 < 8 && word(sheet + 4) == 12 && items - 2 < 63
+        && word(sheet + 8) == 12 + 4 * areas && word(sheet + 10) - 2 < 255 && word(sheet + 12) < 16
+        && length == 12 + 4 * areas + 6 * items && word(sheet + 22) == 0 && n == 2 * (size_t)length;
+}
+
+static inline const uint8_t *area_rows_end(const uint8_t *sheet)
+{
+    return sheet + SHEET_HEADER + AREA_ROW * word(sheet + 2);
+}
+
+static inline int areas_sound(const uint8_t *sheet)
+{
+    const uint8_t *end = area_rows_end(sheet);
+    uint32_t clear = word(sheet + 20), clears = sheet[13] & 2, lowest = 0, places = 0;
+    if (!clears && clear != 0)
+        return 0;
+    for (const uint8_t *row = sheet + SHEET_HEADER; row < end; row += AREA_ROW) {
+        uint32_t first = word(row), last = word(row + 2);
+        if (first < lowest || last < first || word(row + 4) != places || (word(row + 6) | 2) != 3)
+            return 0;
+        /* Below first the difference wraps and is large. */
+        if (clears && clear - first <= last - first)
+            return 0;
+        lowest = last + 1;
+        places += lowest - first;
+    }
+    return places == word(sheet + 10);
+}
+
+/* An item's bounds, moved so that one unsigned comparison judges each kind. */
+struct range {
+    uint32_t flip, low, high;
+};
+
+static inline struct range range_of(const uint8_t *row)
+{
+    uint32_t flip = (uint32_t)(row[1] == 1) << 15;
+    struct range range = { flip, pair(row + 4) ^ flip, pair(row + 8) ^ flip };
+    return range;
+}
+
+static inline int holds(struct range range, uint32_t value)
+{
+    return (value ^ range.flip) - range.low <= range.high - range.low;
+}
+
+/* The places of the access 3 areas, as the items cover them: those from next to end are still to be covered in the area
+ * in front of row. */
+struct cover {
+    const uint8_t *row, *rows_end;
+    uint32_t next, end;
+};
+
+/* Goes on to the next access 3 area; an area is never empty. */
+static inline int opened(struct cover *cover)
+{
+    for (; cover->row < cover->rows_end; cover->row += AREA_ROW) {
+        if (cover->row[7] != 3)
+            continue;
+        cover->next = word(cover->row + 4);
+        cover->end = cover->next + word(cover->row + 2) - word(cover->row) + 1;
+        cover->row += AREA_ROW;
+        return 1;
+    }
+    return 0;
+}
+
+static inline int row_covers(const uint8_t *row, struct range range, struct cover *cover)
+{
+    uint32_t kind = word(row), size = kind == 2 ? 2 : 1;
+    if (cover->next == cover->end && !opened(cover))
+        return 0;
+    if (kind > 2 || word(row + 2) != cover->next || cover->next + size > cover->end)
+        return 0;
+    cover->next += size;
+    return range.low <= range.high && (kind == 2 || (range.low | range.high) < 0x10000);
+}
+
+static inline uint32_t value_in(const uint8_t *bank, const uint8_t *row)
+{
+    const uint8_t *at = bank + 2 * word(row + 2);
+    return row[1] == 2 ? pair(at) : word(at);
+}
+
+static inline int settings_sound(const uint8_t *address, const uint8_t *rate)
+{
+    if (address == NULL || rate == NULL || address == rate || word(address) != 0 || word(rate) != 0)
+        return 0;
+    return word(address + 6) <= 1 && word(address + 10) - 1 < 0xFF && word(rate + 6) == 0 && word(rate + 10) == 1;
+}
+
+/* One pass over the items judges the rows and, where a bank is given, its words too. A sheet that breaks a rule is told
+ * before a bank that is not sound, so the pass goes on behind the first item out of its range. */
+static inline uint32_t items_judged(const uint8_t *sheet, const uint8_t *bank)
+{
+    const uint8_t *rows = area_rows_end(sheet), *end = rows + ITEM_ROW * word(sheet + 6);
+    const uint8_t *address = NULL, *rate = NULL;
+    uint32_t address_place = word(sheet + 16), rate_place = word(sheet + 18);
+    struct cover cover = { sheet + SHEET_HEADER, rows, 0, 0 };
+    int sound = 1;
+    for (const uint8_t *row = rows; row < end; row += ITEM_ROW) {
+        struct range range = range_of(row);
+        if (!row_covers(row, range, &cover))
+            return CEDARSKEIN_SHEET_BREAKS_RULE;
+        if (word(row + 2) == address_place)
+            address = row;
+        if (word(row + 2) == rate_place)
+            rate = row;
+        if (bank != NULL)
+            sound &= holds(range, value_in(bank, row));
+    }
+    if (cover.next < cover.end || opened(&cover) || !settings_sound(address, rate))
+        return CEDARSKEIN_SHEET_BREAKS_RULE;
+    return sound ? CEDARSKEIN_DONE : CEDARSKEIN_BANK_NOT_SOUND;
+}
+
+uint32_t fast_sheet_check(const uint8_t *sheet, size_t sheet_n)
+{
+    if (!header_sound(sheet, sheet_n) || !areas_sound(sheet))
+        return CEDARSKEIN_SHEET_BREAKS_RULE;
+    return items_judged(sheet, NULL);
+}
+
+static inline uint8_t *mark_in(const uint8_t *sheet, uint8_t *bank)
+{
+    return bank + 2 * word(sheet + 10);
+}
+
+uint32_t fast_bank_check(const uint8_t *sheet, size_t sheet_n, const uint8_t *bank, size_t bank_n)
+{
+    if (!header_sound(sheet, sheet_n) || !areas_sound(sheet))
+        return CEDARSKEIN_SHEET_BREAKS_RULE;
+    size_t mark = 2 * (size_t)word(sheet + 10);
+    if (bank_n != mark + 2) {
+        uint32_t number = items_judged(sheet, NULL);
+        return number != CEDARSKEIN_DONE ? number : CEDARSKEIN_BANK_MISFITS;
+    }
+    uint32_t number = items_judged(sheet, bank);
+    if (number == CEDARSKEIN_DONE && word(bank + mark) > 1)
+        return CEDARSKEIN_BANK_NOT_SOUND;
+    return number;
+}
+
+/* ---- The calls that change a bank ---- */
+
+static inline void store_lows(const uint8_t *sheet, uint8_t *bank)
+{
+    const uint8_t *row = area_rows_end(sheet), *end = row + ITEM_ROW * word(sheet + 6);
+    for (; row < end; row += ITEM_ROW) {
+        uint8_t *at = bank + 2 * word(row + 2);
+        if (row[1] == 2)
+            put_pair(at, pair(row + 4));
+        else
+            put_word(at, word(row + 6));
+    }
+}
+
+uint32_t fast_bank_fresh(const uint8_t *sheet, size_t sheet_n, uint8_t *bank, size_t bank_n)
+{
+    uint32_t number = fast_sheet_check(sheet, sheet_n);
+    if (number != CEDARSKEIN_DONE)
+        return number;
+    if (bank_n != 2 * (size_t)word(sheet + 10) + 2)
+        return CEDARSKEIN_BANK_MISFITS;
+    for (size_t k = 0; k < bank_n; k++)
+        bank[k] = 0;
+    store_lows(sheet, bank);
+    put_word(bank + 2 * word(sheet + 16), 1);
+    put_word(bank + 2 * word(sheet + 18), 1);
+    return CEDARSKEIN_DONE;
+}
+
+enum { NOWHERE = 0xFFFF, ANY_ACCESS = 0 };
+
+/* The place of a run's first address, or NOWHERE where one of its addresses lies in no area of the access. Areas ascend,
+ * so one pass over them takes the run from each to the next; the places of neighbours follow each other. */
+static inline uint32_t place_of_run(const uint8_t *sheet, uint32_t first, size_t count, uint32_t access)
+{
+    const uint8_t *end = area_rows_end(sheet);
+    if (count > MOST_WORDS || first > 0xFFFF)
+        return NOWHERE;
+    uint32_t last = first + (uint32_t)count - 1, from = first, place = NOWHERE;
+    for (const uint8_t *row = sheet + SHEET_HEADER; row < end; row += AREA_ROW) {
+        uint32_t area_first = word(row), area_last = word(row + 2);
+        if (from > area_last)
+            continue;
+        if (from < area_first || (access != ANY_ACCESS && row[7] != access))
+            return NOWHERE;
+        if (from == first)
+            place = word(row + 4) + first - area_first;
+        if (last <= area_last)
+            return place;
+        from = area_last + 1;
+    }
+    return NOWHERE;
+}
+
+uint32_t fast_post(const uint8_t *sheet, size_t sheet_n, uint8_t *bank, size_t bank_n, uint32_t address,
+                   const uint8_t *words, size_t words_n)
+{
+    uint32_t number = fast_bank_check(sheet, sheet_n, bank, bank_n);
+    if (number != CEDARSKEIN_DONE)
+        return number;
+    if (words_n == 0 || words_n % 2 != 0)
+        return CEDARSKEIN_BAD_INPUT;
+    uint32_t place = place_of_run(sheet, address, words_n / 2, 1);
+    if (place == NOWHERE)
+        return CEDARSKEIN_NOT_READ_ONLY;
+    for (size_t k = 0; k < words_n; k++)
+        bank[2 * place + k] = words[k];
+    return CEDARSKEIN_DONE;
+}
+
+uint32_t fast_set_mark(const uint8_t *sheet, size_t sheet_n, uint8_t *bank, size_t bank_n, uint32_t mark)
+{
+    uint32_t number = fast_bank_check(sheet, sheet_n, bank, bank_n);
+    if (number != CEDARSKEIN_DONE)
+        return number;
+    if (mark > 1)
+        return CEDARSKEIN_BAD_INPUT;
+    put_word(mark_in(sheet, bank), mark);
+    return CEDARSKEIN_DONE;
+}
+
+/* ---- The answer to a frame ---- */
+
+/* What a frame is answered with: all that the call is lent, once it is known to be sound. */
+struct call {
+    const uint8_t *sheet, *frame;
+    uint8_t *bank, *out;
+    uint32_t frame_n;
+};
+
+static inline uint32_t sealed(uint8_t *out, uint32_t n, uint32_t state)
+{
+    out[n] = (uint8_t)state;
+    out[n + 1] = (uint8_t)(state >> 8);
+    return n + 2;
+}
+
+static inline uint32_t error_reply(const struct call *call, uint8_t code)
+{
+    uint8_t *out = call->out;
+    out[0] = call->frame[0];
+    out[1] = call->frame[1] | 0x80;
+    out[2] = code;
+    return sealed(out, 3, taken(taken(taken(0xFFFF, out[0]), out[1]), code));
+}
+
+/* Copies bytes and takes them into the check in the same pass. */
+static inline uint32_t copied(uint8_t *to, const uint8_t *from, uint32_t n, uint32_t state)
+{
+    for (uint32_t k = 0; k < n; k++) {
+        to[k] = from[k];
+        state = taken(state, from[k]);
+    }
+    return state;
+}
+
+static inline uint32_t echo(const struct call *call)
+{
+    return sealed(call->out, 6, copied(call->out, call->frame, 6, 0xFFFF));
+}
+
+static inline uint32_t read_reply(const struct call *call, uint32_t place, uint32_t count)
+{
+    uint8_t *out = call->out;
+    uint32_t bytes = 2 * count;
+    out[0] = call->frame[0];
+    out[1] = 3;
+    out[2] = (uint8_t)bytes;
+    uint32_t state = taken(taken(taken(0xFFFF, out[0]), 3), out[2]);
+    return sealed(out, 3 + bytes, copied(out + 3, call->bank + 2 * place, bytes, state));
+}
+
+static inline uint32_t answer_read(const struct call *call)
+{
+    if (call->frame_n != 8)
+        return 0;
+    uint32_t count = word(call->frame + 4);
+    if (count == 0)
+        return error_reply(call, 3);
+    if (count > MOST_READ)
+        return error_reply(call, 2);
+    uint32_t place = place_of_run(call->sheet, word(call->frame + 2), count, ANY_ACCESS);
+    return place == NOWHERE ? error_reply(call, 2) : read_reply(call, place, count);
+}
+
+static inline uint32_t answer_clear(const struct call *call)
+{
+    if (call->frame_n != 8)
+        return 0;
+    if (word(call->frame + 2) != word(call->sheet + 20))
+        return error_reply(call, 2);
+    if (word(call->frame + 4) != 0)
+        return error_reply(call, 3);
+    put_word(mark_in(call->sheet, call->bank), 0);
+    return echo(call);
+}
+
+/* The row of the item that a place belongs to: the last that does not begin behind it. */
+static inline const uint8_t *item_of(const uint8_t *sheet, uint32_t place)
+{
+    const uint8_t *row = area_rows_end(sheet);
+    uint32_t many = word(sheet + 6);
+    while (many > 1) {
+        uint32_t half = many / 2;
+        if (word(row + ITEM_ROW * half + 2) <= place)
+            row += ITEM_ROW * half;
+        many -= half;
+    }
+    return row;
+}
+
+/* Stores what a write sends for a pair, and tells how many words that took; 0 where the pair would be bad. A half that is
+ * not sent is the bank's. */
+static inline uint32_t stored_pair(const uint8_t *row, uint8_t *bank, const uint8_t *values, uint32_t place, uint32_t end)
+{
+    uint32_t first = word(row + 2), value, size = 1;
+    uint8_t *at = bank + 2 * first;
+    if (place != first) {
+        value = word(at) << 16 | word(values);
+    } else if (place + 1 == end) {
+        value = word(values) << 16 | word(at + 2);
+    } else {
+        value = pair(values);
+        size = 2;
+    }
+    if (value - pair(row + 4) > pair(row + 8) - pair(row + 4))
+        return 0;
+    put_pair(at, value);
+    return size;
+}
+
+static inline uint32_t stored_word(const uint8_t *row, uint8_t *bank, const uint8_t *values, uint32_t place)
+{
+    if (!holds(range_of(row), word(values)))
+        return 0;
+    put_word(bank + 2 * place, word(values));
+    return 1;
+}
+
+/* Judges and stores item by item, so that those in front of the first bad one are stored. */
+static inline uint32_t answer_write(const struct call *call, const uint8_t *values, uint32_t count)
+{
+    uint32_t place = place_of_run(call->sheet, word(call->frame + 2), count, 3), end = place + count, size;
+    if (place == NOWHERE)
+        return error_reply(call, 2);
+    const uint8_t *row = item_of(call->sheet, place);
+    for (; place < end; place += size) {
+        if (row[1] == 2)
+            size = stored_pair(row, call->bank, values, place, end);
+        else
+            size = stored_word(row, call->bank, values, place);
+        if (size == 0)
+            return error_reply(call, 3);
+        values += 2 * size;
+        row += ITEM_ROW;
+    }
+    return echo(call);
+}
+
+static inline uint32_t answer_write_many(const struct call *call)
+{
+    if (call->frame_n < 9 || call->frame_n != 9u + call->frame[6])
+        return 0;
+    uint32_t count = word(call->frame + 4);
+    if (count == 0 || call->frame[6] != 2 * count)
+        return error_reply(call, 3);
+    return answer_write(call, call->frame + 7, count);
+}
+
+/* The length of the reply to a frame that passed and is for this station; 0 for silence. */
+static inline uint32_t reply_length(const struct call *call)
+{
+    uint32_t functions = call->sheet[13];
+    switch (call->frame[1]) {
+    case 0x03: return functions & 1 ? answer_read(call) : error_reply(call, 1);
+    case 0x05: return functions & 2 ? answer_clear(call) : error_reply(call, 1);
+    case 0x06:
+        if (!(functions & 4))
+            return error_reply(call, 1);
+        return call->frame_n == 8 ? answer_write(call, call->frame + 4, 1) : 0;
+    case 0x10: return functions & 8 ? answer_write_many(call) : error_reply(call, 1);
+    default: return error_reply(call, 1);
+    }
+}
+
+static inline int passes(const uint8_t *frame, size_t n)
+{
+    if (n < 4 || n > LONGEST_FRAME)
+        return 0;
+    return check_of(frame, n - 2) == ((uint32_t)frame[n - 1] << 8 | frame[n - 2]);
+}
+
+uint32_t fast_answer(const uint8_t *sheet, size_t sheet_n, uint8_t *bank, size_t bank_n, const uint8_t *frame,
+                     size_t frame_n, uint8_t *out, size_t out_n, uint32_t *length, uint32_t *rate)
+{
+    *length = 0;
+    *rate = 0;
+    uint32_t number = fast_bank_check(sheet, sheet_n, bank, bank_n);
+    if (number != CEDARSKEIN_DONE)
+        return number;
+    if (out_n < LONGEST_FRAME)
+        return CEDARSKEIN_SMALL_OUT;
+    if (!passes(frame, frame_n) || frame[0] != word(bank + 2 * word(sheet + 16)))
+        return CEDARSKEIN_SILENCE;
+    uint32_t rate_before = word(bank + 2 * word(sheet + 18));
+    struct call call = { sheet, frame, bank, out, (uint32_t)frame_n };
+    *length = reply_length(&call);
+    if (*length == 0)
+        return CEDARSKEIN_SILENCE;
+    *rate = rate_before;
+    return CEDARSKEIN_DONE;
+}

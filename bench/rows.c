@@ -1,0 +1,279 @@
+#include "rows.h"
+#include "cedarskein.h"
+#include "cedarskein_sheets.h"
+#include "fast.h"
+
+#include <stdio.h>
+#include <string.h>
+
+/* ---- Who is called ---- */
+
+static uint32_t empty_check(const uint8_t *sheet, size_t n)
+{
+    (void)sheet;
+    (void)n;
+    return 0;
+}
+
+static uint32_t empty_answer(const uint8_t *sheet, size_t sheet_n, uint8_t *bank, size_t bank_n, const uint8_t *frame,
+                             size_t frame_n, uint8_t *out, size_t out_n, uint32_t *length, uint32_t *rate)
+{
+    (void)sheet, (void)sheet_n, (void)bank, (void)bank_n, (void)frame, (void)frame_n, (void)out, (void)out_n;
+    (void)length, (void)rate;
+    return 0;
+}
+
+static const struct side sides[] = {
+    { "archive", cedarskein_sheet_check, cedarskein_answer },
+    { "fast", fast_sheet_check, fast_answer },
+    { "empty", empty_check, empty_answer },
+};
+
+const struct side *side_named(const char *name)
+{
+    for (size_t k = 0; k < sizeof sides / sizeof sides[0]; k++)
+        if (strcmp(sides[k].name, name) == 0)
+            return &sides[k];
+    return NULL;
+}
+
+void row_call(const struct side *side, struct row *row)
+{
+    if (row->frame_n == 0)
+        row->number = side->sheet_check(row->sheet, row->sheet_n);
+    else
+        row->number = side->answer(row->sheet, row->sheet_n, row->bank, row->bank_n, row->frame, row->frame_n, row->out,
+                                   OUT_ROOM, &row->length, &row->rate);
+}
+
+/* ---- Sheets ---- */
+
+static void put(uint8_t *bytes, size_t at, uint32_t word)
+{
+    bytes[2 * at] = (uint8_t)(word >> 8);
+    bytes[2 * at + 1] = (uint8_t)word;
+}
+
+/* A sheet under way: its rows are added one after another, the header last. */
+struct made {
+    uint8_t *sheet;
+    uint32_t areas, items, places, next_item;
+};
+
+static void add_area(struct made *made, uint32_t first, uint32_t length, uint32_t access)
+{
+    size_t at = 12 + 4 * (size_t)made->areas++;
+    put(made->sheet, at, first);
+    put(made->sheet, at + 1, first + length - 1);
+    put(made->sheet, at + 2, made->places);
+    put(made->sheet, at + 3, access);
+    made->places += length;
+}
+
+static void add_item(struct made *made, uint32_t kind, uint32_t low, uint32_t high)
+{
+    size_t at = 12 + 4 * (size_t)made->areas + 6 * (size_t)made->items++;
+    put(made->sheet, at, kind);
+    put(made->sheet, at + 1, made->next_item);
+    put(made->sheet, at + 2, 0);
+    put(made->sheet, at + 3, low);
+    put(made->sheet, at + 4, kind == 2 ? 1 : 0);
+    put(made->sheet, at + 5, high);
+    made->next_item += kind == 2 ? 2 : 1;
+}
+
+/* Functions 03, 06 and 10; address and rate at the first two items. */
+static void add_header(struct made *made, uint32_t address)
+{
+    uint32_t words[12] = { 1, made->areas, 12, made->items, 12 + 4 * made->areas, made->places, 13,
+                           12 + 4 * made->areas + 6 * made->items, address, address + 1, 0, 0 };
+    for (size_t k = 0; k < 12; k++)
+        put(made->sheet, k, words[k]);
+}
+
+static void add_settings(struct made *made)
+{
+    add_item(made, 0, 1, 0xF7);
+    add_item(made, 0, 0, 1);
+}
+
+/* Words, every other one signed. */
+static void add_words(struct made *made, uint32_t many)
+{
+    for (uint32_t k = 0; k < many; k++)
+        add_item(made, k % 2, k % 2 ? 0xFFF6 : 0, 0x3C);
+}
+
+static void add_pairs(struct made *made, uint32_t many)
+{
+    for (uint32_t k = 0; k < many; k++)
+        add_item(made, 2, 0, 0x869F);
+}
+
+/* The largest sheet: 8 areas, 64 items, 256 words. Items cover areas 2, 4, 6 and 8; the last 45 are the words of area 8,
+ * whose front neighbour is area 7. */
+enum { LARGEST_WRITE = 0x0800, LARGEST_READ = 0x07FE };
+
+static void make_largest(struct made *made)
+{
+    static const uint32_t lengths[8] = { 40, 2, 40, 16, 40, 18, 55, 45 };
+    for (uint32_t k = 0; k < 8; k++)
+        add_area(made, k == 6 ? 0x0800 - 55 : 0x0100 * (k + 1), lengths[k], k % 2 ? 3 : 1);
+    made->next_item = 40;
+    add_settings(made);
+    made->next_item = 82;
+    add_pairs(made, 8);
+    made->next_item = 138;
+    add_pairs(made, 9);
+    made->next_item = 211;
+    add_words(made, 45);
+    add_header(made, 40);
+}
+
+/* One area, so many items. */
+static void make_items(struct made *made, uint32_t items)
+{
+    add_area(made, 0x0100, items, 3);
+    add_settings(made);
+    add_words(made, items - 2);
+    add_header(made, 0);
+}
+
+/* So many neighbouring areas, 8 items in all. */
+static void make_areas(struct made *made, uint32_t areas)
+{
+    for (uint32_t k = 0; k < areas; k++)
+        add_area(made, 0x0100 + 8 / areas * k, 8 / areas, 3);
+    add_settings(made);
+    add_words(made, 6);
+    add_header(made, 0);
+}
+
+static void use_sheet(struct row *row, void (*make)(struct made *, uint32_t), uint32_t size)
+{
+    struct made made = { row->sheet, 0, 0, 0, 0 };
+    if (make != NULL)
+        make(&made, size);
+    else
+        make_largest(&made);
+    row->sheet_n = 2 * (12 + 4 * (size_t)made.areas + 6 * (size_t)made.items);
+    row->bank_n = 2 * (size_t)made.places + 2;
+}
+
+static void use_ux(struct row *row)
+{
+    row->sheet_n = sizeof cedarskein_ux_sheet;
+    row->bank_n = CEDARSKEIN_UX_BANK_SIZE;
+    memcpy(row->sheet, cedarskein_ux_sheet, row->sheet_n);
+}
+
+/* ---- Frames ---- */
+
+static void seal(struct row *row, size_t n)
+{
+    uint16_t check = fast_check_value(row->frame, n);
+    row->frame[n] = (uint8_t)check;
+    row->frame[n + 1] = (uint8_t)(check >> 8);
+    row->frame_n = n + 2;
+}
+
+static void short_frame(struct row *row, uint8_t station, uint8_t function, uint32_t start, uint32_t second)
+{
+    row->frame[0] = station;
+    row->frame[1] = function;
+    row->frame[2] = (uint8_t)(start >> 8);
+    row->frame[3] = (uint8_t)start;
+    row->frame[4] = (uint8_t)(second >> 8);
+    row->frame[5] = (uint8_t)second;
+    seal(row, 6);
+}
+
+/* A 10 of so many words, each 1, but the last as given. */
+static void write_frame(struct row *row, uint32_t start, uint32_t count, uint32_t last)
+{
+    short_frame(row, 1, 0x10, start, count);
+    row->frame[6] = (uint8_t)(2 * count);
+    for (uint32_t k = 0; k < count; k++) {
+        row->frame[7 + 2 * k] = 0;
+        row->frame[8 + 2 * k] = (uint8_t)(k + 1 == count ? last : 1);
+    }
+    seal(row, 7 + 2 * (size_t)count);
+}
+
+static void bad_check(struct row *row, size_t n)
+{
+    for (size_t k = 0; k < n; k++)
+        row->frame[k] = (uint8_t)(k + 1);
+    seal(row, n - 2);
+    row->frame[n - 1] ^= 1;
+}
+
+/* ---- The rows ---- */
+
+const char *const row_names[] = {
+    "ux_read_2", "ux_read_23", "ux_write", "ux_write_2", "ux_other_station", "ux_bad_check_8", "ux_sheet_check",
+    "largest_read_47", "largest_write_45", "largest_last_bad", "largest_sheet_check",
+    "items_2_check", "items_8_check", "items_32_check", "items_64_check",
+    "items_2_read", "items_8_read", "items_32_read", "items_64_read",
+    "areas_1_check", "areas_2_check", "areas_4_check", "areas_8_check",
+    "areas_1_read", "areas_2_read", "areas_4_read", "areas_8_read",
+    "ux_bad_check_50", "ux_bad_check_100", NULL
+};
+
+static void make_ux_frame(struct row *row, const char *what)
+{
+    unsigned n;
+    if (strcmp(what, "read_2") == 0)
+        short_frame(row, 1, 3, 0x0101, 2);
+    else if (strcmp(what, "read_23") == 0)
+        short_frame(row, 1, 3, 0x0100, 23);
+    else if (strcmp(what, "write") == 0)
+        short_frame(row, 1, 6, 0x010F, 1);
+    else if (strcmp(what, "write_2") == 0)
+        write_frame(row, 0x010F, 2, 0x88);
+    else if (strcmp(what, "other_station") == 0)
+        short_frame(row, 2, 3, 0x0101, 2);
+    else if (sscanf(what, "bad_check_%u", &n) == 1)
+        bad_check(row, n);
+}
+
+static void make_largest_frame(struct row *row, const char *what)
+{
+    if (strcmp(what, "read_47") == 0)
+        short_frame(row, 1, 3, LARGEST_READ, 47);
+    else if (strcmp(what, "write_45") == 0)
+        write_frame(row, LARGEST_WRITE, 45, 1);
+    else if (strcmp(what, "last_bad") == 0)
+        write_frame(row, LARGEST_WRITE, 45, 0x3D);
+}
+
+/* A growth row: a sheet of a size, with its check alone or a read of all 8 words of the areas, or of 2. */
+static int make_growth(struct row *row, const char *name)
+{
+    unsigned size;
+    char what[8];
+    if (sscanf(name, "items_%u_%7s", &size, what) == 2)
+        use_sheet(row, make_items, size);
+    else if (sscanf(name, "areas_%u_%7s", &size, what) == 2)
+        use_sheet(row, make_areas, size);
+    else
+        return 0;
+    if (strcmp(what, "read") == 0)
+        short_frame(row, 1, 3, 0x0100, name[0] == 'a' ? 8 : 2);
+    return 1;
+}
+
+int row_make(struct row *row, const char *name)
+{
+    memset(row, 0, sizeof *row);
+    if (strncmp(name, "ux_", 3) == 0) {
+        use_ux(row);
+        make_ux_frame(row, name + 3);
+    } else if (strncmp(name, "largest_", 8) == 0) {
+        use_sheet(row, NULL, 0);
+        make_largest_frame(row, name + 8);
+    } else if (!make_growth(row, name)) {
+        return 0;
+    }
+    return fast_bank_fresh(row->sheet, row->sheet_n, row->bank, row->bank_n) == CEDARSKEIN_DONE;
+}
