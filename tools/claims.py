@@ -9,6 +9,7 @@ A citation stands in backquotes:
   crates/NAME/src/lib.rt: name                functions and types of Rattle
   crates/NAME/must-fail: name, name           edits, the files crates/NAME/must-fail/name.edit
   crates/NAME/specs/File.antt                 a file or a folder alone
+  host/refusals.c, docs/BENCH.md              a file or a folder outside of crates/, alone
 """
 import glob
 import os
@@ -17,7 +18,8 @@ import sys
 
 ROOT = os.path.dirname(os.path.dirname(os.path.abspath(__file__)))
 PAGE = "docs/CLAIMS.md"
-CITATION = re.compile(r"(crates/[\w./+-]+)(?:: (.+))?$")
+FOLDERS = ("crates/", "host/", "demo/", "bench/", "include/", "sheets/", "tools/", "docs/")
+CITATION = re.compile(r"((?:crates|host|demo|bench|include|sheets|tools|docs)/[\w./+-]*)(?:: (.+))?$")
 # what declares a name, by the ending of the file: N stands for the name
 DECLARES = {
     ".antt": [r"^\s*(?:(?:abbrev|unfoldable)\s+)?pub\s+N\s*:", r"^\s*pub\s+(?:record|data)\s+N(?=[\s:({]|$)"],
@@ -64,7 +66,7 @@ def citations(text):
     for number, span in spans(text):
         if span is None:
             yield number, None, "a backquote without its other"
-        elif span.startswith("crates/"):
+        elif span.startswith(FOLDERS):
             found = CITATION.match(span)
             if not found:
                 yield number, None, f"not a citation: {span}"
