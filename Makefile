@@ -1,12 +1,21 @@
 # Cedarskein: `make test` is the whole verdict. `make` alone says what there is.
 KIT := rattle-kit-5b logic 064da1ca440f63e7
+# For `make meter`: the file of its sheet, and another name for its line.
+SHEET := sheets/ux15_25.sheet
+LINK :=
 
-.PHONY: help test kit claims layout built host compare coverage archive bench bench-record
+.PHONY: help test kit claims layout built host compare coverage demo demo-check meter interop bench bench-record
+# Two runs of rt in one target/ would be in each other's way.
+.NOTPARALLEL:
+
 help: kit
-	@echo "make test    the names that docs/CLAIMS.md cites, the layout of the files, the archive in C programs, then the gate: every proof, every must-fail edit, every program"
-	@echo "make host    the archive in C programs, alone"
-	@echo "make compare    the archive against a second implementation in C, on 2,000,000 calls; make coverage: the branches that it takes"
-	@echo "make bench    what a call costs, beside the same functions by hand in C; make bench-record writes it into docs/BENCH.md"
+	@echo "make demo      a new limit comes back with error 03: what is in the meter now, and why"
+	@echo "make test      the whole verdict: what docs/CLAIMS.md cites, the archive in C programs, then the gate: every proof, must-fail edit and program"
+	@echo "make meter     a simulated meter on a pseudo-terminal; SHEET=FILE is its sheet, LINK=NAME another name for its line"
+	@echo "make interop   two Modbus masters, mbpoll and pymodbus's client, at the simulated meter"
+	@echo "make host      the archive in C programs, alone"
+	@echo "make compare   the archive against a second implementation in C, on 2,000,000 calls; make coverage: the branches that it takes"
+	@echo "make bench     what a call costs, beside the same functions by hand in C; make bench-record writes it into docs/BENCH.md"
 
 # The proofs are held to one kit. Another may well prove them too, but its verdict is not the one recorded here.
 kit:
@@ -20,7 +29,7 @@ claims:
 layout:
 	@rt fmt --check
 
-# What the host tests look at. `rt` says much, which is shown where it fails.
+# What the C programs are linked with and compared to. `rt` says much, which is shown where it fails.
 built: kit
 	@said=$$(rt staticlib cedarskein 2>&1 && rt check sheet_files 2>&1) || { echo "$$said"; exit 1; }
 
@@ -30,36 +39,15 @@ host: built
 compare coverage: built
 	@$(MAKE) -s -C host $@
 
-# What a call costs. The archive alone is built for it.
-archive: kit
-	@said=$$(rt staticlib cedarskein 2>&1) || { echo "$$said"; exit 1; }
-
-bench: archive
-	@$(MAKE) -s -C bench bench
-
-bench-record: archive
-	@$(MAKE) -s -C bench record
-
-# The gate removes target/, so the host tests come before it.
-test: kit claims layout host
-	@exec rt ci
-
-# The story, the simulated meter and the masters at it. The story is played ahead of the gate, which removes target/ and the library with it.
-.PHONY: demo demo-check meter interop help-demo
-# Two runs of rt in one target/ would be in each other's way.
-.NOTPARALLEL:
-help: help-demo
-test: demo-check
-
-help-demo:
-	@echo "make demo    a new limit comes back with error 03: what is in the meter now, and why"
-	@echo "make meter   a simulated meter on a pseudo-terminal; SHEET=FILE is its sheet, LINK=NAME another name for its line"
-	@echo "make interop two Modbus masters, mbpoll and pymodbus's client, at the simulated meter"
-
 demo demo-check interop: kit
 	@$(MAKE) -s -C demo $@
 
-SHEET := sheets/ux15_25.sheet
-LINK :=
 meter: kit
 	@$(MAKE) -s -C demo meter SHEET=$(abspath $(SHEET)) LINK=$(abspath $(LINK))
+
+bench bench-record: built
+	@$(MAKE) -s -C bench $(@:bench-%=%)
+
+# The gate removes target/, so the C programs come before it. Its last line is the verdict's.
+test: kit claims layout host demo-check
+	@exec rt ci
