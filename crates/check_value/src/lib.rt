@@ -16,8 +16,11 @@ fn eight_shifts(low: u8) -> u16
     ensures { λ r. ⌜ r ≡ shiftedTimes bitsOfByte low ⌝ }
 {
     let byte = low as u16;
-    let odd = (u8::count_ones(low) % 2) as u16;
-    byte * 64 ^ byte * 128 ^ odd * 0xC001
+    let twice = byte * 64 ^ byte * 128;
+    if u8::count_ones(low) % 2 == 1 {
+        return twice ^ 0xC001;
+    }
+    twice
 }
 
 impl Check {
