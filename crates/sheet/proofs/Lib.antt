@@ -9,3 +9,4 @@ pub mod Sound
 pub mod Addresses
 pub mod Places
 pub mod Determined
+pub mod Sides
