@@ -10,7 +10,6 @@ use borrow.Author.Needs.{needs}
 use Rattle.words.proofs.store_word.Statement.{statement}
 use Rattle.words.proofs.store_word.Tie as tie
 
--- src/lib.rt:43:9
 returns : tie.Need-returns
 unfolding withWord
 returns c =
@@ -18,39 +17,31 @@ returns c =
     let past : length (now (a .bytes)) ≤ a .at + 1 = omega arith in
     simp (le-ltb (a .at + 1) (length (now (a .bytes))) past)
 
--- src/lib.rt:45:16
 add-next : tie.Need-add-next
 add-next c = search needs
 
--- src/lib.rt:47:9
-returns-2 : tie.Need-returns-2
-unfolding withWord
-returns-2 c = simp (le-ltb _ _ (c .if2 .taken))
-
--- src/lib.rt:49:17
 cast-bytes : tie.Need-cast-bytes
 cast-bytes c = search needs
 
--- src/lib.rt:49:5
 slice-write-bytes : tie.Need-slice-write-bytes
 slice-write-bytes c = search needs
 
--- src/lib.rt:50:19
 cast-bytes-2 : tie.Need-cast-bytes-2
 cast-bytes-2 c = search needs
 
--- src/lib.rt:50:5
 slice-write-bytes-2 : tie.Need-slice-write-bytes-2
 slice-write-bytes-2 c = search needs
 
--- src/lib.rt:39:1
 same-length : tie.Need-same-length
 same-length c = search needs
 
--- src/lib.rt:39:1
+returns-2 : tie.Need-returns-2
+unfolding withWord
+returns-2 c = simp (lt-ltb _ _ (c .if2 .taken))
+
 returns-3 : tie.Need-returns-3
 unfolding withWord
-returns-3 c = simp (lt-ltb _ _ (c .if2 .left))
+returns-3 c = simp (le-ltb _ _ (c .if2 .left))
 
 pub store-word-spec : {M : Type 1} → statement M
 store-word-spec =
@@ -58,10 +49,10 @@ store-word-spec =
     (tie.spec
     returns
     add-next
-    returns-2
     cast-bytes
     slice-write-bytes
     cast-bytes-2
     slice-write-bytes-2
     same-length
+    returns-2
     returns-3)
