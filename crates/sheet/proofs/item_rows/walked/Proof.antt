@@ -1,4 +1,4 @@
--- `sheet::item_rows::opened` meets its contract. The invariant: the cover is under way, and the same places are left. Assumes nothing.
+-- `sheet::item_rows::walked` meets its contract. The invariant: the cover is under way, and the same places are left. Assumes nothing.
 use mathlib.Core.Path.{_≡_, refl, _∙_}
 use Prim.Native.Nat.{_-_}
 use native.Mathlib.Omega.{arith}
@@ -7,8 +7,8 @@ use borrow.Author.Needs.{needs}
 use Rattle.sheet.specs.Rows.{areaCount}
 use Rattle.sheet.specs.Cover.{placesLeft, UnderWay}
 use Rattle.sheet.proofs.Covering.{cover, left-open, way-open, wide-small}
-use Rattle.sheet.proofs.item_rows.opened.Statement.{statement}
-use Rattle.sheet.proofs.item_rows.opened.Tie as tie
+use Rattle.sheet.proofs.item_rows.walked.Statement.{statement}
+use Rattle.sheet.proofs.item_rows.walked.Tie as tie
 
 abbrev Inv-loop : tie.InvT-loop
 Inv-loop sheet count next₀ end₀ area₀ next end area =
@@ -60,8 +60,8 @@ loop-again c = let s = now (c .before .before .before .before .before .before .b
 returns-2 : tie.Need-returns-2 Inv-loop μ-loop
 returns-2 c = record { underWay = c .before .loop .inv .1; left = c .before .loop .inv .2; last = λ done. omega arith }
 
-pub opened-spec : {M : Type 1} → statement M
-opened-spec =
+pub walked-spec : {M : Type 1} → statement M
+walked-spec =
     tie.close
     (tie.spec
     Inv-loop
