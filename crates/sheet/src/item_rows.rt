@@ -32,6 +32,7 @@ fn writable_length(area: Area) -> u32
 fn walked(sheet: &[u8], count: u16, cover: Cover) -> Cover
     requires { ⌜ count ≡ areaCount (now sheet) ⌝ }
     requires { ⌜ UnderWay (now sheet) cover ⌝ }
+    requires { ⌜ length (now sheet) ≡ 2 * rowsEnd (now sheet) ⌝ }
     ensures { λ r. ⌜ Opened (now (sheet .entry)) cover r ⌝ }
 {
     let mut next = cover.next;
@@ -41,7 +42,7 @@ fn walked(sheet: &[u8], count: u16, cover: Cover) -> Cover
         if next < end {
             return Cover { next, end, area };
         }
-        let row = crate::area_at(sheet, area);
+        let row = crate::area_inside(sheet, area);
         next = row.place as u32;
         end = next + writable_length(row);
         area += 1;
@@ -53,6 +54,7 @@ fn walked(sheet: &[u8], count: u16, cover: Cover) -> Cover
 fn opened(sheet: &[u8], count: u16, cover: Cover) -> Cover
     requires { ⌜ count ≡ areaCount (now sheet) ⌝ }
     requires { ⌜ UnderWay (now sheet) cover ⌝ }
+    requires { ⌜ length (now sheet) ≡ 2 * rowsEnd (now sheet) ⌝ }
     ensures { λ r. ⌜ Opened (now (sheet .entry)) cover r ⌝ }
 {
     if cover.next < cover.end {

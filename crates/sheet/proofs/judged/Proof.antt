@@ -16,7 +16,7 @@ unfolding sound
 returns c = simp (refused (c .before .header-sound .ensures) (c .if1 .taken))
 
 areas-sound-requires : tie.Need-areas-sound-requires
-areas-sound-requires c κs = search needs
+areas-sound-requires c κs = rows-length (now (c .before .before .before .args .sheet)) (passed (c .before .header-sound .ensures) (c .if1 .left))
 
 returns-2 : tie.Need-returns-2
 unfolding sound

@@ -57,7 +57,7 @@ item-inside-requires c κs =
     (inv .0, omega (arith, inv .0, inv .1, c .before .before .before .before .before .before .before .before .pre .1))
 
 opened-requires : tie.Need-opened-requires Inv-loop μ-loop
-opened-requires c κs = (c .before .before .loop .inv .0, c .before .before .loop .inv .3)
+opened-requires c κs = (c .before .before .loop .inv .0, (c .before .before .loop .inv .3, c .before .before .before .before .before .before .before .before .before .pre .1))
 
 row-sound-requires : tie.Need-row-sound-requires Inv-loop μ-loop
 row-sound-requires c κs = search needs
@@ -126,7 +126,7 @@ loop-again c = let s = now (c .before .before .before .before .before .before .b
     )
 
 opened-requires-2 : tie.Need-opened-requires-2 Inv-loop μ-loop
-opened-requires-2 c κs = (c .before .loop .inv .0, c .before .loop .inv .3)
+opened-requires-2 c κs = (c .before .loop .inv .0, (c .before .loop .inv .3, c .before .before .before .before .before .before .before .before .pre .1))
 
 returns-4 : tie.Need-returns-4 Inv-loop μ-loop
 returns-4 c = sym (refused-left (now (c .before .before .before .before .before .before .before .before .before .before .before .args .sheet)) (c .before .before .before .before .loop .k) (c .before .before .before .before .loop .cover) (c .before .before .opened2 .result) (c .before .before .opened2 .ensures) (c .before .before .before .before .loop .address) (c .before .before .before .before .loop .rate)
