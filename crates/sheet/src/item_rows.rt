@@ -132,13 +132,13 @@ fn address_found(before: bool, item: Item, place: u16) -> bool
     if item.place != place {
         return before;
     }
-    if before {
-        return true;
-    }
     if !setting_at(item, place) {
-        return false;
+        return before;
     }
-    item.high <= 0xFF
+    if item.high > 0xFF {
+        return before;
+    }
+    true
 }
 
 // Whether the rate's item is found: before, or here. "the rate's is 0 to 1".
@@ -148,16 +148,16 @@ fn rate_found(before: bool, item: Item, place: u16) -> bool
     if item.place != place {
         return before;
     }
-    if before {
-        return true;
-    }
     if !setting_at(item, place) {
-        return false;
+        return before;
     }
     if item.low != 0 {
-        return false;
+        return before;
     }
-    item.high == 1
+    if item.high != 1 {
+        return before;
+    }
+    true
 }
 
 pub(crate) fn items_and_settings_sound(sheet: &[u8]) -> bool
