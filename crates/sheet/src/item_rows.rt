@@ -58,7 +58,11 @@ fn opened(sheet: &[u8], count: u16, cover: Cover) -> Cover
     ensures { λ r. ⌜ Opened (now (sheet .entry)) cover r ⌝ }
 {
     if cover.next < cover.end {
-        return cover;
+        return Cover {
+            next: cover.next,
+            end: cover.end,
+            area: cover.area,
+        };
     }
     walked(sheet, count, cover)
 }
