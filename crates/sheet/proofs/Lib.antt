@@ -1,5 +1,6 @@
 pub mod Tests
 pub mod Rows
+pub mod Fields
 pub mod Among
 pub mod Areas
 pub mod Within

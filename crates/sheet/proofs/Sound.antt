@@ -1,5 +1,5 @@
 -- What the rules of a sound sheet say one by one. Assumes nothing.
-use mathlib.Core.Path.{_≡_, ap₂}
+use mathlib.Core.Path.{_≡_, ap, ap₂, _∙_}
 use mathlib.Core.Bool.{Bool, true, _&&_}
 use mathlib.Core.List.{List}
 use Prim.Native.Nat.{ℕ}
@@ -139,6 +139,12 @@ module _ (sheet : List ℕ) where
         words = eqb-true (sheetWords sheet) (rowsEnd sheet) (rules .7);
         bytes = eqb-true (length sheet) (2 * sheetWords sheet) (rules .9);
       }
+
+  -- the rows that the header counts end where the sheet ends
+  pub rows-length : headerSound sheet ≡ true → length sheet ≡ 2 * rowsEnd sheet
+  rows-length e =
+      let n = header-numbers e in
+      n .bytes ∙ ap (λ (words : ℕ). 2 * words) (n .words)
 
   pub sound-numbers : sound sheet ≡ true → HeaderNumbers
   sound-numbers e = header-numbers (sound-parts e .header)

@@ -1,12 +1,12 @@
 -- What the tests of a judgement say: of a call whose answer was negated, of a chain of tests, of a bound's upper word. Assumes nothing.
 use mathlib.Core.Path.{_≡_, refl, sym, _∙_}
-use mathlib.Core.Bool.{Bool, true, false, not, _&&_, and-eq-true-iff, cond}
+use mathlib.Core.Bool.{Bool, true, false, not, _&&_, _||_, and-eq-true-iff, and-false, or-false, or-true, cond}
 use Prim.Native.Nat.{ℕ, _/_, _≤_, _<_}
 use native.Mathlib.Omega.{arith}
 use lib.Dec.{ltb, eqb}
 use borrow.Author.Tests.{eq-eqb, ne-eqb, ltb-true, ltb-false, not-true, not-false}
 use Rattle.sheet.specs.declared.Item.{Item}
-use Rattle.sheet.specs.Rules.{isPair}
+use Rattle.sheet.specs.Rules.{isPair, settingAt}
 use Rattle.sheet.specs.Cover.{sizeOf}
 
 -- a call answers what a rule says, and its answer was refused, or passed
@@ -36,6 +36,20 @@ upper-test n = go (ltb n 0x10000) refl
     go : (below : Bool) → ltb n 0x10000 ≡ below → eqb (n / 65536) 0 ≡ below
     go true e = upper-none n (ltb-true n 0x10000 e)
     go false e = upper-some n (ltb-false n 0x10000 e)
+
+-- an item at another place is not the setting's
+pub elsewhere : (place : ℕ) (item : Item) → (item .place ≡ place → ⊥) → settingAt place item ≡ false
+elsewhere place item apart = simp (ne-eqb (item .place) place apart, and-false)
+
+-- what is not found here was found before or not at all
+pub found-before : (before : Bool) {here : Bool} → here ≡ false → before ≡ (before || here)
+found-before before none = simp (none, or-false)
+
+pub found-here : (before : Bool) {here : Bool} → here ≡ true → true ≡ (before || here)
+found-here before one = simp (one, or-true)
+
+pub all-three : {first second third : Bool} → first ≡ true → second ≡ true → third ≡ true → (first && second && third) ≡ true
+all-three p q r = simp (p, q, r)
 
 -- an item has one or two places
 pub size-small : (item : Item) → sizeOf item ≤ 2

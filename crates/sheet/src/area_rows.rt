@@ -1,8 +1,10 @@
 // The rules of the area rows, in one walk over them.
 ghost use mathlib.Core.Path.{_≡_};
 ghost use mathlib.Core.Bool.{not, _&&_, _||_};
-ghost use Prim.Native.Nat.{_/_, _%_};
+ghost use Prim.Native.Nat.{_*_, _/_, _%_};
 ghost use lib.Dec.{leb, eqb};
+ghost use lib.ListN.{length};
+ghost use Rattle.sheet.specs.Rows.{rowsEnd};
 ghost use Rattle.sheet.specs.Rules.{bitOf05, readable, accessRule, firstLastRule, inArea, lengthOf, areasSound};
 use crate::Area;
 
@@ -70,6 +72,7 @@ fn area_sound(area: Area, lowest: u32, places: u32) -> bool
 }
 
 pub(crate) fn areas_sound(sheet: &[u8]) -> bool
+    requires { ⌜ length (now sheet) ≡ 2 * rowsEnd (now sheet) ⌝ }
     ensures { λ r. ⌜ r ≡ areasSound (now (sheet .entry)) ⌝ }
 {
     let count = crate::area_count(sheet);
@@ -82,7 +85,7 @@ pub(crate) fn areas_sound(sheet: &[u8]) -> bool
     let mut places: u32 = 0;
     let mut k: u16 = 0;
     while k < count {
-        let area = crate::area_at(sheet, k);
+        let area = crate::area_inside(sheet, k);
         if !area_sound(area, lowest, places) {
             return false;
         }

@@ -1,9 +1,10 @@
 // The rules of the item rows, with those of the address and the rate, in one walk over them.
 ghost use mathlib.Core.Path.{_≡_};
 ghost use mathlib.Core.Bool.{true, cond, _&&_, _||_};
-ghost use Prim.Native.Nat.{_+_, _<_};
+ghost use Prim.Native.Nat.{_+_, _*_, _<_};
 ghost use lib.Dec.{leb, eqb};
-ghost use Rattle.sheet.specs.Rows.{areaCount, areas};
+ghost use lib.ListN.{length};
+ghost use Rattle.sheet.specs.Rows.{areaCount, rowsEnd, areas};
 ghost use Rattle.sheet.specs.Rules.{writable, lengthOf, placesFollow, kindRule, boundsRule, lowHighRule, settingAt, addressItem, rateItem, itemsSound, settingsSound};
 ghost use Rattle.sheet.specs.Cover.{UnderWay, Opened, sizeOf};
 use crate::Area;
@@ -27,10 +28,11 @@ fn writable_length(area: Area) -> u32
     crate::area_rows::length_of(area)
 }
 
-// The same cover, but at an area that has places left, if there is one.
-fn opened(sheet: &[u8], count: u16, cover: Cover) -> Cover
+// The same cover, but at the next area that has places left, if there is one.
+fn walked(sheet: &[u8], count: u16, cover: Cover) -> Cover
     requires { ⌜ count ≡ areaCount (now sheet) ⌝ }
     requires { ⌜ UnderWay (now sheet) cover ⌝ }
+    requires { ⌜ length (now sheet) ≡ 2 * rowsEnd (now sheet) ⌝ }
     ensures { λ r. ⌜ Opened (now (sheet .entry)) cover r ⌝ }
 {
     let mut next = cover.next;
@@ -40,12 +42,29 @@ fn opened(sheet: &[u8], count: u16, cover: Cover) -> Cover
         if next < end {
             return Cover { next, end, area };
         }
-        let row = crate::area_at(sheet, area);
+        let row = crate::area_inside(sheet, area);
         next = row.place as u32;
         end = next + writable_length(row);
         area += 1;
     }
     Cover { next, end, area }
+}
+
+// The same cover, but at an area that has places left, if there is one. Mostly the area at hand has some: then nothing is walked over.
+fn opened(sheet: &[u8], count: u16, cover: Cover) -> Cover
+    requires { ⌜ count ≡ areaCount (now sheet) ⌝ }
+    requires { ⌜ UnderWay (now sheet) cover ⌝ }
+    requires { ⌜ length (now sheet) ≡ 2 * rowsEnd (now sheet) ⌝ }
+    ensures { λ r. ⌜ Opened (now (sheet .entry)) cover r ⌝ }
+{
+    if cover.next < cover.end {
+        return Cover {
+            next: cover.next,
+            end: cover.end,
+            area: cover.area,
+        };
+    }
+    walked(sheet, count, cover)
 }
 
 // How many places an item has: its first place, and the next one for a pair.
@@ -109,37 +128,45 @@ fn setting_at(item: Item, place: u16) -> bool
     range::in_range(item.kind, item.low, item.high, 1)
 }
 
-// Whether the address's item is found: before, or here. "the address range is within 0 to FF".
+// Whether the address's item is found: before, or here. "the address range is within 0 to FF". The place is tested first: it is the
+// one of few items.
 fn address_found(before: bool, item: Item, place: u16) -> bool
     ensures { λ r. ⌜ r ≡ (before || addressItem place item) ⌝ }
 {
-    if before {
-        return true;
+    if item.place != place {
+        return before;
     }
     if !setting_at(item, place) {
-        return false;
+        return before;
     }
-    item.high <= 0xFF
+    if item.high > 0xFF {
+        return before;
+    }
+    true
 }
 
 // Whether the rate's item is found: before, or here. "the rate's is 0 to 1".
 fn rate_found(before: bool, item: Item, place: u16) -> bool
     ensures { λ r. ⌜ r ≡ (before || rateItem place item) ⌝ }
 {
-    if before {
-        return true;
+    if item.place != place {
+        return before;
     }
     if !setting_at(item, place) {
-        return false;
+        return before;
     }
     if item.low != 0 {
-        return false;
+        return before;
     }
-    item.high == 1
+    if item.high != 1 {
+        return before;
+    }
+    true
 }
 
 pub(crate) fn items_and_settings_sound(sheet: &[u8]) -> bool
     requires { ⌜ placesFollow 0 (areas (now sheet)) ≡ true ⌝ }
+    requires { ⌜ length (now sheet) ≡ 2 * rowsEnd (now sheet) ⌝ }
     ensures { λ r. ⌜ r ≡ (itemsSound (now (sheet .entry)) && settingsSound (now (sheet .entry))) ⌝ }
 {
     let areas = crate::area_count(sheet);
@@ -158,7 +185,7 @@ pub(crate) fn items_and_settings_sound(sheet: &[u8]) -> bool
     let mut rate = false;
     let mut k: u16 = 0;
     while k < count {
-        let item = crate::item_row(sheet, areas, k);
+        let item = crate::item_inside(sheet, areas, k);
         let at = opened(sheet, areas, cover);
         if !row_sound(item) {
             return false;

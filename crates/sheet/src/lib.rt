@@ -1,7 +1,9 @@
 // The sheet: its header, its rows, its rules, and what lies at an address. Any bytes are taken as a sheet.
 ghost use mathlib.Core.Path.{_≡_};
-ghost use Prim.Native.Nat.{_+_, _*_};
-ghost use Rattle.sheet.specs.Rows.{word, areaCount, itemCount, bankWords, functions, addressPlace, ratePlace, clearAddress, areaAt, itemAt, areas};
+ghost use Prim.Native.Nat.{_+_, _*_, _≤_};
+ghost use lib.ListN.{length};
+ghost use Rattle.words.specs.Words.{wordAt};
+ghost use Rattle.sheet.specs.Rows.{areaRows, word, areaCount, itemCount, bankWords, functions, addressPlace, ratePlace, clearAddress, areaAt, itemAt, areas};
 ghost use Rattle.sheet.specs.Rules.{judgedSheet, inArea};
 ghost use Rattle.sheet.specs.Lookup.{liesIn};
 
@@ -93,17 +95,59 @@ pub fn clear_address(sheet: &[u8]) -> u16
     word(sheet, 10)
 }
 
-// The area row at an index.
-pub fn area_at(sheet: &[u8], k: u16) -> Area
+// A word whose two bytes are inside the sheet: what `words::word_at` gives, with no test.
+fn word_inside(sheet: &[u8], at: usize) -> u16
+    requires { ⌜ at + 2 ≤ length (now sheet) ⌝ }
+    ensures { λ r. ⌜ r ≡ wordAt (now (sheet .entry)) at ⌝ }
+{
+    let upper = sheet[at] as u16;
+    let lower = sheet[at + 1] as u16;
+    upper * 256 + lower
+}
+
+// The word of the sheet at which an area row begins.
+fn area_start(k: u16) -> u32
+    ensures { λ r. ⌜ r ≡ areaRows + 4 * k ⌝ }
+{
+    12 + 4 * (k as u32)
+}
+
+// The area row at an index, where all of it is inside the sheet.
+fn area_inside(sheet: &[u8], k: u16) -> Area
+    requires { ⌜ 2 * (areaRows + 4 * k) + 8 ≤ length (now sheet) ⌝ }
     ensures { λ r. ⌜ r ≡ areaAt (now (sheet .entry)) k ⌝ }
 {
-    let row = 12 + 4 * (k as u32);
+    let at = 2 * (area_start(k) as usize);
+    Area {
+        first: word_inside(sheet, at),
+        last: word_inside(sheet, at + 2),
+        place: word_inside(sheet, at + 4),
+        access: word_inside(sheet, at + 6),
+    }
+}
+
+// The area row at an index, wherever it stands.
+fn area_past(sheet: &[u8], k: u16) -> Area
+    ensures { λ r. ⌜ r ≡ areaAt (now (sheet .entry)) k ⌝ }
+{
+    let row = area_start(k);
     Area {
         first: word(sheet, row),
         last: word(sheet, row + 1),
         place: word(sheet, row + 2),
         access: word(sheet, row + 3),
     }
+}
+
+// The area row at an index. One test for the whole row: each row of a sound sheet is inside it.
+pub fn area_at(sheet: &[u8], k: u16) -> Area
+    ensures { λ r. ⌜ r ≡ areaAt (now (sheet .entry)) k ⌝ }
+{
+    let end = 2 * (area_start(k) as usize) + 8;
+    if end <= sheet.len() {
+        return area_inside(sheet, k);
+    }
+    area_past(sheet, k)
 }
 
 // "In two words": the upper one, and the lower one.
@@ -113,18 +157,52 @@ fn joined(upper: u16, lower: u16) -> u32
     (upper as u32) * 65536 + (lower as u32)
 }
 
-// The item row at an index, where the number of areas is at hand: the item rows stand behind the area rows.
-fn item_row(sheet: &[u8], areas: u16, k: u16) -> Item
+// The word of the sheet at which an item row begins: the item rows stand behind the area rows.
+fn item_start(areas: u16, k: u16) -> u32
+    ensures { λ r. ⌜ r ≡ areaRows + 4 * areas + 6 * k ⌝ }
+{
+    12 + 4 * (areas as u32) + 6 * (k as u32)
+}
+
+// The item row at an index, where all of it is inside the sheet.
+fn item_inside(sheet: &[u8], areas: u16, k: u16) -> Item
+    requires { ⌜ areas ≡ areaCount (now sheet) ⌝ }
+    requires { ⌜ 2 * (areaRows + 4 * areas + 6 * k) + 12 ≤ length (now sheet) ⌝ }
+    ensures { λ r. ⌜ r ≡ itemAt (now (sheet .entry)) k ⌝ }
+{
+    let at = 2 * (item_start(areas, k) as usize);
+    Item {
+        kind: word_inside(sheet, at),
+        place: word_inside(sheet, at + 2),
+        low: joined(word_inside(sheet, at + 4), word_inside(sheet, at + 6)),
+        high: joined(word_inside(sheet, at + 8), word_inside(sheet, at + 10)),
+    }
+}
+
+// The item row at an index, wherever it stands.
+fn item_past(sheet: &[u8], areas: u16, k: u16) -> Item
     requires { ⌜ areas ≡ areaCount (now sheet) ⌝ }
     ensures { λ r. ⌜ r ≡ itemAt (now (sheet .entry)) k ⌝ }
 {
-    let row = 12 + 4 * (areas as u32) + 6 * (k as u32);
+    let row = item_start(areas, k);
     Item {
         kind: word(sheet, row),
         place: word(sheet, row + 1),
         low: joined(word(sheet, row + 2), word(sheet, row + 3)),
         high: joined(word(sheet, row + 4), word(sheet, row + 5)),
     }
+}
+
+// The item row at an index, where the number of areas is at hand. One test for the whole row, as in `area_at`.
+fn item_row(sheet: &[u8], areas: u16, k: u16) -> Item
+    requires { ⌜ areas ≡ areaCount (now sheet) ⌝ }
+    ensures { λ r. ⌜ r ≡ itemAt (now (sheet .entry)) k ⌝ }
+{
+    let end = 2 * (item_start(areas, k) as usize) + 12;
+    if end <= sheet.len() {
+        return item_inside(sheet, areas, k);
+    }
+    item_past(sheet, areas, k)
 }
 
 // The item row at an index.

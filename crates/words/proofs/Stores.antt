@@ -24,7 +24,7 @@ pub byte-past : (bytes : List ℕ) (at byte : ℕ) → length bytes ≤ at → w
 byte-past bytes at byte past = set-out bytes at byte past
 
 -- where a word fits its two bytes are stored
-word-fits : (bytes : List ℕ) (at word : ℕ) → at + 1 < length bytes
+pub word-fits : (bytes : List ℕ) (at word : ℕ) → at + 1 < length bytes
     → withWord bytes at word ≡ set (set bytes at (upper word)) (at + 1) (lower word)
 unfolding withWord
 word-fits bytes at word inside = simp (lt-ltb (at + 1) (length bytes) inside)

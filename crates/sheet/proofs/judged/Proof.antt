@@ -3,7 +3,7 @@ use mathlib.Core.Path.{sym, ap, _∙_}
 use denote.Ref.{now}
 use Rattle.sheet.specs.Rules.{areasSound, sound, soundOrBroken}
 use Rattle.sheet.proofs.Tests.{refused, passed}
-use Rattle.sheet.proofs.Sound.{follows, rest-of}
+use Rattle.sheet.proofs.Sound.{follows, rows-length, rest-of}
 use borrow.Author.Needs.{needs}
 use Rattle.sheet.proofs.judged.Statement.{statement}
 use Rattle.sheet.proofs.judged.Tie as tie
@@ -16,7 +16,7 @@ unfolding sound
 returns c = simp (refused (c .before .header-sound .ensures) (c .if1 .taken))
 
 areas-sound-requires : tie.Need-areas-sound-requires
-areas-sound-requires c κs = search needs
+areas-sound-requires c κs = rows-length (now (c .before .before .before .args .sheet)) (passed (c .before .header-sound .ensures) (c .if1 .left))
 
 returns-2 : tie.Need-returns-2
 unfolding sound
@@ -24,8 +24,10 @@ returns-2 c = simp (passed (c .before .before .before .header-sound .ensures) (c
 
 items-and-settings-sound-requires : tie.Need-items-and-settings-sound-requires
 unfolding areasSound
-items-and-settings-sound-requires c κs = let s = now (c .before .before .before .before .before .args .sheet) in
-    follows s (passed (c .before .areas-sound .ensures) (c .if2 .left))
+items-and-settings-sound-requires c κs = let s = now (c .before .before .before .before .before .args .sheet) in (
+  follows s (passed (c .before .areas-sound .ensures) (c .if2 .left)),
+  rows-length s (passed (c .before .before .before .header-sound .ensures) (c .before .before .if1 .left)),
+)
 
 returns-3 : tie.Need-returns-3
 returns-3 c = let s = now (c .before .before .before .before .before .before .before .args .sheet) in

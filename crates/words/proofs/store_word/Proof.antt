@@ -1,67 +1,61 @@
 -- `words::store_word` meets its contract: it stores where both bytes fit, and else nothing.
 -- Assumes nothing.
+use mathlib.Core.Path.{sym}
 use native.Mathlib.Omega.{arith}
-use Prim.Native.Nat.{_+_, _≤_}
-use lib.ListN.{length}
+use lib.ListN.{length-set}
 use denote.Ref.{now}
-use borrow.Author.Tests.{le-ltb, lt-ltb}
-use Rattle.words.specs.Words.{withWord}
+use Rattle.words.proofs.Stores.{word-fits, word-past}
 use borrow.Author.Needs.{needs}
 use Rattle.words.proofs.store_word.Statement.{statement}
 use Rattle.words.proofs.store_word.Tie as tie
 
--- src/lib.rt:43:9
 returns : tie.Need-returns
-unfolding withWord
 returns c =
     let a = c .before .args in
-    let past : length (now (a .bytes)) ≤ a .at + 1 = omega arith in
-    simp (le-ltb (a .at + 1) (length (now (a .bytes))) past)
+    sym (word-past (now (a .bytes)) (a .at) (a .word) (omega arith))
 
--- src/lib.rt:45:16
-add-next : tie.Need-add-next
-add-next c = search needs
+add-end : tie.Need-add-end
+add-end c = search needs
 
--- src/lib.rt:47:9
 returns-2 : tie.Need-returns-2
-unfolding withWord
-returns-2 c = simp (le-ltb _ _ (c .if2 .taken))
+returns-2 c =
+    let a = c .before .before .args in
+    sym (word-past (now (a .bytes)) (a .at) (a .word) (omega arith))
 
--- src/lib.rt:49:17
 cast-bytes : tie.Need-cast-bytes
 cast-bytes c = search needs
 
--- src/lib.rt:49:5
 slice-write-bytes : tie.Need-slice-write-bytes
 slice-write-bytes c = search needs
 
--- src/lib.rt:50:19
 cast-bytes-2 : tie.Need-cast-bytes-2
 cast-bytes-2 c = search needs
 
--- src/lib.rt:50:5
-slice-write-bytes-2 : tie.Need-slice-write-bytes-2
-slice-write-bytes-2 c = search needs
+add-bytes : tie.Need-add-bytes
+add-bytes c = search needs
 
--- src/lib.rt:39:1
+slice-write-bytes-2 : tie.Need-slice-write-bytes-2
+slice-write-bytes-2 c = simp length-set (omega arith)
+
 same-length : tie.Need-same-length
 same-length c = search needs
 
--- src/lib.rt:39:1
 returns-3 : tie.Need-returns-3
-unfolding withWord
-returns-3 c = simp (lt-ltb _ _ (c .if2 .left))
+returns-3 c =
+    let a = c .before .before .args in
+    sym (word-fits (now (a .bytes)) (a .at) (a .word) (omega arith))
 
 pub store-word-spec : {M : Type 1} → statement M
 store-word-spec =
     tie.close
     (tie.spec
     returns
-    add-next
+    add-end
     returns-2
     cast-bytes
     slice-write-bytes
     cast-bytes-2
+    add-bytes
     slice-write-bytes-2
     same-length
     returns-3)

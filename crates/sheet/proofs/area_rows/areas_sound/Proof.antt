@@ -56,8 +56,8 @@ loop-holds c = let s = now (c .before .before .before .before .before .before .b
       ∙ passed (c .before .word-sound-without-05 .ensures) (c .if1 .left)),
 )
 
-area-at-requires : tie.Need-area-at-requires Inv-loop μ-loop
-area-at-requires c κs = search needs
+area-inside-requires : tie.Need-area-inside-requires Inv-loop μ-loop
+area-inside-requires c κs = omega (arith, c .before .loop .inv .0, c .before .before .before .before .before .before .before .before .before .pre)
 
 area-sound-requires : tie.Need-area-sound-requires Inv-loop μ-loop
 area-sound-requires c κs = search needs
@@ -65,7 +65,7 @@ area-sound-requires c κs = search needs
 returns-2 : tie.Need-returns-2 Inv-loop μ-loop
 returns-2 c = sym (walk-on (now (c .before .before .before .before .before .before .before .before .before .before .before .before .args .sheet)) (c .before .before .before .before .before .before .before .sums-05 .result) (c .before .before .before .before .before .before .before .before .before .clear-address .result)
     (bankWords (now (c .before .before .before .before .before .before .before .before .before .before .before .before .args .sheet))) (c .before .before .before .before .loop .lowest) (c .before .before .before .before .loop .places) (c .before .before .before .before .loop .k)
-    (c .before .before .area-at .result) (c .before .before .area-at .ensures) (omega arith)
+    (c .before .before .area-inside .result) (c .before .before .area-inside .ensures) (omega arith)
     ∙ simp (refused (c .before .area-sound .ensures) (c .if2 .taken)))
     ∙ c .before .before .before .before .loop .inv .3
 
@@ -75,7 +75,7 @@ clear-outside-requires c κs = search needs
 returns-3 : tie.Need-returns-3 Inv-loop μ-loop
 returns-3 c = sym (walk-on (now (c .before .before .before .before .before .before .before .before .before .before .before .before .before .before .args .sheet)) (c .before .before .before .before .before .before .before .before .before .sums-05 .result) (c .before .before .before .before .before .before .before .before .before .before .before .clear-address .result)
     (bankWords (now (c .before .before .before .before .before .before .before .before .before .before .before .before .before .before .args .sheet))) (c .before .before .before .before .before .before .loop .lowest) (c .before .before .before .before .before .before .loop .places) (c .before .before .before .before .before .before .loop .k)
-    (c .before .before .before .before .area-at .result) (c .before .before .before .before .area-at .ensures) (omega arith)
+    (c .before .before .before .before .area-inside .result) (c .before .before .before .before .area-inside .ensures) (omega arith)
     ∙ simp (passed (c .before .before .before .area-sound .ensures) (c .before .before .if2 .left), refused (c .before .clear-outside .ensures) (c .if3 .taken)))
     ∙ c .before .before .before .before .before .before .loop .inv .3
 
@@ -103,7 +103,7 @@ loop-again c = let s = now (c .before .before .before .before .before .before .b
   omega arith,
   omega (arith, c .length-of .ensures),
   sym (walk-next s (c .before .before .before .before .before .before .before .before .before .before .before .sums-05 .result) (c .before .before .before .before .before .before .before .before .before .before .before .before .before .clear-address .result) (bankWords s) (c .before .before .before .before .before .before .before .before .loop .lowest) (c .before .before .before .before .before .before .before .before .loop .places) (c .before .before .before .before .before .before .before .before .loop .k)
-      (c .before .before .before .before .before .before .area-at .result) (c .before .before .before .before .before .before .area-at .ensures) (omega arith) (passed (c .before .before .before .before .before .area-sound .ensures) (c .before .before .before .before .if2 .left))
+      (c .before .before .before .before .before .before .area-inside .result) (c .before .before .before .before .before .before .area-inside .ensures) (omega arith) (passed (c .before .before .before .before .before .area-sound .ensures) (c .before .before .before .before .if2 .left))
       (passed (c .before .before .before .clear-outside .ensures) (c .before .before .if3 .left)) (c .length-of .ensures)) ∙ c .before .before .before .before .before .before .before .before .loop .inv .3,
 )
 
@@ -132,7 +132,7 @@ areas-sound-spec =
     word-sound-without-05-requires
     returns
     loop-holds
-    area-at-requires
+    area-inside-requires
     area-sound-requires
     returns-2
     clear-outside-requires

@@ -47,22 +47,24 @@ loop-holds c = let s = now (c .before .before .before .before .before .before .a
   c .before .before .before .before .area-count .ensures,
   c .before .before .before .item-count .ensures,
   omega arith,
-  way-start s (c .before .before .before .before .before .before .pre),
+  way-start s (c .before .before .before .before .before .before .pre .0),
   asked-all s (λ same. c .if1 .left (c .before .before .address-place .ensures ∙ same ∙ sym (c .before .rate-place .ensures))),
 )
 
-item-row-requires : tie.Need-item-row-requires Inv-loop μ-loop
-item-row-requires c κs = c .before .loop .inv .0
+item-inside-requires : tie.Need-item-inside-requires Inv-loop μ-loop
+item-inside-requires c κs =
+    let inv = c .before .loop .inv in
+    (inv .0, omega (arith, inv .0, inv .1, c .before .before .before .before .before .before .before .before .pre .1))
 
 opened-requires : tie.Need-opened-requires Inv-loop μ-loop
-opened-requires c κs = (c .before .before .loop .inv .0, c .before .before .loop .inv .3)
+opened-requires c κs = (c .before .before .loop .inv .0, (c .before .before .loop .inv .3, c .before .before .before .before .before .before .before .before .before .pre .1))
 
 row-sound-requires : tie.Need-row-sound-requires Inv-loop μ-loop
 row-sound-requires c κs = search needs
 
 returns-2 : tie.Need-returns-2 Inv-loop μ-loop
 returns-2 c = sym (refused-itself (now (c .before .before .before .before .before .before .before .before .before .before .before .before .args .sheet)) (c .before .before .before .before .before .loop .k) (c .before .before .before .before .before .loop .cover) (c .before .before .opened .result) (c .before .before .opened .ensures) (c .before .before .before .before .before .loop .address) (c .before .before .before .before .before .loop .rate)
-    (c .before .before .before .item-row .result) (c .before .before .before .item-row .ensures) (omega arith) (refused (c .before .row-sound .ensures) (c .if2 .taken)))
+    (c .before .before .before .item-inside .result) (c .before .before .before .item-inside .ensures) (omega arith) (refused (c .before .row-sound .ensures) (c .if2 .taken)))
     ∙ c .before .before .before .before .before .loop .inv .4
 
 covers-requires : tie.Need-covers-requires Inv-loop μ-loop
@@ -70,7 +72,7 @@ covers-requires c κs = omega (arith, c .before .before .opened .ensures .underW
 
 returns-3 : tie.Need-returns-3 Inv-loop μ-loop
 returns-3 c = sym (refused-place (now (c .before .before .before .before .before .before .before .before .before .before .before .before .before .before .args .sheet)) (c .before .before .before .before .before .before .before .loop .k) (c .before .before .before .before .before .before .before .loop .cover) (c .before .before .before .before .opened .result) (c .before .before .before .before .opened .ensures) (c .before .before .before .before .before .before .before .loop .address) (c .before .before .before .before .before .before .before .loop .rate)
-    (c .before .before .before .before .before .item-row .result) (c .before .before .before .before .before .item-row .ensures) (omega arith) (passed (c .before .before .before .row-sound .ensures) (c .before .before .if2 .left))
+    (c .before .before .before .before .before .item-inside .result) (c .before .before .before .before .before .item-inside .ensures) (omega arith) (passed (c .before .before .before .row-sound .ensures) (c .before .before .if2 .left))
     (refused (c .before .covers .ensures) (c .if3 .taken)))
     ∙ c .before .before .before .before .before .before .before .loop .inv .4
 
@@ -83,7 +85,7 @@ add-t17 c = omega (
   c .before .before .before .before .before .before .opened .ensures .underWay .ordered,
   c .before .before .before .before .before .before .opened .ensures .underWay .small,
   c .before .size-of .ensures,
-  size-small (c .before .before .before .before .before .before .before .item-row .result),
+  size-small (c .before .before .before .before .before .before .before .item-inside .result),
 )
 
 address-found-requires : tie.Need-address-found-requires Inv-loop μ-loop
@@ -101,7 +103,7 @@ loop-less c = search needs
 loop-again : tie.Need-loop-again Inv-loop μ-loop
 loop-again c = let s = now (c .before .before .before .before .before .before .before .before .before .before .before .before .before .before .before .before .before .before .args .sheet) in
     let l = c .before .before .before .before .before .before .before .before .before .before .before .loop in
-    let item = c .before .before .before .before .before .before .before .before .before .item-row .result in
+    let item = c .before .before .before .before .before .before .before .before .before .item-inside .result in
     let at = c .before .before .before .before .before .before .before .before .opened in
     let here = passed (c .before .before .before .before .before .covers .ensures) (c .before .before .before .before .if3 .left) in
     let size = c .before .before .before .size-of .ensures in (
@@ -116,7 +118,7 @@ loop-again c = let s = now (c .before .before .before .before .before .before .b
                 (second-of (eqb (item .place) (at .result .next)) (leb (at .result .next + sizeOf item) (at .result .end)) here),
           )),
       sym (passed-on (now (c .before .before .before .before .before .before .before .before .before .before .before .before .before .before .before .before .before .before .args .sheet)) (c .before .before .before .before .before .before .before .before .before .before .before .loop .k) (c .before .before .before .before .before .before .before .before .before .before .before .loop .cover) (c .before .before .before .before .before .before .before .before .opened .result) (c .before .before .before .before .before .before .before .before .opened .ensures) (c .before .before .before .before .before .before .before .before .before .before .before .loop .address) (c .before .before .before .before .before .before .before .before .before .before .before .loop .rate)
-          (c .before .before .before .before .before .before .before .before .before .item-row .result) (c .before .before .before .before .before .before .before .before .before .item-row .ensures) (omega arith) (passed (c .before .before .before .before .before .before .before .row-sound .ensures) (c .before .before .before .before .before .before .if2 .left)) here
+          (c .before .before .before .before .before .before .before .before .before .item-inside .result) (c .before .before .before .before .before .before .before .before .before .item-inside .ensures) (omega arith) (passed (c .before .before .before .before .before .before .before .row-sound .ensures) (c .before .before .before .before .before .before .if2 .left)) here
           size
           (c .before .address-found .ensures ∙ ap (λ (n : ℕ). l .address || addressItem n item) (c .before .before .before .before .before .before .before .before .before .before .before .before .before .before .address-place .ensures))
           (c .rate-found .ensures ∙ ap (λ (n : ℕ). l .rate || rateItem n item) (c .before .before .before .before .before .before .before .before .before .before .before .before .before .rate-place .ensures)))
@@ -124,7 +126,7 @@ loop-again c = let s = now (c .before .before .before .before .before .before .b
     )
 
 opened-requires-2 : tie.Need-opened-requires-2 Inv-loop μ-loop
-opened-requires-2 c κs = (c .before .loop .inv .0, c .before .loop .inv .3)
+opened-requires-2 c κs = (c .before .loop .inv .0, (c .before .loop .inv .3, c .before .before .before .before .before .before .before .before .pre .1))
 
 returns-4 : tie.Need-returns-4 Inv-loop μ-loop
 returns-4 c = sym (refused-left (now (c .before .before .before .before .before .before .before .before .before .before .before .args .sheet)) (c .before .before .before .before .loop .k) (c .before .before .before .before .loop .cover) (c .before .before .opened2 .result) (c .before .before .opened2 .ensures) (c .before .before .before .before .loop .address) (c .before .before .before .before .loop .rate)
@@ -152,7 +154,7 @@ items-and-settings-sound-spec =
     rate-place-requires
     returns
     loop-holds
-    item-row-requires
+    item-inside-requires
     opened-requires
     row-sound-requires
     returns-2

@@ -1,4 +1,4 @@
--- `sheet::item_rows::opened` meets its contract. The invariant: the cover is under way, and the same places are left. Assumes nothing.
+-- `sheet::item_rows::walked` meets its contract. The invariant: the cover is under way, and the same places are left. Assumes nothing.
 use mathlib.Core.Path.{_≡_, refl, _∙_}
 use Prim.Native.Nat.{_-_}
 use native.Mathlib.Omega.{arith}
@@ -7,8 +7,8 @@ use borrow.Author.Needs.{needs}
 use Rattle.sheet.specs.Rows.{areaCount}
 use Rattle.sheet.specs.Cover.{placesLeft, UnderWay}
 use Rattle.sheet.proofs.Covering.{cover, left-open, way-open, wide-small}
-use Rattle.sheet.proofs.item_rows.opened.Statement.{statement}
-use Rattle.sheet.proofs.item_rows.opened.Tie as tie
+use Rattle.sheet.proofs.item_rows.walked.Statement.{statement}
+use Rattle.sheet.proofs.item_rows.walked.Tie as tie
 
 abbrev Inv-loop : tie.InvT-loop
 Inv-loop sheet count next₀ end₀ area₀ next end area =
@@ -19,7 +19,7 @@ abbrev μ-loop : tie.MeasureT-loop
 μ-loop sheet count next₀ end₀ area₀ next end area = count - area
 
 loop-holds : tie.Need-loop-holds Inv-loop μ-loop
-loop-holds c = (c .before .pre .0, c .before .pre .1, refl)
+loop-holds c = (c .before .pre .0, c .before .pre .1 .0, refl)
 
 returns : tie.Need-returns Inv-loop μ-loop
 returns c = record {
@@ -28,8 +28,8 @@ returns c = record {
   last = λ done. absurd (omega arith);
 }
 
-area-at-requires : tie.Need-area-at-requires Inv-loop μ-loop
-area-at-requires c κs = search needs
+area-inside-requires : tie.Need-area-inside-requires Inv-loop μ-loop
+area-inside-requires c κs = search needs
 
 cast-next : tie.Need-cast-next Inv-loop μ-loop
 cast-next c = search needs
@@ -38,7 +38,7 @@ writable-length-requires : tie.Need-writable-length-requires Inv-loop μ-loop
 writable-length-requires c κs = search needs
 
 add-end : tie.Need-add-end Inv-loop μ-loop
-add-end c = omega (arith, c .writable-length .ensures, wide-small (c .before .before .area-at .result))
+add-end c = omega (arith, c .writable-length .ensures, wide-small (c .before .before .area-inside .result))
 
 add-area : tie.Need-add-area Inv-loop μ-loop
 add-area c = omega (arith, c .before .before .before .before .before .loop .inv .1 .within)
@@ -49,7 +49,7 @@ loop-less c = omega (arith, c .before .before .before .before .before .loop .inv
 loop-again : tie.Need-loop-again Inv-loop μ-loop
 loop-again c = let s = now (c .before .before .before .before .before .before .before .args .sheet) in
     let l = c .before .before .before .before .before .loop in
-    let area = c .before .before .area-at in (
+    let area = c .before .before .area-inside in (
       l .inv .0,
       way-open s (l .area) (area .result) (c .writable-length .result) (area .ensures) (omega arith) (c .writable-length .ensures)
           (l .inv .1 .follow) (search needs) (search needs),
@@ -60,15 +60,15 @@ loop-again c = let s = now (c .before .before .before .before .before .before .b
 returns-2 : tie.Need-returns-2 Inv-loop μ-loop
 returns-2 c = record { underWay = c .before .loop .inv .1; left = c .before .loop .inv .2; last = λ done. omega arith }
 
-pub opened-spec : {M : Type 1} → statement M
-opened-spec =
+pub walked-spec : {M : Type 1} → statement M
+walked-spec =
     tie.close
     (tie.spec
     Inv-loop
     μ-loop
     loop-holds
     returns
-    area-at-requires
+    area-inside-requires
     cast-next
     writable-length-requires
     add-end
