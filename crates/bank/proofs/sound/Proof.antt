@@ -10,12 +10,11 @@ use lib.Dec.{leb}
 use Rattle.words.specs.Words.{wordAt}
 use Rattle.sheet.specs.Rows.{itemCount, itemAt, rows, items}
 use Rattle.sheet.specs.Rules.{each}
-use Rattle.sheet.proofs.Sound.{sound-numbers}
 use Rattle.sheet.proofs.Rows.{rows-on, rows-end, rows-all, items-rows}
 use Rattle.bank.specs.Stores.{wordOf}
 use Rattle.bank.specs.Bank.{goodBy, bankSound}
 use Rattle.bank.proofs.Good.{good-told}
-use Rattle.bank.proofs.Walks.{each-goes-on, each-stops, each-ends}
+use Rattle.bank.proofs.Walks.{row-inside, each-goes-on, each-stops, each-ends}
 use Rattle.bank.proofs.sound.Statement.{statement}
 use Rattle.bank.proofs.sound.Tie as tie
 
@@ -44,8 +43,7 @@ loop-holds c =
 item-inside-requires : tie.Need-item-inside-requires Inv-loop μ-loop
 item-inside-requires c κs =
     let d = c .before .before .before .before .before .before in
-    let numbers = sound-numbers (now (d .args .sheet)) (d .pre) in
-    (c .before .before .before .area-count .ensures, omega (arith, numbers .words, numbers .bytes, c .before .loop .inv .0, c .loop-test .taken))
+    (c .before .before .before .area-count .ensures, row-inside (now (d .args .sheet)) (d .pre) (c .before .loop .k) (omega arith))
 
 value-in-requires : tie.Need-value-in-requires Inv-loop μ-loop
 value-in-requires c κs = search needs
