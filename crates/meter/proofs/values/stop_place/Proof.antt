@@ -2,11 +2,11 @@
 -- Assumes nothing.
 use borrow.Author.Needs.{needs}
 use native.Mathlib.Omega.{arith}
-use Prim.Native.Nat.{_+_, _-_, _≤_}
+use Prim.Native.Nat.{_-_, _≤_}
 use mathlib.Core.Path.{_≡_, sym, ap, _∙_}
 use denote.Ref.{now}
 use Rattle.sheet.specs.declared.Item.{Item}
-use Rattle.sheet.specs.Rows.{itemCount, itemAt, items}
+use Rattle.sheet.specs.Rows.{itemCount, items}
 use Rattle.meter.specs.Write.{stopIn}
 use Rattle.meter.proofs.Stopping.{itemsFrom, stop-skips, stop-past, stop-goes-on, stop-here, stop-none}
 use Rattle.meter.proofs.values.stop_place.Statement.{statement}
