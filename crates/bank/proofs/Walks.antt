@@ -4,9 +4,18 @@ use mathlib.Core.Bool.{Bool, true, false, _&&_}
 use mathlib.Core.List.{List, [], _∷_, map}
 use Prim.Native.Nat.{ℕ, suc, _+_, _*_, _-_, _≤_, _<_}
 use native.Mathlib.Omega.{arith}
+use lib.ListN.{length}
 use Rattle.words.specs.Words.{withWord}
-use Rattle.sheet.specs.Rules.{each, upFrom}
+use Rattle.sheet.specs.Rows.{itemRows, itemCount}
+use Rattle.sheet.specs.Rules.{each, upFrom, sound}
+use Rattle.sheet.proofs.Sound.{sound-numbers}
 use Rattle.bank.specs.Stores.{Store, stored}
+
+-- each item row of a sound sheet is inside it
+pub row-inside : (sheet : List ℕ) → sound sheet ≡ true → (k : ℕ) → k < itemCount sheet → 2 * (itemRows sheet + 6 * k) + 12 ≤ length sheet
+row-inside sheet keeps k less =
+    let numbers = sound-numbers sheet keeps in
+    omega (arith, numbers .words, numbers .bytes, less)
 
 -- the numbers that are left: the next one, and those behind it
 pub up-on : (first k count : ℕ) → k < count → upFrom first (count - k) ≡ first ∷ upFrom (first + 1) (count - (k + 1))

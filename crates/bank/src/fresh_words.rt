@@ -1,10 +1,12 @@
 // The stores of a fresh bank.
 ghost use mathlib.Core.Path.{_≡_};
+ghost use mathlib.Core.Bool.{true};
 ghost use mathlib.Core.List.{map};
-ghost use Rattle.sheet.specs.Rules.{upFrom};
+ghost use Rattle.sheet.specs.Rules.{upFrom, sound};
 ghost use Rattle.sheet.specs.Rows.{items};
 ghost use Rattle.bank.specs.Stores.{stored};
 ghost use Rattle.bank.specs.Bank.{zeroAt, itemStores, lowStores, freshStores};
+use crate::rows;
 use sheet::Item;
 
 // Stores 0 at the first so many places.
@@ -33,12 +35,14 @@ fn store_item(bank: &mut [u8], item: Item, value: u32)
 
 // Stores each item's low bound.
 fn store_lows(sheet: &[u8], bank: &mut [u8])
+    requires { ⌜ sound (now sheet) ≡ true ⌝ }
     ensures { λ _. ⌜ now (bank .exit) ≡ stored (now (bank .entry)) (lowStores (items (now (sheet .entry)))) ⌝ }
 {
+    let areas = sheet::area_count(sheet);
     let count = sheet::item_count(sheet);
     let mut k = 0;
     while k < count {
-        let item = sheet::item_at(sheet, k);
+        let item = rows::item_inside(sheet, areas, k);
         store_item(bank, item, item.low);
         k += 1;
     }
@@ -46,6 +50,7 @@ fn store_lows(sheet: &[u8], bank: &mut [u8])
 
 // Stores all that a fresh bank has: every word 0, then each item's low bound, then address 1 and rate 1.
 pub(crate) fn store_fresh(sheet: &[u8], bank: &mut [u8])
+    requires { ⌜ sound (now sheet) ≡ true ⌝ }
     ensures { λ _. ⌜ now (bank .exit) ≡ stored (now (bank .entry)) (freshStores (now (sheet .entry))) ⌝ }
 {
     zero_words(bank, sheet::bank_words(sheet) as u32 + 1);

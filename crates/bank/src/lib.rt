@@ -1,5 +1,7 @@
 // The bank: the lent bytes that hold a meter's settings and readings, and the calls by which the firmware itself changes them.
 ghost use mathlib.Core.Path.{_≡_};
+ghost use mathlib.Core.Bool.{true};
+ghost use Rattle.sheet.specs.Rules.{sound};
 ghost use Rattle.bank.specs.Stores.{wordOf};
 ghost use Rattle.bank.specs.Bank.{valueBy, fits, bankSound};
 ghost use Rattle.bank.specs.Calls.{checkAnswer, freshOutcome, postOutcome, markOutcome, outcome};
@@ -8,6 +10,7 @@ use sheet::SheetJudged;
 
 mod fresh_words;
 mod post_words;
+mod rows;
 
 // What a call on a bank answers.
 pub enum Answer {
@@ -33,12 +36,14 @@ pub fn value_in(bank: &[u8], item: Item) -> u32
 
 // Whether a bank is sound: each item in its range, and the mark 0 or 1.
 fn sound(sheet: &[u8], bank: &[u8]) -> bool
+    requires { ⌜ sound (now sheet) ≡ true ⌝ }
     ensures { λ r. ⌜ r ≡ bankSound (now (sheet .entry)) (now (bank .entry)) ⌝ }
 {
+    let areas = sheet::area_count(sheet);
     let count = sheet::item_count(sheet);
     let mut k = 0;
     while k < count {
-        let item = sheet::item_at(sheet, k);
+        let item = rows::item_inside(sheet, areas, k);
         if !range::in_range(item.kind, item.low, item.high, value_in(bank, item)) {
             return false;
         }

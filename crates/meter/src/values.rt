@@ -1,9 +1,10 @@
 // The values that a write sends, the item that it stops at, and its stores.
 ghost use mathlib.Core.Path.{_≡_};
+ghost use mathlib.Core.Bool.{true};
 ghost use mathlib.Core.List.{map};
-ghost use Prim.Native.Nat.{_+_, _<_};
-ghost use Rattle.sheet.specs.Rows.{items};
-ghost use Rattle.sheet.specs.Rules.{upFrom};
+ghost use Prim.Native.Nat.{ℕ, _+_, _≤_, _<_};
+ghost use Rattle.sheet.specs.Rows.{areaCount, itemCount, itemAt, items};
+ghost use Rattle.sheet.specs.Rules.{upFrom, sound};
 ghost use Rattle.bank.specs.Stores.{stored};
 ghost use Rattle.bank.specs.Bank.{valueBy};
 ghost use Rattle.meter.specs.Frame.{valuesAt};
@@ -92,22 +93,57 @@ fn is_bad(bank: &[u8], frame: &[u8], write: Write, item: Item) -> bool
     )
 }
 
-// The first place of the first bad item, or the end of the run where no item is bad.
+// The place of the item row at an index, read alone, for a search needs no more of the row.
+fn place_at(sheet: &[u8], areas: u16, k: u16) -> u16
+    requires { ⌜ areas ≡ areaCount (now sheet) ⌝ }
+    ensures { λ r. ⌜ r ≡ itemAt (now (sheet .entry)) k .place ⌝ }
+{
+    words::word_at(
+        sheet,
+        2 * (12 + 4 * (areas as usize) + 6 * (k as usize) + 1),
+    )
+}
+
+// An index with every item in front of it wholly in front of a place: items ascend, so halving finds the last such index.
+fn first_near(sheet: &[u8], place: u32) -> u16
+    requires { ⌜ sound (now sheet) ≡ true ⌝ }
+    ensures { λ r. ⌜ (r ≤ itemCount (now (sheet .entry))) × ((k : ℕ) → k < r → itemAt (now (sheet .entry)) k .place + 1 < place) ⌝ }
+{
+    let areas = sheet::area_count(sheet);
+    let mut near: u16 = 0;
+    let mut past = sheet::item_count(sheet);
+    while near < past {
+        let middle = near + (past - near) / 2;
+        if place_at(sheet, areas, middle) as u32 + 1 < place {
+            near = middle + 1;
+        } else {
+            past = middle;
+        }
+    }
+    near
+}
+
+// The first place of the first bad item, or the end of the run where no item is bad. Items ascend, so none outside the run is looked at.
 pub(crate) fn stop_place(sheet: &[u8], bank: &[u8], frame: &[u8], write: Write) -> u32
+    requires { ⌜ sound (now sheet) ≡ true ⌝ }
     requires { ⌜ write .values ≡ valuesAt (now frame) ⌝ }
     requires { ⌜ write .first + write .many < 0x100000000 ⌝ }
     ensures { λ r. ⌜ r ≡ stopIn (write .first) (write .many) (now (bank .entry)) (now (frame .entry)) (items (now (sheet .entry))) ⌝ }
 {
     let count = sheet::item_count(sheet);
-    let mut k = 0;
+    let end = write.first + write.many;
+    let mut k = first_near(sheet, write.first);
     while k < count {
         let item = sheet::item_at(sheet, k);
+        if end <= item.place as u32 {
+            return end;
+        }
         if is_bad(bank, frame, write, item) {
             return item.place as u32;
         }
         k += 1;
     }
-    write.first + write.many
+    end
 }
 
 // Stores so many of the words sent, from a first place on.

@@ -1,6 +1,7 @@
 // The judgement of a value between its bounds, one for the three kinds of item.
 ghost use mathlib.Core.Path.{_≡_};
-ghost use Rattle.range.specs.Range.{numberOf, notAbove, inRange};
+ghost use lib.IntN.{pos, _+ℤ_};
+ghost use Rattle.range.specs.Range.{signedWord, numberOf, notAbove, inRange};
 
 // The number that a value of a kind stands for.
 pub fn number(kind: u16, value: u32) -> i64
@@ -15,11 +16,24 @@ pub fn number(kind: u16, value: u32) -> i64
     value as i64 - 0x10000
 }
 
-// Whether one value of a kind is not above another, as the numbers that they stand for.
+// The key of a signed word, the number that it stands for and 10000 more: keys have no sign, and stand in the order of the numbers.
+fn key(value: u32) -> u32
+    ensures { λ r. ⌜ pos r ≡ numberOf signedWord value +ℤ pos 0x10000 ⌝ }
+{
+    if 0x8000 <= value {
+        return value;
+    }
+    value + 0x10000
+}
+
+// Whether one value of a kind is not above another, as the numbers that they stand for. Only signed words need keys.
 pub fn not_above(kind: u16, a: u32, b: u32) -> bool
     ensures { λ r. ⌜ r ≡ notAbove kind a b ⌝ }
 {
-    number(kind, a) <= number(kind, b)
+    if kind == 1 {
+        return key(a) <= key(b);
+    }
+    a <= b
 }
 
 // Whether a value of a kind lies between its bounds.

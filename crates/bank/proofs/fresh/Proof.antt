@@ -55,7 +55,10 @@ returns-2 c =
 
 -- src/lib.rt:83:5
 store-fresh-requires : tie.Need-store-fresh-requires
-store-fresh-requires c κs = search needs
+store-fresh-requires c κs =
+    let check = c .before .before .before .before .before .before .judged in
+    sheet-sound (now (c .before .before .before .before .before .before .before .before .before .args .sheet)) (check .result) (check .ensures)
+    (c .before .before .before .before .enum-told .given .1)
 
 -- src/lib.rt:74:1
 same-length-2 : tie.Need-same-length-2

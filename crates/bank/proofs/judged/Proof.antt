@@ -40,7 +40,9 @@ returns-2 c =
 
 -- src/lib.rt:67:9
 sound-requires : tie.Need-sound-requires
-sound-requires c κs = search needs
+sound-requires c κs =
+    sheet-sound (now (c .before .before .before .before .before .before .before .args .sheet))
+    (c .before .before .before .before .judged .result) (c .before .before .before .before .judged .ensures) (c .before .before .enum-told .given .1)
 
 -- src/lib.rt:68:9
 returns-3 : tie.Need-returns-3

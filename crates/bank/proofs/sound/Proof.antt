@@ -1,4 +1,3 @@
-use Rattle.bank.proofs.Good.{good-told}
 -- `bank::sound` meets its contract. The loop's invariant: the items that are left are good exactly if all are.
 -- Assumes nothing.
 use borrow.Author.Needs.{needs}
@@ -14,103 +13,95 @@ use Rattle.sheet.specs.Rules.{each}
 use Rattle.sheet.proofs.Rows.{rows-on, rows-end, rows-all, items-rows}
 use Rattle.bank.specs.Stores.{wordOf}
 use Rattle.bank.specs.Bank.{goodBy, bankSound}
-use Rattle.bank.proofs.Walks.{each-goes-on, each-stops, each-ends}
+use Rattle.bank.proofs.Good.{good-told}
+use Rattle.bank.proofs.Walks.{row-inside, each-goes-on, each-stops, each-ends}
 use Rattle.bank.proofs.sound.Statement.{statement}
 use Rattle.bank.proofs.sound.Tie as tie
 
 abbrev Inv-loop : tie.InvT-loop
-Inv-loop sheet bank count k₀ k =
+Inv-loop sheet bank areas count k₀ k =
     (count ≡ itemCount sheet) × (k ≤ count)
     × (each (goodBy (wordOf bank)) (rows (itemAt sheet) k (itemCount sheet - k)) ≡ each (goodBy (wordOf bank)) (items sheet))
 
 abbrev μ-loop : tie.MeasureT-loop
-μ-loop sheet bank count k₀ k = count - k
+μ-loop sheet bank areas count k₀ k = count - k
 
--- src/lib.rt:39:9
+area-count-requires : tie.Need-area-count-requires Inv-loop μ-loop
+area-count-requires c κs = search needs
+
 item-count-requires : tie.Need-item-count-requires Inv-loop μ-loop
 item-count-requires c κs = search needs
 
--- src/lib.rt:41:5
 loop-holds : tie.Need-loop-holds Inv-loop μ-loop
 loop-holds c =
-    let a = c .before .before .before .args in (
+    let a = c .before .before .before .before .args in (
       c .item-count .ensures,
       omega arith,
       ap (each (goodBy (wordOf (now (a .bank))))) (rows-all (itemAt (now (a .sheet))) (itemCount (now (a .sheet))) ∙ items-rows (now (a .sheet))),
     )
 
--- src/lib.rt:42:13
-item-at-requires : tie.Need-item-at-requires Inv-loop μ-loop
-item-at-requires c κs = search needs
+item-inside-requires : tie.Need-item-inside-requires Inv-loop μ-loop
+item-inside-requires c κs =
+    let d = c .before .before .before .before .before .before in
+    (c .before .before .before .area-count .ensures, row-inside (now (d .args .sheet)) (d .pre) (c .before .loop .k) (omega arith))
 
--- src/lib.rt:43:61
 value-in-requires : tie.Need-value-in-requires Inv-loop μ-loop
 value-in-requires c κs = search needs
 
--- src/lib.rt:43:13
 in-range-requires : tie.Need-in-range-requires Inv-loop μ-loop
 in-range-requires c κs = search needs
 
--- src/lib.rt:44:13
 returns : tie.Need-returns Inv-loop μ-loop
 unfolding bankSound
 returns c =
-    let a = c .before .before .before .before .before .before .before .before .before .args in
+    let a = c .before .before .before .before .before .before .before .before .before .before .args in
     let loop = c .before .before .before .before .before .loop in
     let count = itemCount (now (a .sheet)) in
     let inside : loop .k < count = omega arith in
     let good = goodBy (wordOf (now (a .bank))) in
     let row = itemAt (now (a .sheet)) in
-    let fails = good-told (wordOf (now (a .bank))) (c .before .before .before .item-at .ensures) (c .before .before .value-in .ensures) (c .before .in-range .ensures) in
+    let fails = good-told (wordOf (now (a .bank))) (c .before .before .before .item-inside .ensures) (c .before .before .value-in .ensures) (c .before .in-range .ensures) in
     let none = each-stops good (rows row (loop .k) (count - loop .k)) (rows row (loop .k + 1) (count - (loop .k + 1))) (row (loop .k))
     (rows-on row (loop .k) count inside) (each good (items (now (a .sheet)))) (loop .inv .2) (fails ∙ not-true (c .before .in-range .result) (c .if1 .taken)) in
     simp none
 
--- src/lib.rt:46:9
 add-k : tie.Need-add-k Inv-loop μ-loop
 add-k c = omega arith
 
--- src/lib.rt:41:5
 loop-less : tie.Need-loop-less Inv-loop μ-loop
 loop-less c = omega arith
 
--- src/lib.rt:41:5
 loop-again : tie.Need-loop-again Inv-loop μ-loop
 loop-again c =
-    let a = c .before .before .before .before .before .before .before .before .before .args in
+    let a = c .before .before .before .before .before .before .before .before .before .before .args in
     let loop = c .before .before .before .before .before .loop in
     let count = itemCount (now (a .sheet)) in
     let inside : loop .k < count = omega arith in
     let good = goodBy (wordOf (now (a .bank))) in
     let row = itemAt (now (a .sheet)) in
-    let holds = good-told (wordOf (now (a .bank))) (c .before .before .before .item-at .ensures) (c .before .before .value-in .ensures) (c .before .in-range .ensures) in (
+    let holds = good-told (wordOf (now (a .bank))) (c .before .before .before .item-inside .ensures) (c .before .before .value-in .ensures) (c .before .in-range .ensures) in (
       loop .inv .0,
       omega arith,
       each-goes-on good (rows row (loop .k) (count - loop .k)) (rows row (loop .k + 1) (count - (loop .k + 1))) (row (loop .k))
           (rows-on row (loop .k) count inside) (each good (items (now (a .sheet)))) (loop .inv .2) (holds ∙ not-false (c .before .in-range .result) (c .if1 .left)),
     )
 
--- src/lib.rt:48:31
 bank-words-requires : tie.Need-bank-words-requires Inv-loop μ-loop
 bank-words-requires c κs = search needs
 
--- src/lib.rt:48:31
 cast-word-at : tie.Need-cast-word-at Inv-loop μ-loop
 cast-word-at c = omega arith
 
--- src/lib.rt:48:26
 mul-word-at : tie.Need-mul-word-at Inv-loop μ-loop
 mul-word-at c = omega arith
 
--- src/lib.rt:48:5
 word-at-requires : tie.Need-word-at-requires Inv-loop μ-loop
 word-at-requires c κs = search needs
 
--- src/lib.rt:36:1
 returns-2 : tie.Need-returns-2 Inv-loop μ-loop
 unfolding bankSound
 returns-2 c =
-    let a = c .before .before .before .before .before .before .before .args in
+    let a = c .before .before .before .before .before .before .before .before .args in
     let loop = c .before .before .before .loop in
     let past : itemCount (now (a .sheet)) ≤ loop .k = omega arith in
     let all = each-ends (goodBy (wordOf (now (a .bank)))) (rows (itemAt (now (a .sheet))) (loop .k) (itemCount (now (a .sheet)) - loop .k))
@@ -123,9 +114,10 @@ sound-spec =
     (tie.spec
     Inv-loop
     μ-loop
+    area-count-requires
     item-count-requires
     loop-holds
-    item-at-requires
+    item-inside-requires
     value-in-requires
     in-range-requires
     returns

@@ -62,8 +62,9 @@ cast-t13 c = search needs
 stop-place-requires : tie.Need-stop-place-requires
 stop-place-requires c κs =
     let a = c .before .before .before .before .before .before .before .before .args in
-    let small = place-small (now (a .sheet)) (c .before .before .before .before .before .before .before .before .pre .0 .sheetSound) (a .parts .start) in
-    (c .before .values-at .ensures, omega (arith, small, c .place-of .ensures, c .before .before .before .before .many-of .ok))
+    let keeps = c .before .before .before .before .before .before .before .before .pre .0 .sheetSound in
+    let small = place-small (now (a .sheet)) keeps (a .parts .start) in
+    (keeps, (c .before .values-at .ensures, omega (arith, small, c .place-of .ensures, c .before .before .before .before .many-of .ok)))
 
 -- src/stages.rt:160:15
 add-if2 : tie.Need-add-if2

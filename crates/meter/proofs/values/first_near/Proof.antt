@@ -1,0 +1,92 @@
+-- `meter::values::first_near` meets its contract. The loop's invariant: every item in front of `near` stands wholly in front of the place.
+-- Assumes nothing.
+use Prim.Native.Nat.{ℕ, _+_, _-_, _/_, _≤_, _<_}
+use native.Mathlib.Omega.{arith}
+use denote.Ref.{now}
+use borrow.Author.Needs.{needs}
+use Rattle.sheet.specs.Rows.{itemCount, itemAt}
+use Rattle.meter.proofs.Stopping.{all-in-front}
+use Rattle.meter.proofs.values.first_near.Statement.{statement}
+use Rattle.meter.proofs.values.first_near.Tie as tie
+
+abbrev Inv-loop : tie.InvT-loop
+Inv-loop sheet place areas near₀ past₀ near past =
+    (near ≤ past) × (past ≤ itemCount sheet) × ((k : ℕ) → k < near → itemAt sheet k .place + 1 < place)
+
+abbrev μ-loop : tie.MeasureT-loop
+μ-loop sheet place areas near₀ past₀ near past = past - near
+
+area-count-requires : tie.Need-area-count-requires Inv-loop μ-loop
+area-count-requires c κs = search needs
+
+item-count-requires : tie.Need-item-count-requires Inv-loop μ-loop
+item-count-requires c κs = search needs
+
+loop-holds : tie.Need-loop-holds Inv-loop μ-loop
+loop-holds c = (omega arith, omega (arith, c .item-count .ensures), λ k none. absurd (omega arith))
+
+sub-middle : tie.Need-sub-middle Inv-loop μ-loop
+sub-middle c = omega arith
+
+add-middle : tie.Need-add-middle Inv-loop μ-loop
+add-middle c = omega arith
+
+place-at-requires : tie.Need-place-at-requires Inv-loop μ-loop
+place-at-requires c κs = c .before .before .before .area-count .ensures
+
+cast-if1 : tie.Need-cast-if1 Inv-loop μ-loop
+cast-if1 c = omega arith
+
+add-if1 : tie.Need-add-if1 Inv-loop μ-loop
+add-if1 c = omega arith
+
+add-near : tie.Need-add-near Inv-loop μ-loop
+add-near c = omega arith
+
+loop-less : tie.Need-loop-less Inv-loop μ-loop
+loop-less c = omega arith
+
+loop-again : tie.Need-loop-again Inv-loop μ-loop
+loop-again c =
+    let d = c .before .before .before .before .before .before .before in
+    let loop = c .before .before .before .loop in
+    let middle = loop .near + (loop .past - loop .near) / 2 in (
+      omega arith,
+      loop .inv .1,
+      all-in-front (now (d .args .sheet)) (d .pre) (d .args .place) middle (omega (arith, loop .inv .1))
+          (omega (arith, c .if1 .taken, c .before .place-at .ensures)),
+    )
+
+loop-less-2 : tie.Need-loop-less-2 Inv-loop μ-loop
+loop-less-2 c = omega arith
+
+loop-again-2 : tie.Need-loop-again-2 Inv-loop μ-loop
+loop-again-2 c =
+    let loop = c .before .before .before .loop in
+    (omega arith, omega (arith, loop .inv .1), loop .inv .2)
+
+returns : tie.Need-returns Inv-loop μ-loop
+returns c =
+    let loop = c .before .loop in
+    (omega (arith, loop .inv .0, loop .inv .1), loop .inv .2)
+
+pub first-near-spec : {M : Type 1} → statement M
+first-near-spec =
+    tie.close
+    (tie.spec
+    Inv-loop
+    μ-loop
+    area-count-requires
+    item-count-requires
+    loop-holds
+    sub-middle
+    add-middle
+    place-at-requires
+    cast-if1
+    add-if1
+    add-near
+    loop-less
+    loop-again
+    loop-less-2
+    loop-again-2
+    returns)
