@@ -13,7 +13,7 @@ use Rattle.sheet.proofs.Among.{Among, there, among-same}
 use Rattle.bank.specs.declared.Answer.{Answer}
 use Rattle.bank.specs.declared.Answer.the-variants.{Done, SheetBreaksRule, BankMisfits, BankNotSound, NotReadOnly, BadInput}
 use Rattle.bank.specs.Bank.{emptyOrOdd}
-use Rattle.bank.specs.Cases.{Case, when, firstCase, NoneOf, FirstAfter, InOrder, numbersOf}
+use Rattle.bank.specs.Cases.{Case, when, firstCase, conditions, NoneOf, FirstAfter, InOrder, numbersOf}
 use Rattle.bank.specs.Calls.{numberOf, brokenSheet, misfittingBank, unsoundBank, badMark, badAddress, checkAnswer, freshAnswer, postAnswer, markAnswer}
 
 -- a number is none of the cases'
@@ -133,9 +133,6 @@ told-among number earlier (this ∷ behind) none told =
 -- ---- cases and their conditions
 
 module _ {A : Type 0} where
-  abbrev pub conditions : List (Case A) → List Bool
-  conditions cases = map (λ this. this .holds) cases
-
   -- where none holds, it is the other outcome
   pub first-none : (cases : List (Case A)) (otherwise : A) → NoneOf (conditions cases) → firstCase cases otherwise ≡ otherwise
   unfolding firstCase

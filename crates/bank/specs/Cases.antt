@@ -2,7 +2,7 @@
 use mathlib.Core.Path.{_≡_}
 use mathlib.Core.Bool.{Bool, true, false, cond}
 use mathlib.Core.Logic.{_↔_}
-use mathlib.Core.List.{List, [], _∷_, _++_}
+use mathlib.Core.List.{List, [], _∷_, _++_, map}
 use Prim.Native.Nat.{ℕ}
 
 -- a condition, and what comes of it where it holds
@@ -19,6 +19,10 @@ firstCase [] otherwise = otherwise
 firstCase (this ∷ behind) otherwise = cond (this .holds) (this .outcome) (firstCase behind otherwise)
 
 -- ---- what is said of cases
+
+-- the conditions of cases
+abbrev pub conditions : {A : Type 0} → List (Case A) → List Bool
+conditions cases = map (λ this. this .holds) cases
 
 -- none of some conditions holds
 abbrev pub NoneOf : List Bool → Type 0

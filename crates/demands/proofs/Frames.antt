@@ -15,9 +15,9 @@ use Rattle.words.specs.Words.{byteAt}
 use Rattle.check_value.specs.Frame.{passes}
 use Rattle.sheet.specs.Rules.{each, upFrom}
 use Rattle.bank.specs.Bank.{rateOf}
-use Rattle.bank.specs.Cases.{firstCase, NoneOf}
+use Rattle.bank.specs.Cases.{firstCase, NoneOf, conditions}
 use Rattle.bank.specs.Stores.{stored}
-use Rattle.bank.proofs.Numbers.{conditions, mapped-first, first-none, first-in-front, none-holds}
+use Rattle.bank.proofs.Numbers.{mapped-first, first-none, first-in-front, none-holds}
 use Rattle.bank.proofs.Stores.{stored-length}
 use Rattle.meter.specs.declared.Judged.{Judged}
 use Rattle.meter.specs.declared.Judged.the-variants.{FailsCheck, OtherStation, FunctionNotAllowed, WrongLength, WrongCount, WrongAddress, WrongValue, BadItem, GoodRead, GoodClear, GoodWrite}
@@ -293,7 +293,7 @@ reply-sent sheet bank frame buffer {left} accepted call replied =
 -- ---- a step in front of the judgement of items leaves the bank: an error by it, like silence, stores nothing
 
 pub stopped-early : (sheet bank frame buffer : List ℕ) {left : Handed} → Accepted sheet bank buffer → Answers sheet bank frame buffer left
-    → (NoneOf (earlierSteps sheet bank frame) → ⊥) → left .bank ≡ bank
+    → (NoneOf (conditions (earlierSteps sheet bank frame)) → ⊥) → left .bank ≡ bank
 unfolding meter.judgedFrame each
 stopped-early sheet bank frame buffer accepted call stopped =
     ap (λ (h : Handed). h .bank) (acted sheet bank frame buffer accepted call)

@@ -19,9 +19,9 @@ use Rattle.sheet.specs.Lookup.{liesIn}
 use Rattle.sheet.proofs.Tests.{first-of, second-of}
 use Rattle.sheet.proofs.Among.{Among}
 use Rattle.bank.specs.Stores.{wordOf, stored}
-use Rattle.bank.specs.Cases.{when, NoneOf, FirstAfter}
+use Rattle.bank.specs.Cases.{when, NoneOf, FirstAfter, conditions}
 use Rattle.bank.specs.Bank.{placeIn, rateOf, goodBy, markPlace, markStores}
-use Rattle.bank.proofs.Numbers.{conditions, first-after}
+use Rattle.bank.proofs.Numbers.{first-after}
 use Rattle.bank.proofs.Changes.{mark-there, mark-apart}
 use Rattle.meter.specs.declared.Judged.{Judged}
 use Rattle.meter.specs.declared.Judged.the-variants.{BadItem, GoodRead, GoodClear, GoodWrite}
@@ -331,7 +331,7 @@ stops-at sheet bank frame some-bad = go (keeping.stop-at (firstPlace sheet frame
 
 module _ (sheet bank frame buffer : List ℕ) {left : Handed} (accepted : Accepted sheet bank buffer)
     (call : Answers sheet bank frame buffer left) where
-  pub bad-item-stops : FirstAfter (earlierSteps sheet bank frame) (meter.badWrite sheet bank frame) → WriteStopped sheet bank frame buffer left
+  pub bad-item-stops : FirstAfter (conditions (earlierSteps sheet bank frame)) (meter.badWrite sheet bank frame) → WriteStopped sheet bank frame buffer left
   unfolding actedOn storesOf verdict meter.judgedFrame badItem
   bad-item-stops first =
       record {
@@ -370,7 +370,7 @@ module _ (sheet bank frame buffer : List ℕ) {left : Handed} (accepted : Accept
       at = stops-at sheet bank frame (second-of (isWrite frame) (someBad sheet bank frame) (first .1))
 
       by-item : verdict sheet bank frame ≡ error 3
-      by-item = first-after (take 7 (steps sheet bank frame)) (when (meter.badWrite sheet bank frame) (error 3)) [] good first
+      by-item = first-after (earlierSteps sheet bank frame) (when (meter.badWrite sheet bank frame) (error 3)) [] good first
 
       is : left .bank ≡ stored bank (runStores frame (firstPlace sheet frame) (stopPlace sheet bank frame))
       is =

@@ -1,7 +1,7 @@
 -- What the customer sees of a call with one frame, and which of 01's steps decides it. Assumes nothing.
 use mathlib.Core.Path.{_≡_}
-use mathlib.Core.Bool.{Bool, true}
-use mathlib.Core.List.{List, [], _∷_}
+use mathlib.Core.Bool.{true}
+use mathlib.Core.List.{List, [], _∷_, _++_}
 use Prim.Native.Nat.{ℕ, _≤_, _<_}
 use lib.ListN.{length}
 use Rattle.words.specs.Words.{byteAt}
@@ -45,9 +45,9 @@ pub data Verdict : Type 0 where
   error : ℕ → Verdict
   good : Verdict
 
--- 01, "Order of judgement for a frame", steps 1 to 7, each with what it gives
-abbrev pub steps : List ℕ → List ℕ → List ℕ → List (Case Verdict)
-steps sheet bank frame =
+-- 01, "Order of judgement for a frame", each step with what it gives: those in front of the judgement of a write's items
+abbrev pub earlierSteps : List ℕ → List ℕ → List ℕ → List (Case Verdict)
+earlierSteps sheet bank frame =
     when (failsCheck frame) silence
     ∷ when (otherStation sheet bank frame) silence
     ∷ when (functionNotAllowed sheet frame) (error 1)
@@ -55,15 +55,12 @@ steps sheet bank frame =
     ∷ when (wrongCount frame) (error 3)
     ∷ when (wrongAddress sheet frame) (error 2)
     ∷ when (wrongValue frame) (error 3)
-    ∷ when (badWrite sheet bank frame) (error 3)
     ∷ []
+
+-- .. and that judgement
+abbrev pub steps : List ℕ → List ℕ → List ℕ → List (Case Verdict)
+steps sheet bank frame = earlierSteps sheet bank frame ++ (when (badWrite sheet bank frame) (error 3) ∷ [])
 
 -- the first step whose condition holds decides
 unfoldable pub verdict : List ℕ → List ℕ → List ℕ → Verdict
 verdict sheet bank frame = firstCase (steps sheet bank frame) good
-
--- the steps in front of the judgement of a write's items
-abbrev pub earlierSteps : List ℕ → List ℕ → List ℕ → List Bool
-earlierSteps sheet bank frame =
-    failsCheck frame ∷ otherStation sheet bank frame ∷ functionNotAllowed sheet frame ∷ wrongLength frame ∷ wrongCount frame
-    ∷ wrongAddress sheet frame ∷ wrongValue frame ∷ []
