@@ -8,6 +8,7 @@ pub mod Judging
 pub mod Reaching
 pub mod Stopping
 pub mod Placing
+pub mod Writing
 pub mod Answering
 pub mod Passing
 pub mod Determined

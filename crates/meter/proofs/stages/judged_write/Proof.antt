@@ -1,25 +1,9 @@
-use Rattle.meter.proofs.Placing.{place-small}
--- `meter::stages::judged_write` meets its contract: steps 6 and 7 for a write.
--- Assumes nothing.
-use borrow.Author.Needs.{needs}
+-- `meter::stages::judged_write` meets its contract: steps 6 and 7 for a write. Assumes nothing.
 use native.Mathlib.Omega.{arith}
-use Prim.Native.Nat.{ℕ, _+_, _≤_, _<_}
-use mathlib.Core.Path.{_∙_, sym, ap, ap₂}
-use mathlib.Core.Bool.{not}
-use borrow.Author.Tests.{lt-ltb, le-ltb, not-true, not-false}
+use borrow.Author.Tests.{not-true, not-false}
 use denote.Ref.{now}
-use Rattle.meter.specs.declared.Parts.{Parts}
-use Rattle.sheet.specs.Rows.{areas, items}
-use Rattle.sheet.specs.Rules.{upFrom}
-use Rattle.sheet.specs.Lookup.{liesIn}
-use Rattle.bank.specs.Bank.{placeIn}
-use Rattle.meter.specs.declared.Judged.the-variants.{BadItem, GoodWrite}
-use Rattle.meter.specs.declared.runs.Purpose.the-variants.{Write}
-use Rattle.meter.specs.Frame.{manyOf, count}
-use Rattle.meter.specs.Runs.{allOpen}
-use Rattle.meter.specs.Write.{firstPlace, someBad, stopIn, stopPlace}
-use Rattle.meter.proofs.Staging.{stops-address, stops-item, good-write, write-address, write-value, write-bad}
-use Rattle.meter.proofs.Stopping.{stop-some}
+use Rattle.meter.proofs.Placing.{place-small}
+use Rattle.meter.proofs.Writing.{write-shut, write-stopped, write-good}
 use borrow.Author.Needs.{needs}
 use Rattle.meter.proofs.stages.judged_write.Statement.{statement}
 use Rattle.meter.proofs.stages.judged_write.Tie as tie
@@ -37,14 +21,8 @@ returns : tie.Need-returns
 returns c =
     let a = c .before .before .before .before .before .before .args in
     let pre = c .before .before .before .before .before .before .pre in
-    let sheet = now (a .sheet) in
-    let bank = now (a .bank) in
-    let frame = now (a .frame) in
-    let apart = pre .0 .apart in
-    let counted = c .before .before .many-of .ensures ∙ ap (λ (p : Parts). manyOf (p .function) (p .second)) apart in
-    let opened = c .before .all-open .ensures ∙ ap₂ (λ (s n : ℕ). allOpen Write sheet (upFrom s n)) (ap (λ (p : Parts). p .start) apart) counted in
-    stops-address sheet bank frame
-    (write-address sheet bank frame (pre .1) ∙ ap not (sym opened ∙ not-true (c .before .all-open .result) (c .if1 .taken)))
+    write-shut (now (a .sheet)) (now (a .bank)) (now (a .frame)) (pre .1) (a .parts) (pre .0 .apart) (c .before .before .many-of .ensures)
+    (c .before .all-open .ensures) (not-true (c .before .all-open .result) (c .if1 .taken))
 
 -- src/stages.rt:155:17
 values-at-requires : tie.Need-values-at-requires
@@ -75,49 +53,23 @@ add-if2 c =
 
 -- src/stages.rt:161:9
 returns-2 : tie.Need-returns-2
-unfolding someBad stopPlace
 returns-2 c =
+    let d = c .before .before .before .before .before in
     let a = c .before .before .before .before .before .before .before .before .before .before .before .args in
     let pre = c .before .before .before .before .before .before .before .before .before .before .before .pre in
-    let sheet = now (a .sheet) in
-    let bank = now (a .bank) in
-    let frame = now (a .frame) in
-    let apart = pre .0 .apart in
-    let counted = c .before .before .before .before .before .before .before .many-of .ensures ∙ ap (λ (p : Parts). manyOf (p .function) (p .second)) apart in
-    let opened = c .before .before .before .before .before .before .all-open .ensures ∙ ap₂ (λ (s n : ℕ). allOpen Write sheet (upFrom s n)) (ap (λ (p : Parts). p .start) apart) counted in
-    let placed = c .before .before .before .place-of .ensures ∙ ap (λ (p : Parts). placeIn (liesIn (areas sheet) (p .start))) apart in
-    let stops = c .before .before .stop-place .ensures
-    ∙ ap₂ (λ (first many : ℕ). stopIn first many bank frame (items sheet)) placed counted in
-    let under : stopIn (firstPlace sheet frame) (count frame) bank frame (items sheet) < firstPlace sheet frame + count frame
-    = omega (arith, c .if2 .taken, stops, placed, counted) in
-    ap₂ BadItem placed stops
-    ∙ stops-item sheet bank frame
-    (write-address sheet bank frame (pre .1) ∙ ap not (sym opened ∙ not-false (c .before .before .before .before .before .before .all-open .result) (c .before .before .before .before .before .if1 .left)))
-    (write-value sheet bank frame (pre .1))
-    (write-bad sheet bank frame (pre .1)
-    ∙ sym (stop-some (firstPlace sheet frame) (count frame) bank frame (items sheet)) ∙ lt-ltb _ _ under)
+    write-stopped (now (a .sheet)) (now (a .bank)) (now (a .frame)) (pre .1) (a .parts) (pre .0 .apart) (d .before .before .many-of .ensures)
+    (d .before .all-open .ensures) (not-false (d .before .all-open .result) (d .if1 .left))
+    (c .before .before .before .place-of .ensures) (c .before .before .stop-place .ensures) (c .if2 .taken)
 
 -- src/stages.rt:145:1
 returns-3 : tie.Need-returns-3
-unfolding someBad
 returns-3 c =
+    let d = c .before .before .before .before .before in
     let a = c .before .before .before .before .before .before .before .before .before .before .before .args in
     let pre = c .before .before .before .before .before .before .before .before .before .before .before .pre in
-    let sheet = now (a .sheet) in
-    let bank = now (a .bank) in
-    let frame = now (a .frame) in
-    let apart = pre .0 .apart in
-    let counted = c .before .before .before .before .before .before .before .many-of .ensures ∙ ap (λ (p : Parts). manyOf (p .function) (p .second)) apart in
-    let opened = c .before .before .before .before .before .before .all-open .ensures ∙ ap₂ (λ (s n : ℕ). allOpen Write sheet (upFrom s n)) (ap (λ (p : Parts). p .start) apart) counted in
-    let placed = c .before .before .before .place-of .ensures ∙ ap (λ (p : Parts). placeIn (liesIn (areas sheet) (p .start))) apart in
-    let stops = c .before .before .stop-place .ensures
-    ∙ ap₂ (λ (first many : ℕ). stopIn first many bank frame (items sheet)) placed counted in
-    let past : firstPlace sheet frame + count frame ≤ stopIn (firstPlace sheet frame) (count frame) bank frame (items sheet)
-    = omega (arith, c .if2 .left, stops, placed, counted) in
-    ap₂ GoodWrite placed counted
-    ∙ good-write sheet bank frame (pre .1)
-    (write-address sheet bank frame (pre .1) ∙ ap not (sym opened ∙ not-false (c .before .before .before .before .before .before .all-open .result) (c .before .before .before .before .before .if1 .left)))
-    (sym (stop-some (firstPlace sheet frame) (count frame) bank frame (items sheet)) ∙ le-ltb _ _ past)
+    write-good (now (a .sheet)) (now (a .bank)) (now (a .frame)) (pre .1) (a .parts) (pre .0 .apart) (d .before .before .many-of .ensures)
+    (d .before .all-open .ensures) (not-false (d .before .all-open .result) (d .if1 .left))
+    (c .before .before .before .place-of .ensures) (c .before .before .stop-place .ensures) (c .if2 .left)
 
 pub judged-write-spec : {M : Type 1} → statement M
 judged-write-spec =

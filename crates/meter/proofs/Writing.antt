@@ -1,0 +1,64 @@
+-- The judgement of a write, steps 6 and 7, from what its calls found: the number of registers, whether all are open, the first place and the
+-- stop. Assumes nothing.
+use native.Mathlib.Omega.{arith}
+use Prim.Native.Nat.{ℕ, _+_, _≤_, _<_}
+use mathlib.Core.Path.{_≡_, _∙_, sym, ap, ap₂}
+use mathlib.Core.Bool.{Bool, true, false, not}
+use mathlib.Core.List.{List}
+use borrow.Author.Tests.{lt-ltb, le-ltb}
+use Rattle.sheet.specs.Rows.{areas, items}
+use Rattle.sheet.specs.Rules.{upFrom}
+use Rattle.sheet.specs.Lookup.{liesIn}
+use Rattle.bank.specs.Bank.{placeIn}
+use Rattle.meter.specs.declared.Parts.{Parts}
+use Rattle.meter.specs.declared.Judged.the-variants.{WrongAddress, BadItem, GoodWrite}
+use Rattle.meter.specs.declared.runs.Purpose.the-variants.{Write}
+use Rattle.meter.specs.Frame.{partsOf, manyOf, isWrite, count, run}
+use Rattle.meter.specs.Runs.{allOpen}
+use Rattle.meter.specs.Write.{firstPlace, someBad, stopIn, stopPlace}
+use Rattle.meter.specs.Steps.{wrongAddress, judgedFrom}
+use Rattle.meter.proofs.Staging.{stops-address, stops-item, good-write, write-address, write-value, write-bad}
+use Rattle.meter.proofs.Stopping.{stop-some}
+
+module _ (sheet bank frame : List ℕ) (write : isWrite frame ≡ true) (parts : Parts) (apart : parts ≡ partsOf frame) {many : ℕ}
+    (counts : many ≡ manyOf (parts .function) (parts .second)) {open-to : Bool}
+    (opens : open-to ≡ allOpen Write sheet (upFrom (parts .start) many)) where
+  counted : many ≡ count frame
+  counted = counts ∙ ap (λ (p : Parts). manyOf (p .function) (p .second)) apart
+
+  address-is : wrongAddress sheet frame ≡ not open-to
+  address-is =
+      write-address sheet bank frame write
+      ∙ ap not (sym (opens ∙ ap₂ (λ (s n : ℕ). allOpen Write sheet (upFrom s n)) (ap (λ (p : Parts). p .start) apart) counted))
+
+  -- an address is shut
+  pub write-shut : open-to ≡ false → WrongAddress ≡ judgedFrom 5 sheet bank frame
+  write-shut shut = stops-address sheet bank frame (address-is ∙ ap not shut)
+
+  module _ (all : open-to ≡ true) {first stop : ℕ} (places : first ≡ placeIn (liesIn (areas sheet) (parts .start)))
+      (stops : stop ≡ stopIn first many bank frame (items sheet)) where
+    placed : first ≡ firstPlace sheet frame
+    placed = places ∙ ap (λ (p : Parts). placeIn (liesIn (areas sheet) (p .start))) apart
+
+    stopped : stop ≡ stopIn (firstPlace sheet frame) (count frame) bank frame (items sheet)
+    stopped = stops ∙ ap₂ (λ (first many : ℕ). stopIn first many bank frame (items sheet)) placed counted
+
+    -- the write stops in front of its end
+    pub write-stopped : stop < first + many → BadItem first stop ≡ judgedFrom 5 sheet bank frame
+    unfolding someBad stopPlace
+    write-stopped front =
+        let under : stopIn (firstPlace sheet frame) (count frame) bank frame (items sheet) < firstPlace sheet frame + count frame
+        = omega (arith, front, stopped, placed, counted) in
+        ap₂ BadItem placed stopped
+        ∙ stops-item sheet bank frame (address-is ∙ ap not all) (write-value sheet bank frame write)
+        (write-bad sheet bank frame write ∙ sym (stop-some (firstPlace sheet frame) (count frame) bank frame (items sheet)) ∙ lt-ltb _ _ under)
+
+    -- it does not
+    pub write-good : first + many ≤ stop → GoodWrite first many ≡ judgedFrom 5 sheet bank frame
+    unfolding someBad
+    write-good end =
+        let past : firstPlace sheet frame + count frame ≤ stopIn (firstPlace sheet frame) (count frame) bank frame (items sheet)
+        = omega (arith, end, stopped, placed, counted) in
+        ap₂ GoodWrite placed counted
+        ∙ good-write sheet bank frame write (address-is ∙ ap not all)
+        (sym (stop-some (firstPlace sheet frame) (count frame) bank frame (items sheet)) ∙ le-ltb _ _ past)
