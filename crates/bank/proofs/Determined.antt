@@ -2,7 +2,7 @@
 use mathlib.Core.Path.{sym, _∙_}
 use denote.Ref.{now}
 use Rattle.words.proofs.Promise.{Determined}
-use Rattle.bank.specs.Calls.{outcome}
+use Rattle.bank_rules.specs.Calls.{outcome}
 use Rattle.bank.proofs.value_in.Kinds as value-in
 use Rattle.bank.proofs.value_in.Reads as value-in-reads
 use Rattle.bank.proofs.judged.Kinds as judged

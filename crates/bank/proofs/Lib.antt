@@ -1,15 +1,4 @@
-pub mod Stores
-pub mod Walks
 pub mod Good
-pub mod Reach
 pub mod Refusals
 pub mod Making
-pub mod Latest
-pub mod Held
-pub mod Inside
-pub mod Numbers
-pub mod Values
-pub mod FreshBank
-pub mod Changes
-pub mod Soundness
 pub mod Determined

@@ -3,11 +3,11 @@ use mathlib.Core.Path.{_≡_, sym, ap, _∙_}
 use mathlib.Core.List.{List, [], _∷_, _++_, map}
 use Prim.Native.Nat.{ℕ, _+_, _*_}
 use Rattle.words.specs.Words.{withWord}
-use Rattle.sheet.specs.Rows.{bankWords, addressPlace, ratePlace, items}
-use Rattle.sheet.specs.Rules.{upFrom}
-use Rattle.bank.specs.Stores.{Store, stored}
-use Rattle.bank.specs.Bank.{zeroAt, lowStores, freshStores}
-use Rattle.bank.proofs.Stores.{stored-append}
+use Rattle.sheet_rules.specs.Rows.{bankWords, addressPlace, ratePlace, items}
+use Rattle.lists.specs.Lists.{upFrom}
+use Rattle.bank_rules.specs.Stores.{Store, stored}
+use Rattle.bank_rules.specs.Bank.{zeroAt, lowStores, freshStores}
+use Rattle.bank_rules.proofs.Stores.{stored-append}
 
 module _ (sheet first : List ℕ) {zeroed lows addressed made : List ℕ} where
   pub fresh-made : zeroed ≡ stored first (map zeroAt (upFrom 0 (bankWords sheet + 1))) → lows ≡ stored zeroed (lowStores (items sheet))

@@ -7,16 +7,16 @@ use Prim.Native.Nat.{ℕ, suc}
 use native.Mathlib.Omega.{arith}
 use types.Run.{OneOf}
 use denote.Enum.Declared.{tagOf}
-use Rattle.sheet.specs.declared.SheetJudged.{SheetJudged}
-use Rattle.sheet.specs.declared.SheetJudged.the-variants.{Sound, BreaksRule}
-use Rattle.sheet.specs.Rules.{sound, soundOrBroken, judgedSheet}
-use Rattle.bank.specs.declared.Answer.{Answer}
-use Rattle.bank.specs.declared.Answer.the-variants.{Done, SheetBreaksRule, BankMisfits, BankNotSound, NotReadOnly, BadInput}
-use Rattle.bank.specs.Stores.{Store, stored}
-use Rattle.bank.specs.Bank.{fits, bankSound}
-use Rattle.bank.specs.Cases.{Case, when, firstCase}
-use Rattle.bank.specs.Calls.{isDone, outcome, outcomeOf, checkAnswer}
-use Rattle.bank.proofs.Answer as enum
+use Rattle.sheet_rules.specs.declared.SheetJudged.{SheetJudged}
+use Rattle.sheet_rules.specs.declared.SheetJudged.the-variants.{Sound, BreaksRule}
+use Rattle.sheet_rules.specs.Rules.{sound, soundOrBroken, judgedSheet}
+use Rattle.bank_rules.specs.declared.Answer.{Answer}
+use Rattle.bank_rules.specs.declared.Answer.the-variants.{Done, SheetBreaksRule, BankMisfits, BankNotSound, NotReadOnly, BadInput}
+use Rattle.bank_rules.specs.Stores.{Store, stored}
+use Rattle.bank_rules.specs.Bank.{fits, bankSound}
+use Rattle.lists.specs.Cases.{Case, when, firstCase}
+use Rattle.bank_rules.specs.Calls.{isDone, outcome, outcomeOf, checkAnswer}
+use Rattle.bank_rules.proofs.Answer as enum
 
 -- the answer of the sheet's check, read back
 module _ (sheet : List ℕ) (answer : SheetJudged) (checked : answer ≡ judgedSheet sheet) where

@@ -1,4 +1,0 @@
-pub mod Stores
-pub mod Bank
-pub mod Cases
-pub mod Calls

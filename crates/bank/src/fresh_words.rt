@@ -2,12 +2,13 @@
 ghost use mathlib.Core.Path.{_≡_};
 ghost use mathlib.Core.Bool.{true};
 ghost use mathlib.Core.List.{map};
-ghost use Rattle.sheet.specs.Rules.{upFrom, sound};
-ghost use Rattle.sheet.specs.Rows.{items};
-ghost use Rattle.bank.specs.Stores.{stored};
-ghost use Rattle.bank.specs.Bank.{zeroAt, itemStores, lowStores, freshStores};
+ghost use Rattle.lists.specs.Lists.{upFrom};
+ghost use Rattle.sheet_rules.specs.Rules.{sound};
+ghost use Rattle.sheet_rules.specs.Rows.{items};
+ghost use Rattle.bank_rules.specs.Stores.{stored};
+ghost use Rattle.bank_rules.specs.Bank.{zeroAt, itemStores, lowStores, freshStores};
 use crate::rows;
-use sheet::Item;
+use sheet_rules::Item;
 
 // Stores 0 at the first so many places.
 fn zero_words(bank: &mut [u8], count: u32)

@@ -1,26 +1,18 @@
 // The bank: the lent bytes that hold a meter's settings and readings, and the calls by which the firmware itself changes them.
 ghost use mathlib.Core.Path.{_≡_};
 ghost use mathlib.Core.Bool.{true};
-ghost use Rattle.sheet.specs.Rules.{sound};
-ghost use Rattle.bank.specs.Stores.{wordOf};
-ghost use Rattle.bank.specs.Bank.{valueBy, fits, bankSound};
-ghost use Rattle.bank.specs.Calls.{checkAnswer, freshOutcome, postOutcome, markOutcome, outcome};
-use sheet::Item;
-use sheet::SheetJudged;
+ghost use Rattle.sheet_rules.specs.Rules.{sound};
+ghost use Rattle.bank_rules.specs.Stores.{wordOf};
+ghost use Rattle.bank_rules.specs.Bank.{valueBy, fits, bankSound};
+ghost use Rattle.bank_rules.specs.Calls.{checkAnswer, freshOutcome, postOutcome, markOutcome, outcome};
+use sheet_rules::Item;
+use sheet_rules::SheetJudged;
 
 mod fresh_words;
 mod post_words;
 mod rows;
 
-// What a call on a bank answers.
-pub enum Answer {
-    Done,
-    SheetBreaksRule,
-    BankMisfits,
-    BankNotSound,
-    NotReadOnly,
-    BadInput,
-}
+use bank_rules::Answer;
 
 // The value of an item: its word, or for a pair both, upper word first.
 pub fn value_in(bank: &[u8], item: Item) -> u32

@@ -2,12 +2,12 @@
 ghost use mathlib.Core.Path.{_≡_};
 ghost use Prim.Native.Nat.{_+_, _/_, _≤_};
 ghost use lib.ListN.{length};
-ghost use Rattle.sheet.specs.Rows.{areas};
-ghost use Rattle.sheet.specs.Rules.{upFrom};
-ghost use Rattle.sheet.specs.Lookup.{liesIn};
-ghost use Rattle.bank.specs.Stores.{stored};
-ghost use Rattle.bank.specs.Bank.{isReadOnly, placeIn, allReadOnly, postStores};
-use sheet::Lies;
+ghost use Rattle.sheet_rules.specs.Rows.{areas};
+ghost use Rattle.lists.specs.Lists.{upFrom};
+ghost use Rattle.sheet_rules.specs.Lookup.{liesIn};
+ghost use Rattle.bank_rules.specs.Stores.{stored};
+ghost use Rattle.bank_rules.specs.Bank.{isReadOnly, placeIn, allReadOnly, postStores};
+use sheet_rules::Lies;
 
 // Whether what lies somewhere is in an access 1 area.
 fn is_read_only(lies: Lies) -> bool

@@ -2,8 +2,8 @@
 ghost use mathlib.Core.Path.{_≡_};
 ghost use Prim.Native.Nat.{_+_, _*_, _≤_};
 ghost use lib.ListN.{length};
-ghost use Rattle.sheet.specs.Rows.{word, twoWords, areaCount, itemRows, itemAt};
-use sheet::Item;
+ghost use Rattle.sheet_rules.specs.Rows.{word, twoWords, areaCount, itemRows, itemAt};
+use sheet_rules::Item;
 
 // A word of the sheet, counted from 0.
 fn word_inside(sheet: &[u8], n: usize) -> u16

@@ -1,6 +1,6 @@
 // A row: a frame run through the real function, what is expected, what was got, and whether they agree.
 use libc::STDOUT_FILENO;
-use meter::Answered;
+use meter_rules::Answered;
 
 // What every byte of an answer buffer holds before the call.
 const FILL: u8 = 0xAA;

@@ -2,8 +2,8 @@
 use mathlib.Core.Path.{_≡_, ap, _∙_}
 use mathlib.Core.List.{List}
 use Prim.Native.Nat.{ℕ}
-use Rattle.bank.specs.declared.Answer.{Answer}
-use Rattle.bank.specs.Calls as bank
+use Rattle.bank_rules.specs.declared.Answer.{Answer}
+use Rattle.bank_rules.specs.Calls as bank
 use Rattle.cedarskein.specs.Door.{told, toldOf}
 
 pub number-told : (answer : Answer) (lent : List ℕ) (outcome : bank.Outcome) {number : ℕ} → bank.outcome answer lent ≡ outcome

@@ -2,8 +2,8 @@
 -- Assumes nothing.
 use Prim.Native.Nat.{ℕ}
 use mathlib.Core.List.{List}
-use Rattle.bank.specs.Calls as bank
-use Rattle.meter.specs.Answer as meter
+use Rattle.bank_rules.specs.Calls as bank
+use Rattle.meter_rules.specs.Answer as meter
 
 -- the number of a call on a bank, and the bank afterwards
 pub record Told : Type 0 where

@@ -1,9 +1,9 @@
 // The door for the board's firmware: the library's calls over byte slices (a pointer and a length) and numbers, as C has them.
 ghost use mathlib.Core.Path.{_≡_};
 ghost use Rattle.check_value.specs.Check.{startState, taken, valueOf};
-ghost use Rattle.sheet.specs.Rules.{judgedSheet, sheetNumber};
-ghost use Rattle.bank.specs.Calls.{numberOf, checkAnswer, freshOutcome, postOutcome, markOutcome};
-ghost use Rattle.meter.specs.Answer.{answerOutcome};
+ghost use Rattle.sheet_rules.specs.Rules.{judgedSheet, sheetNumber};
+ghost use Rattle.bank_rules.specs.Calls.{numberOf, checkAnswer, freshOutcome, postOutcome, markOutcome};
+ghost use Rattle.meter_rules.specs.Answer.{answerOutcome};
 ghost use Rattle.cedarskein.specs.Door.{told, toldOf, handed, handedOf};
 
 mod numbers;

@@ -1,11 +1,11 @@
 // 01's number for each case of the library's answers.
 ghost use mathlib.Core.Path.{_≡_};
-ghost use Rattle.sheet.specs.Rules.{sheetNumber};
-ghost use Rattle.bank.specs.Calls.{numberOf};
-ghost use Rattle.meter.specs.Answer as meter;
-use bank::Answer;
-use meter::Answered;
-use sheet::SheetJudged;
+ghost use Rattle.sheet_rules.specs.Rules.{sheetNumber};
+ghost use Rattle.bank_rules.specs.Calls.{numberOf};
+ghost use Rattle.meter_rules.specs.Answer as meter;
+use bank_rules::Answer;
+use meter_rules::Answered;
+use sheet_rules::SheetJudged;
 
 pub(crate) fn of_sheet(judged: SheetJudged) -> u32
     ensures { λ r. ⌜ r ≡ sheetNumber judged ⌝ }

@@ -9,9 +9,9 @@ use contract.Lifetimes.{Lfts}
 use denote.Ref.{RefT, now}
 use denote.Triple.Clauses.{AtExit}
 use borrow.Fn.Kinds.{PK, RK, In, Out, Dens, endedOf, resT}
-use Rattle.sheet.specs.Rules.{judgedSheet, sheetNumber}
-use Rattle.bank.specs.Calls.{numberOf, checkAnswer, freshOutcome, postOutcome, markOutcome}
-use Rattle.meter.specs.Answer.{answerOutcome}
+use Rattle.sheet_rules.specs.Rules.{judgedSheet, sheetNumber}
+use Rattle.bank_rules.specs.Calls.{numberOf, checkAnswer, freshOutcome, postOutcome, markOutcome}
+use Rattle.meter_rules.specs.Answer.{answerOutcome}
 use Rattle.cedarskein.specs.Door.{Told, Handed, told, toldOf, handed, handedOf}
 use Rattle.cedarskein.proofs.cedarskein_sheet_check.Kinds as sheet-check
 use Rattle.cedarskein.proofs.cedarskein_sheet_check.Reads as sheet-check-reads

@@ -13,23 +13,23 @@ use lib.Seq.{take-at, drop-append-seam}
 use borrow.Author.Tests.{eqb-true, le-ltb, ltb-false, not-false}
 use Rattle.words.specs.Words.{byteAt}
 use Rattle.check_value.specs.Frame.{passes}
-use Rattle.sheet.specs.Rules.{each, upFrom}
-use Rattle.bank.specs.Bank.{rateOf}
-use Rattle.bank.specs.Cases.{firstCase, NoneOf, conditions}
-use Rattle.bank.specs.Stores.{stored}
-use Rattle.bank.proofs.Numbers.{mapped-first, first-none, first-in-front, none-holds}
-use Rattle.bank.proofs.Stores.{stored-length}
-use Rattle.meter.specs.declared.Judged.{Judged}
-use Rattle.meter.specs.declared.Judged.the-variants.{FailsCheck, OtherStation, FunctionNotAllowed, WrongLength, WrongCount, WrongAddress, WrongValue, BadItem, GoodRead, GoodClear, GoodWrite}
-use Rattle.meter.specs.Frame.{reads, clears, writesOne, writesMany, station, function, start, second, isWrite, count, functionAllowed}
-use Rattle.meter.specs.Write.{firstPlace}
-use Rattle.meter.specs.Steps as meter
-use Rattle.meter.specs.Reply.{wordBytes, bankRun, echo, writeReply, errorReply, topBitSet, withCheck, replyTo, storesOf}
-use Rattle.meter.specs.Answer.{numberOf, laid, leastBuffer, outcome, answeredWith, actedOn, answerOutcome}
-use Rattle.meter.proofs.Staging.{judged-fits}
-use Rattle.meter.proofs.Closing.{reply-length, reply-passes}
-use Rattle.meter.proofs.Outcomes.{quiet, quiet-changes-nothing, outcome-cases}
-use Rattle.meter.proofs.Soundness.{writes}
+use Rattle.lists.specs.Lists.{each, upFrom}
+use Rattle.bank_rules.specs.Bank.{rateOf}
+use Rattle.lists.specs.Cases.{firstCase, NoneOf, conditions}
+use Rattle.bank_rules.specs.Stores.{stored}
+use Rattle.lists.proofs.Cases.{mapped-first, first-none, first-in-front, none-holds}
+use Rattle.bank_rules.proofs.Stores.{stored-length}
+use Rattle.meter_rules.specs.declared.Judged.{Judged}
+use Rattle.meter_rules.specs.declared.Judged.the-variants.{FailsCheck, OtherStation, FunctionNotAllowed, WrongLength, WrongCount, WrongAddress, WrongValue, BadItem, GoodRead, GoodClear, GoodWrite}
+use Rattle.meter_rules.specs.Frame.{reads, clears, writesOne, writesMany, station, function, start, second, isWrite, count, functionAllowed}
+use Rattle.meter_rules.specs.Write.{firstPlace}
+use Rattle.meter_rules.specs.Steps as meter
+use Rattle.meter_rules.specs.Reply.{wordBytes, bankRun, echo, writeReply, errorReply, topBitSet, withCheck, replyTo, storesOf}
+use Rattle.meter_rules.specs.Answer.{numberOf, laid, leastBuffer, outcome, answeredWith, actedOn, answerOutcome}
+use Rattle.meter_rules.proofs.Staging.{judged-fits}
+use Rattle.meter_rules.proofs.Closing.{reply-length, reply-passes}
+use Rattle.meter_rules.proofs.Outcomes.{quiet, quiet-changes-nothing, outcome-cases}
+use Rattle.meter_rules.proofs.Soundness.{writes}
 use Rattle.cedarskein.specs.Door.{Handed, handed, handedOf}
 use Rattle.demands.specs.Verdict.{Accepted, Silent, IsError, IsGood, Verdict, silence, error, good, steps, verdict, earlierSteps}
 use Rattle.demands.proofs.Calls.{Answers, answers-is}

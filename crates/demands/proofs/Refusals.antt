@@ -8,22 +8,23 @@ use mathlib.Core.List.{List, [], _∷_}
 use mathlib.Core.Logic.{_↔_}
 use Prim.Native.Nat.{ℕ, _≤_}
 use native.Mathlib.Omega.{arith}
-use Rattle.sheet.specs.Rules.{sound, soundOrBroken, sheetNumber}
-use Rattle.sheet.proofs.Among.{Among, here, there}
-use Rattle.bank.specs.declared.Answer.{Answer}
-use Rattle.bank.specs.Stores.{Store}
-use Rattle.bank.specs.Bank.{emptyOrOdd, freshStores, postStores, markStores, rateOf}
-use Rattle.bank.specs.Cases.{Case, when, firstCase, FirstAfter, InOrder, numbersOf}
-use Rattle.bank.specs.Calls.{numberOf, brokenSheet, misfittingBank, unsoundBank, badMark, badAddress, freshAnswer, postAnswer, markAnswer, outcomeOf, freshOutcome, postOutcome, markOutcome}
-use Rattle.bank.proofs.Numbers.{told-among, told-in-order, differ, check-numbers, fresh-numbers, post-numbers, mark-numbers}
-use Rattle.bank.proofs.Changes.{refused-as-before}
-use Rattle.meter.specs.declared.Answered.{Answered}
-use Rattle.meter.specs.declared.Answered.the-variants.{Reply, Silence, SheetBreaksRule, BankMisfits, BankNotSound, SmallBuffer}
-use Rattle.meter.specs.Steps.{judgedFrame}
-use Rattle.meter.specs.Reply.{replyTo}
-use Rattle.meter.specs.Answer as meter
-use Rattle.meter.proofs.Outcomes as outcomes
-use Rattle.meter.proofs.Outcomes.{outcome-cases}
+use Rattle.sheet_rules.specs.Rules.{sound, soundOrBroken, sheetNumber}
+use Rattle.lists.proofs.Among.{Among, here, there}
+use Rattle.bank_rules.specs.declared.Answer.{Answer}
+use Rattle.bank_rules.specs.Stores.{Store}
+use Rattle.bank_rules.specs.Bank.{emptyOrOdd, freshStores, postStores, markStores, rateOf}
+use Rattle.lists.specs.Cases.{Case, when, firstCase, FirstAfter, InOrder, numbersOf}
+use Rattle.bank_rules.specs.Calls.{numberOf, brokenSheet, misfittingBank, unsoundBank, badMark, badAddress, freshAnswer, postAnswer, markAnswer, outcomeOf, freshOutcome, postOutcome, markOutcome}
+use Rattle.lists.proofs.Cases.{told-among, told-in-order, differ}
+use Rattle.bank_rules.proofs.Numbers.{check-numbers, fresh-numbers, post-numbers, mark-numbers}
+use Rattle.bank_rules.proofs.Changes.{refused-as-before}
+use Rattle.meter_rules.specs.declared.Answered.{Answered}
+use Rattle.meter_rules.specs.declared.Answered.the-variants.{Reply, Silence, SheetBreaksRule, BankMisfits, BankNotSound, SmallBuffer}
+use Rattle.meter_rules.specs.Steps.{judgedFrame}
+use Rattle.meter_rules.specs.Reply.{replyTo}
+use Rattle.meter_rules.specs.Answer as meter
+use Rattle.meter_rules.proofs.Outcomes as outcomes
+use Rattle.meter_rules.proofs.Outcomes.{outcome-cases}
 use Rattle.cedarskein.specs.Door.{Told, Handed, told, toldOf, handed, handedOf}
 use Rattle.demands.proofs.Calls.{ChecksSheet, ChecksBank, Freshens, Posts, Marks, Answers, checks-sheet-is, checks-bank-is, freshens-is, posts-is, marks-is, answers-is}
 

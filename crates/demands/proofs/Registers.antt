@@ -11,33 +11,33 @@ use lib.Dec.{ltb, eqb}
 use lib.ListN.{length, take}
 use borrow.Author.Tests.{eq-eqb, eqb-true, lt-ltb, ltb-true, not-true, not-false}
 use Rattle.words.specs.Words.{byteAt, wordAt, upper, lower}
-use Rattle.sheet.specs.declared.Lies.the-variants.{At}
-use Rattle.sheet.specs.declared.Item.{Item}
-use Rattle.sheet.specs.Rows.{areas, items}
-use Rattle.sheet.specs.Rules.{upFrom}
-use Rattle.sheet.specs.Lookup.{liesIn}
-use Rattle.sheet.proofs.Tests.{first-of, second-of}
-use Rattle.sheet.proofs.Among.{Among}
-use Rattle.bank.specs.Stores.{wordOf, stored}
-use Rattle.bank.specs.Cases.{when, NoneOf, FirstAfter, conditions}
-use Rattle.bank.specs.Bank.{placeIn, rateOf, goodBy, markPlace, markStores}
-use Rattle.bank.proofs.Numbers.{first-after}
-use Rattle.bank.proofs.Changes.{mark-there, mark-apart}
-use Rattle.meter.specs.declared.Judged.{Judged}
-use Rattle.meter.specs.declared.Judged.the-variants.{BadItem, GoodRead, GoodClear, GoodWrite}
-use Rattle.meter.specs.declared.runs.Purpose.the-variants.{Read, Write}
-use Rattle.meter.specs.Frame.{reads, clears, writesOne, writesMany, station, function, start, second, isWrite, count, run, sent}
-use Rattle.meter.specs.Runs.{allOpen}
-use Rattle.meter.specs.Write.{firstPlace, inRun, wouldBe, touched, badItem, someBad, stopIn, stopPlace, runStores}
-use Rattle.meter.specs.Steps as meter
-use Rattle.meter.specs.Reply.{bankRun, readReply, echo, withCheck, replyTo, storesOf}
-use Rattle.meter.specs.Answer.{outcome, answeredWith, laid, actedOn}
-use Rattle.meter.proofs.Reading.{check-length, read-length}
-use Rattle.meter.proofs.Written.{run-place, each-open}
-use Rattle.meter.proofs.Judging.{run-test, run-above}
-use Rattle.meter.proofs.Stopping.{run-below, stop-some}
-use Rattle.meter.proofs.Soundness.{OpenWrite, open-write, stops-at-end}
-use Rattle.meter.proofs.Keeping as keeping
+use Rattle.sheet_rules.specs.declared.Lies.the-variants.{At}
+use Rattle.sheet_rules.specs.declared.Item.{Item}
+use Rattle.sheet_rules.specs.Rows.{areas, items}
+use Rattle.lists.specs.Lists.{upFrom}
+use Rattle.sheet_rules.specs.Lookup.{liesIn}
+use Rattle.lists.proofs.Tests.{first-of, second-of}
+use Rattle.lists.proofs.Among.{Among}
+use Rattle.bank_rules.specs.Stores.{wordOf, stored}
+use Rattle.lists.specs.Cases.{when, NoneOf, FirstAfter, conditions}
+use Rattle.bank_rules.specs.Bank.{placeIn, rateOf, goodBy, markPlace, markStores}
+use Rattle.lists.proofs.Cases.{first-after}
+use Rattle.bank_rules.proofs.Changes.{mark-there, mark-apart}
+use Rattle.meter_rules.specs.declared.Judged.{Judged}
+use Rattle.meter_rules.specs.declared.Judged.the-variants.{BadItem, GoodRead, GoodClear, GoodWrite}
+use Rattle.meter_rules.specs.declared.Purpose.the-variants.{Read, Write}
+use Rattle.meter_rules.specs.Frame.{reads, clears, writesOne, writesMany, station, function, start, second, isWrite, count, run, sent}
+use Rattle.meter_rules.specs.Runs.{allOpen}
+use Rattle.meter_rules.specs.Write.{firstPlace, inRun, wouldBe, touched, badItem, someBad, stopIn, stopPlace, runStores}
+use Rattle.meter_rules.specs.Steps as meter
+use Rattle.meter_rules.specs.Reply.{bankRun, readReply, echo, withCheck, replyTo, storesOf}
+use Rattle.meter_rules.specs.Answer.{outcome, answeredWith, laid, actedOn}
+use Rattle.meter_rules.proofs.Reading.{check-length, read-length}
+use Rattle.meter_rules.proofs.Written.{run-place, each-open}
+use Rattle.meter_rules.proofs.Judging.{run-test, run-above}
+use Rattle.meter_rules.proofs.Stopping.{run-below, stop-some}
+use Rattle.meter_rules.proofs.Soundness.{OpenWrite, open-write, stops-at-end}
+use Rattle.meter_rules.proofs.Keeping as keeping
 use Rattle.cedarskein.specs.Door.{Handed, handedOf}
 use Rattle.demands.specs.Verdict.{Accepted, IsError, error, good, steps, verdict, earlierSteps}
 use Rattle.demands.proofs.Calls.{Answers}

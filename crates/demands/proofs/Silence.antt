@@ -7,9 +7,9 @@ use Prim.Native.Nat.{ℕ}
 use Rattle.check_value.specs.Frame.{passes}
 use Rattle.check_value.specs.Damage.{Damaged}
 use Rattle.check_value.proofs.Damage.{damage-caught}
-use Rattle.bank.specs.Cases.{when}
-use Rattle.meter.specs.Steps.{failsCheck}
-use Rattle.meter.proofs.Order.{step-stops}
+use Rattle.lists.specs.Cases.{when}
+use Rattle.meter_rules.specs.Steps.{failsCheck}
+use Rattle.meter_rules.proofs.Order.{step-stops}
 use Rattle.cedarskein.specs.Door.{Handed, handed}
 use Rattle.demands.specs.Verdict.{Accepted, silence, good, verdict}
 use Rattle.demands.proofs.Calls.{Answers}

@@ -12,22 +12,23 @@ use Rattle.check_value.specs.Check.{valueOf}
 use Rattle.check_value.specs.Frame.{passes}
 use Rattle.check_value.proofs.Witness.{frameSent, framesReceived, AllDamaged, sent-passes, received-damaged}
 use Rattle.range.specs.Range.{inRange}
-use Rattle.sheet.specs.Rows.{areas, items}
-use Rattle.sheet.specs.Rules.{sound, headerSound, areasSound, itemsSound, settingsSound, each, some, upFrom, samePlaces, itemPlaces, writablePlaces, placesFollow, areasAscend, lengthsSum, judgedSheet, sheetNumber}
-use Rattle.sheet.specs.Lookup.{liesIn}
+use Rattle.sheet_rules.specs.Rows.{areas, items}
+use Rattle.sheet_rules.specs.Rules.{sound, headerSound, areasSound, itemsSound, settingsSound, itemPlaces, writablePlaces, placesFollow, areasAscend, lengthsSum, judgedSheet, sheetNumber}
+use Rattle.lists.specs.Lists.{each, some, upFrom, samePlaces}
+use Rattle.sheet_rules.specs.Lookup.{liesIn}
 use Rattle.makers.specs.Maps.{ux}
 use Rattle.makers.specs.Sheets.{sheetOf}
-use Rattle.bank.specs.Stores.{stored}
-use Rattle.bank.specs.Bank.{bankSound, goodBy, lowStores, freshStores, postStores, allReadOnly}
-use Rattle.bank.specs.Cases.{firstCase}
-use Rattle.bank.specs.Calls.{numberOf, checkAnswer, freshAnswer, postAnswer, markAnswer, freshOutcome, postOutcome, markOutcome}
-use Rattle.meter.specs.declared.Judged.the-variants.{FailsCheck, OtherStation, FunctionNotAllowed, WrongLength, WrongCount, WrongAddress, WrongValue, BadItem, GoodRead, GoodClear, GoodWrite}
-use Rattle.meter.specs.Runs.{allOpen}
-use Rattle.meter.specs.Write.{badItem, someBad, stopIn, stopPlace, runStores}
-use Rattle.meter.specs.Steps.{judgedFrame}
-use Rattle.meter.specs.Reply.{bankRun, withCheck, replyTo, storesOf}
-use Rattle.meter.specs.Answer.{actedOn, answerOutcome}
-use Rattle.meter.proofs.CaseSet.{uxMeter, bytesOf}
+use Rattle.bank_rules.specs.Stores.{stored}
+use Rattle.bank_rules.specs.Bank.{bankSound, goodBy, lowStores, freshStores, postStores, allReadOnly}
+use Rattle.lists.specs.Cases.{firstCase}
+use Rattle.bank_rules.specs.Calls.{numberOf, checkAnswer, freshAnswer, postAnswer, markAnswer, freshOutcome, postOutcome, markOutcome}
+use Rattle.meter_rules.specs.declared.Judged.the-variants.{FailsCheck, OtherStation, FunctionNotAllowed, WrongLength, WrongCount, WrongAddress, WrongValue, BadItem, GoodRead, GoodClear, GoodWrite}
+use Rattle.meter_rules.specs.Runs.{allOpen}
+use Rattle.meter_rules.specs.Write.{badItem, someBad, stopIn, stopPlace, runStores}
+use Rattle.meter_rules.specs.Steps.{judgedFrame}
+use Rattle.meter_rules.specs.Reply.{bankRun, withCheck, replyTo, storesOf}
+use Rattle.meter_rules.specs.Answer.{actedOn, answerOutcome}
+use Rattle.meter_rules.proofs.CaseSet.{uxMeter, bytesOf}
 use Rattle.cedarskein.specs.Door.{Handed, handed, handedOf, toldOf}
 use Rattle.demands.specs.Verdict.{Accepted}
 

@@ -6,13 +6,12 @@ use mathlib.Core.List.{List, _∷_}
 use native.Mathlib.Omega.{arith}
 use lib.Dec.{leb, ltb}
 use borrow.Author.Tests.{lt-ltb, le-ltb, lt-leb, le-leb, leb-true, leb-false}
-use Rattle.sheet.specs.declared.Area.{Area}
-use Rattle.sheet.specs.Rows.{areaCount, areaAt}
-use Rattle.sheet.specs.Rules.{placeInArea, lengthOf}
-use Rattle.sheet.specs.Lookup.{addressOf}
-use Rattle.sheet.specs.Cover.{areasFrom}
-use Rattle.sheet.proofs.Rows.{rows-on, rows-end}
-use Rattle.sheet.proofs.Tests.{first-of}
+use Rattle.sheet_rules.specs.declared.Area.{Area}
+use Rattle.sheet_rules.specs.Rows.{areaCount, areaAt, areasFrom}
+use Rattle.sheet_rules.specs.Rules.{placeInArea, lengthOf}
+use Rattle.sheet_rules.specs.Lookup.{addressOf}
+use Rattle.lists.proofs.Walks.{rows-on, rows-end}
+use Rattle.lists.proofs.Tests.{first-of}
 
 -- a place in front of an area is none of its places; behind its first place, the address tells
 pub place-before : (place : ℕ) (area : Area) → place < area .place → placeInArea place area ≡ false

@@ -4,9 +4,10 @@ use mathlib.Core.Path.{_≡_, refl}
 use mathlib.Core.List.{List, [], _∷_}
 use Rattle.words.specs.Words.{wordAt}
 use Rattle.range.specs.Range.{numberOf, notAbove, inRange}
-use Rattle.sheet.specs.Rows.{areas, items}
-use Rattle.sheet.specs.Lookup.{addressOf}
-use Rattle.sheet.specs.Rules.{sound, headerSound, areasSound, itemsSound, settingsSound, each, some, samePlaces, itemPlaces, writablePlaces, placesFollow, areasAscend, lengthsSum}
+use Rattle.sheet_rules.specs.Rows.{areas, items}
+use Rattle.sheet_rules.specs.Lookup.{addressOf}
+use Rattle.sheet_rules.specs.Rules.{sound, headerSound, areasSound, itemsSound, settingsSound, itemPlaces, writablePlaces, placesFollow, areasAscend, lengthsSum}
+use Rattle.lists.specs.Lists.{each, some, samePlaces}
 use Rattle.listing.specs.Ascii.{ascii}
 use Rattle.listing.specs.Text.{listing, decimal, decimalWithin, signedDecimal, summaryText, itemText, itemTexts}
 

@@ -9,9 +9,9 @@ use lib.Dec.{ltb}
 use lib.IntN.{ℤ, pos, negsuc}
 use lib.ListN.{length, take, replicate, length-append}
 use Rattle.range.specs.Range.{numberOf}
-use Rattle.sheet.specs.declared.Area.{Area}
-use Rattle.sheet.specs.declared.Item.{Item}
-use Rattle.sheet.specs.Rows.{areaCount, itemCount, bankWords}
+use Rattle.sheet_rules.specs.declared.Area.{Area}
+use Rattle.sheet_rules.specs.declared.Item.{Item}
+use Rattle.sheet_rules.specs.Rows.{areaCount, itemCount, bankWords}
 use Rattle.listing.specs.Ascii.{ascii}
 use Rattle.listing.specs.Text.{digitOf, decimal, decimalWithin, signedDecimal, summaryText, itemText}
 use Rattle.listing.specs.Line.{room, lineOf}

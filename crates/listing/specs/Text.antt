@@ -9,11 +9,11 @@ use mathlib.Core.List.{List, [], _∷_, _++_}
 use lib.Dec.{ltb}
 use lib.IntN.{ℤ, pos, negsuc}
 use Rattle.range.specs.Range.{numberOf}
-use Rattle.sheet.specs.declared.Area.{Area}
-use Rattle.sheet.specs.declared.Item.{Item}
-use Rattle.sheet.specs.Rows.{areaCount, itemCount, bankWords, areas, items}
-use Rattle.sheet.specs.Rules.{sound}
-use Rattle.sheet.specs.Lookup.{addressOf}
+use Rattle.sheet_rules.specs.declared.Area.{Area}
+use Rattle.sheet_rules.specs.declared.Item.{Item}
+use Rattle.sheet_rules.specs.Rows.{areaCount, itemCount, bankWords, areas, items}
+use Rattle.sheet_rules.specs.Rules.{sound}
+use Rattle.sheet_rules.specs.Lookup.{addressOf}
 use Rattle.listing.specs.Ascii.{ascii}
 
 -- the character of a digit below sixteen: 0 to 9, then A to F

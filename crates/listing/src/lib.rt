@@ -1,11 +1,11 @@
 // The listing of a sheet, line by line.
-use sheet::Area;
+use sheet_rules::Area;
 ghost use mathlib.Core.Path.{_≡_};
 ghost use mathlib.Core.List.{[], _++_};
 ghost use Rattle.range.specs.Range.{numberOf};
-ghost use Rattle.sheet.specs.Rows.{areas, itemAt};
-ghost use Rattle.sheet.specs.Rules.{placeInArea};
-ghost use Rattle.sheet.specs.Lookup.{addressOf};
+ghost use Rattle.sheet_rules.specs.Rows.{areas, itemAt};
+ghost use Rattle.sheet_rules.specs.Rules.{placeInArea};
+ghost use Rattle.sheet_rules.specs.Lookup.{addressOf};
 ghost use Rattle.listing.specs.Text.{decimal, signedDecimal, letterOf, summaryText, itemText};
 ghost use Rattle.listing.specs.Line.{lineOf, withText};
 

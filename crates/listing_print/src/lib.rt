@@ -1,9 +1,9 @@
 // A sheet's listing on standard output.
 use libc::STDOUT_FILENO;
 use listing::Line;
-use sheet::SheetJudged;
+use sheet_rules::SheetJudged;
 ghost use mathlib.Core.Path.{_≡_};
-ghost use Rattle.sheet.specs.Rules.{judgedSheet};
+ghost use Rattle.sheet_rules.specs.Rules.{judgedSheet};
 
 // So many bytes from the front.
 fn print_front(bytes: &[u8], n: usize) {

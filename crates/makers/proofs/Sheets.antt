@@ -6,11 +6,12 @@ use mathlib.Core.Bool.{Bool, true}
 use mathlib.Core.List.{List, [], _∷_}
 use Rattle.range.specs.Range.{inRange}
 use Rattle.words.specs.Words.{wordAt}
-use Rattle.sheet.specs.declared.Area.{Area}
-use Rattle.sheet.specs.declared.Item.{Item}
-use Rattle.sheet.specs.Rows.{areaCount, itemCount, bankWords, functions, clearAddress, addressPlace, ratePlace, areas, items}
-use Rattle.sheet.specs.Rules.{sound, headerSound, areasSound, itemsSound, settingsSound, each, some, upFrom, samePlaces, itemPlaces, writablePlaces, placesFollow, areasAscend, lengthsSum}
-use Rattle.sheet.specs.Lookup.{addressOf}
+use Rattle.sheet_rules.specs.declared.Area.{Area}
+use Rattle.sheet_rules.specs.declared.Item.{Item}
+use Rattle.sheet_rules.specs.Rows.{areaCount, itemCount, bankWords, functions, clearAddress, addressPlace, ratePlace, areas, items}
+use Rattle.sheet_rules.specs.Rules.{sound, headerSound, areasSound, itemsSound, settingsSound, itemPlaces, writablePlaces, placesFollow, areasAscend, lengthsSum}
+use Rattle.lists.specs.Lists.{each, some, upFrom, samePlaces}
+use Rattle.sheet_rules.specs.Lookup.{addressOf}
 use Rattle.makers.specs.Maps.{Row, Map, ux, aswe, bore40, bore50, bore80}
 use Rattle.makers.specs.Sheets.{areasOf, itemsOf, sheetOf}
 

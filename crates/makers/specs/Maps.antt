@@ -3,7 +3,7 @@
 use Prim.Native.Nat.{ℕ, _+_}
 use mathlib.Core.List.{List, [], _∷_}
 use Rattle.range.specs.Range.{unsignedWord, signedWord, unsignedPair}
-use Rattle.sheet.specs.Rules.{bitOf03, bitOf05, bitOf06, bitOf10}
+use Rattle.sheet_rules.specs.Rules.{bitOf03, bitOf05, bitOf06, bitOf10}
 
 -- an item of a map; its bounds are the words that a sheet holds, so signed FFF6 is 0xFFF6
 pub record Row : Type 0 where

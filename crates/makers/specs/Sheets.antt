@@ -6,13 +6,13 @@ use lib.Dec.{eqb}
 use lib.ListN.{length}
 use Rattle.words.specs.Words.{upper, lower}
 use Rattle.range.specs.Range.{unsignedPair}
-use Rattle.sheet.specs.declared.Area.{Area}
-use Rattle.sheet.specs.declared.Item.{Item}
-use Rattle.sheet.specs.declared.Lies.{Lies}
-use Rattle.sheet.specs.declared.Lies.the-variants.{At, Nowhere}
-use Rattle.sheet.specs.Rows.{areaRows}
-use Rattle.sheet.specs.Rules.{readOnly, readAndWrite, lengthsSum}
-use Rattle.sheet.specs.Lookup.{liesIn}
+use Rattle.sheet_rules.specs.declared.Area.{Area}
+use Rattle.sheet_rules.specs.declared.Item.{Item}
+use Rattle.sheet_rules.specs.declared.Lies.{Lies}
+use Rattle.sheet_rules.specs.declared.Lies.the-variants.{At, Nowhere}
+use Rattle.sheet_rules.specs.Rows.{areaRows}
+use Rattle.sheet_rules.specs.Rules.{readOnly, readAndWrite, lengthsSum}
+use Rattle.sheet_rules.specs.Lookup.{liesIn}
 use Rattle.makers.specs.Maps.{Row, Map}
 
 -- ---- areas: one for each unbroken run of addresses

@@ -6,15 +6,14 @@ use Prim.Native.Nat.{ℕ, _+_, _-_}
 use native.Mathlib.Omega.{arith}
 use lib.Dec.{eqb}
 use borrow.Author.Tests.{eqb-true}
-use Rattle.sheet.specs.Rules.{upFrom}
-use Rattle.bank.specs.Stores.{stored}
-use Rattle.bank.specs.Bank.{rateOf}
-use Rattle.meter.specs.declared.Answered.{Answered}
-use Rattle.meter.specs.declared.Judged.{Judged}
-use Rattle.meter.specs.Frame.{writesMany, station, function, start, second}
-use Rattle.meter.specs.Write.{runStore, runStores}
-use Rattle.meter.specs.Reply.{wordBytes, echo, writeReply, replyTo, storesOf}
-use Rattle.meter.specs.Answer.{outcome, actedOn, answeredWith, laid}
+use Rattle.lists.specs.Lists.{upFrom}
+use Rattle.bank_rules.specs.Stores.{stored}
+use Rattle.bank_rules.specs.Bank.{rateOf}
+use Rattle.meter_rules.specs.declared.Answered.{Answered}
+use Rattle.meter_rules.specs.declared.Judged.{Judged}
+use Rattle.meter_rules.specs.Write.{runStore, runStores}
+use Rattle.meter_rules.specs.Reply.{replyTo, storesOf}
+use Rattle.meter_rules.specs.Answer.{outcome, actedOn, answeredWith, laid}
 use Rattle.meter.specs.Sending.{Sent, sent, sending}
 
 module _ (sheet bank frame buffer : List ℕ) {rate : ℕ} (rated : rate ≡ rateOf sheet bank) {judged : Judged} (told : Judged) (is : judged ≡ told) where
@@ -26,17 +25,6 @@ module _ (sheet bank frame buffer : List ℕ) {rate : ℕ} (rated : rate ≡ rat
       ap (λ (s : Sent). outcome (s .answered) made (s .buffer)) replied
       ∙ ap₂ (λ (n : ℕ) (b : List ℕ). outcome (answeredWith (replyTo told bank frame) n) b (laid (replyTo told bank frame) buffer)) rated stores
       ∙ ap (λ (j : Judged). actedOn j sheet bank frame buffer) (sym is)
-
--- a good write of either function is answered by its first six bytes
-pub write-echo : (frame : List ℕ) → echo frame ≡ writeReply frame
-write-echo frame = go (eqb (function frame) writesMany) refl
-  where
-    go : (b : Bool) → eqb (function frame) writesMany ≡ b
-        → echo frame ≡ cond b (station frame ∷ writesMany ∷ wordBytes (start frame) ++ wordBytes (second frame)) (echo frame)
-    go true e =
-        ap (λ (code : ℕ). station frame ∷ code ∷ wordBytes (start frame) ++ wordBytes (second frame))
-        (eqb-true (function frame) writesMany e)
-    go false e = refl
 
 -- the stores of a run up to a stop, by their number
 pub run-stores : (frame : List ℕ) (first stop count : ℕ) → count ≡ stop - first

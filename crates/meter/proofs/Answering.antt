@@ -4,16 +4,16 @@ use mathlib.Core.Bool.{Bool, true, false, not, cond}
 use mathlib.Core.List.{List, [], _∷_}
 use Prim.Native.Nat.{ℕ}
 use native.Mathlib.Omega.{arith}
-use Rattle.sheet.specs.Rules.{sound}
-use Rattle.bank.specs.declared.Answer.{Answer}
-use Rattle.bank.specs.declared.Answer.the-variants.{Done, SheetBreaksRule, BankMisfits, BankNotSound, NotReadOnly, BadInput}
-use Rattle.bank.specs.Bank.{fits, bankSound}
-use Rattle.bank.specs.Cases.{when, firstCase}
-use Rattle.bank.specs.Calls.{checkAnswer}
+use Rattle.sheet_rules.specs.Rules.{sound}
+use Rattle.bank_rules.specs.declared.Answer.{Answer}
+use Rattle.bank_rules.specs.declared.Answer.the-variants.{Done, SheetBreaksRule, BankMisfits, BankNotSound, NotReadOnly, BadInput}
+use Rattle.bank_rules.specs.Bank.{fits, bankSound}
+use Rattle.lists.specs.Cases.{when, firstCase}
+use Rattle.bank_rules.specs.Calls.{checkAnswer}
 use Rattle.bank.proofs.Refusals.{reasons, answerOf}
-use Rattle.meter.specs.declared.Answered.the-variants as answered
-use Rattle.meter.specs.Steps.{judgedFrame}
-use Rattle.meter.specs.Answer.{Outcome, outcome, smallBuffer, actedOn, answerOutcome}
+use Rattle.meter_rules.specs.declared.Answered.the-variants as answered
+use Rattle.meter_rules.specs.Steps.{judgedFrame}
+use Rattle.meter_rules.specs.Answer.{Outcome, outcome, smallBuffer, actedOn, answerOutcome}
 
 -- what a call comes to after the check: a refusal as it is, and else 5 or what becomes of the frame
 abbrev pub afterCheck : Answer → Bool → List ℕ → List ℕ → Outcome → Outcome

@@ -2,7 +2,7 @@
 use mathlib.Core.Path.{sym, _∙_}
 use denote.Ref.{now}
 use Rattle.words.proofs.Promise.{Determined}
-use Rattle.meter.specs.Answer.{outcome}
+use Rattle.meter_rules.specs.Answer.{outcome}
 use Rattle.meter.proofs.taken_apart.Kinds as taken-apart
 use Rattle.meter.proofs.taken_apart.Reads as taken-apart-reads
 use Rattle.meter.proofs.answer.Kinds as answer

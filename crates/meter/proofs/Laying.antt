@@ -9,8 +9,8 @@ use borrow.Author.Tests.{lt-ltb, le-leb}
 use Rattle.words.specs.Words.{withByte, withWord, upper, lower}
 use Rattle.check_value.specs.Check.{valueOf}
 use Rattle.check_value.specs.Frame.{checkBytes, sealed}
-use Rattle.meter.specs.Reply.{wordBytes, withCheck}
-use Rattle.meter.specs.Answer.{laid}
+use Rattle.meter_rules.specs.Reply.{wordBytes, withCheck}
+use Rattle.meter_rules.specs.Answer.{laid}
 
 pub laid-length : (bytes buffer : List ℕ) → length bytes ≤ length buffer → length (laid bytes buffer) ≡ length buffer
 laid-length bytes buffer room = simp (length-append, length-drop) (omega arith)

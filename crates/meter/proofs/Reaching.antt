@@ -6,18 +6,18 @@ use Prim.Native.Nat.{ℕ, zero, suc, _+_, _-_, _≤_, _<_}
 use native.Mathlib.Omega.{arith}
 use lib.Dec.{leb, ltb}
 use borrow.Author.Tests.{le-leb, lt-leb, leb-true, leb-false, ltb-true}
-use Rattle.sheet.specs.declared.Area.{Area}
-use Rattle.sheet.specs.declared.Lies.the-variants.{At, Nowhere}
-use Rattle.sheet.specs.Rows.{areas, areaAt, areaCount}
-use Rattle.sheet.specs.Rules.{each, upFrom, inArea, firstLastRule, areasAscend, sound}
-use Rattle.sheet.specs.Lookup.{liesIn}
-use Rattle.sheet.specs.Cover.{areasFrom}
-use Rattle.sheet.proofs.Rows.{rows-on, rows-end, rows-all, areas-rows}
-use Rattle.sheet.proofs.Tests.{first-of, second-of}
-use Rattle.sheet.proofs.Sound.{sound-areas}
-use Rattle.bank.proofs.Walks.{up-on, up-end}
-use Rattle.meter.specs.declared.runs.Purpose.{Purpose}
-use Rattle.meter.specs.Runs.{permits, opens, allOpen}
+use Rattle.sheet_rules.specs.declared.Area.{Area}
+use Rattle.sheet_rules.specs.declared.Lies.the-variants.{At, Nowhere}
+use Rattle.sheet_rules.specs.Rows.{areas, areaAt, areaCount, areasFrom}
+use Rattle.lists.specs.Lists.{each, upFrom}
+use Rattle.sheet_rules.specs.Rules.{inArea, firstLastRule, areasAscend, sound}
+use Rattle.sheet_rules.specs.Lookup.{liesIn}
+use Rattle.lists.proofs.Walks.{rows-on, rows-end, rows-all, up-on, up-end}
+use Rattle.sheet_rules.proofs.Rows.{areas-rows}
+use Rattle.lists.proofs.Tests.{first-of, second-of}
+use Rattle.sheet_rules.proofs.Sound.{sound-areas}
+use Rattle.meter_rules.specs.declared.Purpose.{Purpose}
+use Rattle.meter_rules.specs.Runs.{permits, opens, allOpen}
 
 -- the address is open, by some areas; and each one from a next one to an end
 abbrev pub openBy : Purpose → List Area → ℕ → Bool

@@ -6,19 +6,19 @@ use mathlib.Core.Path.{_≡_, _∙_, sym, ap, ap₂}
 use mathlib.Core.Bool.{Bool, true, false, not}
 use mathlib.Core.List.{List}
 use borrow.Author.Tests.{lt-ltb, le-ltb}
-use Rattle.sheet.specs.Rows.{areas, items}
-use Rattle.sheet.specs.Rules.{upFrom}
-use Rattle.sheet.specs.Lookup.{liesIn}
-use Rattle.bank.specs.Bank.{placeIn}
-use Rattle.meter.specs.declared.Parts.{Parts}
-use Rattle.meter.specs.declared.Judged.the-variants.{WrongAddress, BadItem, GoodWrite}
-use Rattle.meter.specs.declared.runs.Purpose.the-variants.{Write}
-use Rattle.meter.specs.Frame.{partsOf, manyOf, isWrite, count, run}
-use Rattle.meter.specs.Runs.{allOpen}
-use Rattle.meter.specs.Write.{firstPlace, someBad, stopIn, stopPlace}
-use Rattle.meter.specs.Steps.{wrongAddress, judgedFrom}
-use Rattle.meter.proofs.Staging.{stops-address, stops-item, good-write, write-address, write-value, write-bad}
-use Rattle.meter.proofs.Stopping.{stop-some}
+use Rattle.sheet_rules.specs.Rows.{areas, items}
+use Rattle.lists.specs.Lists.{upFrom}
+use Rattle.sheet_rules.specs.Lookup.{liesIn}
+use Rattle.bank_rules.specs.Bank.{placeIn}
+use Rattle.meter_rules.specs.declared.Parts.{Parts}
+use Rattle.meter_rules.specs.declared.Judged.the-variants.{WrongAddress, BadItem, GoodWrite}
+use Rattle.meter_rules.specs.declared.Purpose.the-variants.{Write}
+use Rattle.meter_rules.specs.Frame.{partsOf, manyOf, isWrite, count}
+use Rattle.meter_rules.specs.Runs.{allOpen}
+use Rattle.meter_rules.specs.Write.{firstPlace, someBad, stopIn, stopPlace}
+use Rattle.meter_rules.specs.Steps.{wrongAddress, judgedFrom}
+use Rattle.meter_rules.proofs.Staging.{stops-address, stops-item, good-write, write-address, write-value, write-bad}
+use Rattle.meter_rules.proofs.Stopping.{stop-some}
 
 module _ (sheet bank frame : List ℕ) (write : isWrite frame ≡ true) (parts : Parts) (apart : parts ≡ partsOf frame) {many : ℕ}
     (counts : many ≡ manyOf (parts .function) (parts .second)) {open-to : Bool}

@@ -2,8 +2,8 @@
 -- file. Assumes nothing.
 use Prim.Native.Nat.{ℕ}
 use mathlib.Core.List.{List}
-use Rattle.meter.specs.declared.Answered.{Answered}
-use Rattle.meter.specs.Answer.{answeredWith, laid}
+use Rattle.meter_rules.specs.declared.Answered.{Answered}
+use Rattle.meter_rules.specs.Answer.{answeredWith, laid}
 
 pub record Sent : Type 0 where
   pub answered : Answered

@@ -4,9 +4,9 @@ use Prim.Native.Nat.{ℕ}
 use mathlib.Core.Path.{_≡_}
 use mathlib.Core.Bool.{true}
 use mathlib.Core.List.{List}
-use Rattle.sheet.specs.Rules.{sound}
-use Rattle.meter.specs.declared.Parts.{Parts}
-use Rattle.meter.specs.Frame.{partsOf, functionAllowed}
+use Rattle.sheet_rules.specs.Rules.{sound}
+use Rattle.meter_rules.specs.declared.Parts.{Parts}
+use Rattle.meter_rules.specs.Frame.{partsOf, functionAllowed}
 
 pub record Known (sheet frame : List ℕ) (parts : Parts) : Type 0 where
   pub sheetSound : sound sheet ≡ true

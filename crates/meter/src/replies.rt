@@ -3,13 +3,13 @@ ghost use mathlib.Core.Path.{_≡_};
 ghost use Prim.Native.Nat.{_-_, _≤_};
 ghost use mathlib.Core.Bool.{true};
 ghost use lib.ListN.{length};
-ghost use Rattle.meter.specs.Reply.{topBitSet, errorReply, echo, readReply, withCheck};
-ghost use Rattle.meter.specs.Answer.{outcome, actedOn, leastBuffer, readFits};
+ghost use Rattle.meter_rules.specs.Reply.{topBitSet, errorReply, echo, readReply, withCheck};
+ghost use Rattle.meter_rules.specs.Answer.{outcome, actedOn, leastBuffer, readFits};
 ghost use Rattle.meter.specs.Sending.{sent, sending};
-ghost use Rattle.meter.specs.Steps.{mostRead};
-use crate::Answered;
-use crate::Judged;
+ghost use Rattle.meter_rules.specs.Steps.{mostRead};
 use crate::values;
+use meter_rules::Answered;
+use meter_rules::Judged;
 
 // A function byte with its top bit set.
 fn top_bit_set(function: u8) -> u8

@@ -1,19 +1,15 @@
 // Whether a run of addresses is open to a read or to a write, and where its places begin.
 ghost use mathlib.Core.Path.{_≡_};
 ghost use mathlib.Core.Bool.{true};
-ghost use Rattle.sheet.specs.Rows.{areas};
-ghost use Rattle.sheet.specs.Rules.{sound, upFrom, inArea};
-ghost use Rattle.sheet.specs.Lookup.{liesIn};
-ghost use Rattle.bank.specs.Bank.{placeIn};
-ghost use Rattle.meter.specs.Runs.{permits, allOpen};
-use sheet::Area;
-use sheet::Lies;
-
-// What a run of addresses is for.
-pub enum Purpose {
-    Read,
-    Write,
-}
+ghost use Rattle.sheet_rules.specs.Rows.{areas};
+ghost use Rattle.sheet_rules.specs.Rules.{sound, inArea};
+ghost use Rattle.lists.specs.Lists.{upFrom};
+ghost use Rattle.sheet_rules.specs.Lookup.{liesIn};
+ghost use Rattle.bank_rules.specs.Bank.{placeIn};
+ghost use Rattle.meter_rules.specs.Runs.{permits, allOpen};
+use meter_rules::Purpose;
+use sheet_rules::Area;
+use sheet_rules::Lies;
 
 // Whether an access permits the purpose.
 fn permitted(purpose: Purpose, access: u16) -> bool

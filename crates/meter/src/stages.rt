@@ -1,17 +1,17 @@
 // The order of judgement for a frame, stage by stage: each answers where the frame stops, or hands it on to the next.
 ghost use mathlib.Core.Path.{_≡_};
 ghost use mathlib.Core.Bool.{true};
-ghost use Rattle.sheet.specs.Rules.{sound};
-ghost use Rattle.meter.specs.Frame.{reads, clears, codeAllowed, isWrite, manyOf};
-ghost use Rattle.meter.specs.Steps.{judgedFrom, judgedFrame};
+ghost use Rattle.sheet_rules.specs.Rules.{sound};
+ghost use Rattle.meter_rules.specs.Frame.{reads, clears, codeAllowed, isWrite, manyOf};
+ghost use Rattle.meter_rules.specs.Steps.{judgedFrom, judgedFrame};
 ghost use Rattle.meter.specs.Stages.{Known};
-use crate::Judged;
-use crate::Parts;
-use crate::Passed;
 use crate::runs;
-use crate::runs::Purpose;
 use crate::values;
 use crate::values::Write;
+use meter_rules::Judged;
+use meter_rules::Parts;
+use meter_rules::Passed;
+use meter_rules::Purpose;
 
 // Whether a function is one of the four and the sheet allows it.
 fn function_allowed(sheet: &[u8], function: u8) -> bool

@@ -3,13 +3,14 @@ ghost use mathlib.Core.Path.{_≡_};
 ghost use mathlib.Core.Bool.{true};
 ghost use mathlib.Core.List.{map};
 ghost use Prim.Native.Nat.{ℕ, _+_, _≤_, _<_};
-ghost use Rattle.sheet.specs.Rows.{areaCount, itemCount, itemAt, items};
-ghost use Rattle.sheet.specs.Rules.{upFrom, sound};
-ghost use Rattle.bank.specs.Stores.{stored};
-ghost use Rattle.bank.specs.Bank.{valueBy};
-ghost use Rattle.meter.specs.Frame.{valuesAt};
-ghost use Rattle.meter.specs.Write.{inRun, wouldBe, touched, badItem, stopIn, runStore};
-use sheet::Item;
+ghost use Rattle.sheet_rules.specs.Rows.{areaCount, itemCount, itemAt, items};
+ghost use Rattle.lists.specs.Lists.{upFrom};
+ghost use Rattle.sheet_rules.specs.Rules.{sound};
+ghost use Rattle.bank_rules.specs.Stores.{stored};
+ghost use Rattle.bank_rules.specs.Bank.{valueBy};
+ghost use Rattle.meter_rules.specs.Frame.{valuesAt};
+ghost use Rattle.meter_rules.specs.Write.{inRun, wouldBe, touched, badItem, stopIn, runStore};
+use sheet_rules::Item;
 
 // A write: where its values begin in the frame, the place of its first address, and how many registers it is for.
 pub struct Write {

@@ -8,12 +8,12 @@ use native.Mathlib.Numerals.{add-one}
 use native.Mathlib.Omega.{arith}
 use lib.Dec.{leb, eqb, leb·zero}
 use borrow.Author.Tests.{le-leb, leb-true}
-use Rattle.sheet.proofs.Tests.{and-left-comm, first-of, second-of}
-use Rattle.sheet.specs.declared.Area.{Area}
-use Rattle.sheet.specs.Rows.{areas, areaAt, areaCount, bankWords, functions, clearAddress}
-use Rattle.sheet.specs.Cover.{areasFrom}
-use Rattle.sheet.proofs.Rows.{rows-on, rows-end}
-use Rattle.sheet.specs.Rules.{each, some, accessRule, firstLastRule, areasAscend, placesFollow, lengthsSum, inArea, lengthOf, allowed, bitOf05, clearAddressRule, areasSound}
+use Rattle.lists.proofs.Tests.{and-left-comm, first-of, second-of}
+use Rattle.sheet_rules.specs.declared.Area.{Area}
+use Rattle.sheet_rules.specs.Rows.{areas, areaAt, areaCount, bankWords, functions, clearAddress, areasFrom}
+use Rattle.lists.proofs.Walks.{rows-on, rows-end}
+use Rattle.lists.specs.Lists.{each, some}
+use Rattle.sheet_rules.specs.Rules.{accessRule, firstLastRule, areasAscend, placesFollow, lengthsSum, inArea, lengthOf, allowed, bitOf05, clearAddressRule, areasSound}
 
 -- an area in its turn: behind the lowest address that is free, at the sum of the lengths, clear of the clear address
 abbrev pub inTurn : ℕ → ℕ → Area → Bool

@@ -6,14 +6,17 @@ use Prim.Native.Nat.{ℕ, suc, _+_, _-_, _≤_, _<_}
 use native.Mathlib.Omega.{arith}
 use lib.Dec.{leb, ltb, eqb}
 use borrow.Author.Tests.{le-leb, lt-leb, lt-ltb, le-ltb, eq-eqb, ne-eqb, eqb-true, eqb-false, ltb-true, ltb-false}
-use Rattle.sheet.specs.declared.Area.{Area}
+use Rattle.sheet_rules.specs.declared.Area.{Area}
+use Rattle.sheet_rules.specs.declared.Item.{Item}
 use Rattle.sheet.specs.declared.item_rows.Cover.{Cover}
-use Rattle.sheet.specs.Rows.{areaCount, areaAt, areas}
-use Rattle.sheet.specs.Rules.{upFrom, samePlaces, lengthOf, placesFollow, writable, writablePlaces}
-use Rattle.sheet.specs.Cover.{areasFrom, placesLeft, pairWithin, UnderWay}
-use Rattle.sheet.proofs.Rows.{rows-on, rows-end, areas-rows}
-use Rattle.sheet.proofs.Among.{Among, row-among}
-use Rattle.sheet.proofs.Within.{pair-within}
+use Rattle.sheet_rules.specs.Rows.{areaCount, areaAt, areas, areasFrom, items}
+use Rattle.lists.specs.Lists.{upFrom, samePlaces}
+use Rattle.sheet_rules.specs.Rules.{lengthOf, placesFollow, writable, writablePlaces, isPair, pairWithin}
+use Rattle.sheet.specs.Cover.{placesLeft, UnderWay, sizeOf}
+use Rattle.lists.proofs.Walks.{rows-on, rows-end}
+use Rattle.sheet_rules.proofs.Rows.{areas-rows}
+use Rattle.lists.proofs.Among.{Among, row-among}
+use Rattle.sheet_rules.proofs.Within.{pair-within}
 
 abbrev pub cover : ℕ → ℕ → ℕ → Cover
 cover next end area = record { next = next; end = end; area = area }
@@ -38,6 +41,14 @@ own-within false place length at low high = absurd (omega arith)
 pick-small : (owned : Bool) {length : ℕ} → cond owned length 0 ≤ length
 pick-small true = omega arith
 pick-small false = omega arith
+
+-- an item has one or two places
+pub size-small : (item : Item) → sizeOf item ≤ 2
+size-small item = go (isPair item)
+  where
+    go : (pair : Bool) → cond pair 2 1 ≤ 2
+    go true = omega arith
+    go false = omega arith
 
 pub wide-small : (area : Area) → cond (writable (area .access)) (lengthOf area) 0 ≤ lengthOf area
 wide-small area = pick-small (writable (area .access))

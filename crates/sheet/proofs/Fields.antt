@@ -3,9 +3,9 @@ use mathlib.Core.Path.{_≡_, ap, ap₂, _∙_}
 use mathlib.Core.List.{List}
 use Prim.Native.Nat.{ℕ, _+_, _*_}
 use Rattle.words.specs.Words.{wordAt}
-use Rattle.sheet.specs.declared.Area.{Area}
-use Rattle.sheet.specs.declared.Item.{Item}
-use Rattle.sheet.specs.Rows.{word, twoWords, areaRows, itemRows, areaAt, itemAt}
+use Rattle.sheet_rules.specs.declared.Area.{Area}
+use Rattle.sheet_rules.specs.declared.Item.{Item}
+use Rattle.sheet_rules.specs.Rows.{word, twoWords, areaRows, itemRows, areaAt, itemAt}
 
 -- a word read at one place is the word at the same place by another name
 pub word-read : (sheet : List ℕ) {read n m : ℕ} → read ≡ wordAt sheet n → n ≡ m → read ≡ wordAt sheet m

@@ -5,14 +5,16 @@ use mathlib.Core.List.{List, [], _∷_}
 use Prim.Native.Nat.{ℕ, _+_, _-_, _≤_, _<_}
 use lib.Dec.{leb, eqb}
 use borrow.Author.Tests.{eq-eqb, ne-eqb}
-use Rattle.sheet.specs.declared.Area.{Area}
-use Rattle.sheet.specs.declared.Item.{Item}
+use Rattle.sheet_rules.specs.declared.Area.{Area}
+use Rattle.sheet_rules.specs.declared.Item.{Item}
 use Rattle.sheet.specs.declared.item_rows.Cover.{Cover}
-use Rattle.sheet.specs.Rows.{rows, areas, areaCount, areaAt, items, itemAt, itemCount, addressPlace, ratePlace}
-use Rattle.sheet.specs.Rules.{each, some, kindRule, boundsRule, lowHighRule, isPair, itemPlaces, samePlaces, writablePlaces, pairRule, addressItem, rateItem, itemsSound, settingsSound, upFrom}
+use Rattle.lists.specs.Lists.{rows, each, some, samePlaces, upFrom}
+use Rattle.sheet_rules.specs.Rows.{areas, areaCount, areaAt, items, itemAt, itemCount, addressPlace, ratePlace}
+use Rattle.sheet_rules.specs.Rules.{kindRule, boundsRule, lowHighRule, isPair, itemPlaces, writablePlaces, pairRule, addressItem, rateItem, itemsSound, settingsSound}
 use Rattle.sheet.specs.Cover.{sizeOf, placesLeft, UnderWay, Opened}
-use Rattle.sheet.proofs.Tests.{and-left-comm}
-use Rattle.sheet.proofs.Rows.{rows-on, rows-end, rows-all, areas-rows, items-rows}
+use Rattle.lists.proofs.Tests.{and-left-comm}
+use Rattle.lists.proofs.Walks.{rows-on, rows-end, rows-all}
+use Rattle.sheet_rules.proofs.Rows.{areas-rows, items-rows}
 use Rattle.sheet.proofs.Covering.{cover, left-on, left-none, together}
 
 -- the rules of the items at hand, where these places are left to cover

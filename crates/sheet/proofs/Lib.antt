@@ -1,13 +1,5 @@
-pub mod Tests
-pub mod Rows
 pub mod Fields
-pub mod Among
 pub mod Areas
-pub mod Within
 pub mod Covering
 pub mod Items
-pub mod Sound
-pub mod Addresses
-pub mod Places
 pub mod Determined
-pub mod Sides

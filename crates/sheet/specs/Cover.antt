@@ -5,28 +5,21 @@ use mathlib.Core.Path.{_≡_}
 use mathlib.Core.Bool.{Bool, true, _&&_, cond}
 use mathlib.Core.List.{List, _++_}
 use lib.Dec.{ltb}
-use Rattle.sheet.specs.declared.Area.{Area}
-use Rattle.sheet.specs.declared.Item.{Item}
+use Rattle.sheet_rules.specs.declared.Area.{Area}
+use Rattle.sheet_rules.specs.declared.Item.{Item}
 use Rattle.sheet.specs.declared.item_rows.Cover.{Cover}
-use Rattle.sheet.specs.Rows.{areaCount, areaAt, rows, areas}
-use Rattle.sheet.specs.Rules.{some, upFrom, placeInArea, placesFollow, isPair, writablePlaces}
+use Rattle.sheet_rules.specs.Rows.{areaCount, areas, areasFrom}
+use Rattle.lists.specs.Lists.{some, upFrom}
+use Rattle.sheet_rules.specs.Rules.{placeInArea, placesFollow, isPair, writablePlaces, pairWithin}
 
 -- how many places an item has
 abbrev pub sizeOf : Item → ℕ
 sizeOf item = cond (isPair item) 2 1
 
--- the area rows from an index on
-abbrev pub areasFrom : List ℕ → ℕ → List Area
-areasFrom sheet k = rows (areaAt sheet) k (areaCount sheet - k)
-
 -- the places that are left to cover: those of the area at hand, and those of the access 3 areas behind it
 unfoldable pub placesLeft : List ℕ → Cover → List ℕ
 placesLeft sheet cover =
     upFrom (cover .next) (cover .end - cover .next) ++ writablePlaces (areasFrom sheet (cover .area))
-
--- a place and the next one lie within one area
-abbrev pub pairWithin : List Area → ℕ → Bool
-pairWithin all place = some (λ area. placeInArea place area && placeInArea (place + 1) area) all
 
 -- a cover that is under way: a pair at a place that is left of the area at hand lies within one area just where the next place is left
 -- of that area too

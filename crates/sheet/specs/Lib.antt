@@ -1,4 +1,1 @@
-pub mod Rows
-pub mod Rules
-pub mod Lookup
 pub mod Cover

@@ -4,9 +4,9 @@ ghost use mathlib.Core.Bool.{not, _&&_, _||_};
 ghost use Prim.Native.Nat.{_*_, _/_, _%_};
 ghost use lib.Dec.{leb, eqb};
 ghost use lib.ListN.{length};
-ghost use Rattle.sheet.specs.Rows.{rowsEnd};
-ghost use Rattle.sheet.specs.Rules.{bitOf05, readable, accessRule, firstLastRule, inArea, lengthOf, areasSound};
-use crate::Area;
+ghost use Rattle.sheet_rules.specs.Rows.{rowsEnd};
+ghost use Rattle.sheet_rules.specs.Rules.{bitOf05, readable, accessRule, firstLastRule, inArea, lengthOf, areasSound};
+use sheet_rules::Area;
 
 // "1 for 03, 2 for 05, 4 for 06, 8 for 10, summed": whether 05 is in the sum.
 fn sums_05(functions: u16) -> bool

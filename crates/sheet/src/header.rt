@@ -1,6 +1,7 @@
 // The header's rules. 01: "Header, 12 words: 0 version, 1; 1 number of areas A, 1 to 8; ..".
 ghost use mathlib.Core.Path.{_≡_};
-ghost use Rattle.sheet.specs.Rules.{between, headerSound};
+ghost use Rattle.lists.specs.Lists.{between};
+ghost use Rattle.sheet_rules.specs.Rules.{headerSound};
 use crate::word;
 
 // Whether a number is one of "1 to 8" and the like.

@@ -4,11 +4,11 @@ ghost use mathlib.Core.Bool.{true, cond, _&&_, _||_};
 ghost use Prim.Native.Nat.{_+_, _*_, _<_};
 ghost use lib.Dec.{leb, eqb};
 ghost use lib.ListN.{length};
-ghost use Rattle.sheet.specs.Rows.{areaCount, rowsEnd, areas};
-ghost use Rattle.sheet.specs.Rules.{writable, lengthOf, placesFollow, kindRule, boundsRule, lowHighRule, settingAt, addressItem, rateItem, itemsSound, settingsSound};
+ghost use Rattle.sheet_rules.specs.Rows.{areaCount, rowsEnd, areas};
+ghost use Rattle.sheet_rules.specs.Rules.{writable, lengthOf, placesFollow, kindRule, boundsRule, lowHighRule, settingAt, addressItem, rateItem, itemsSound, settingsSound};
 ghost use Rattle.sheet.specs.Cover.{UnderWay, Opened, sizeOf};
-use crate::Area;
-use crate::Item;
+use sheet_rules::Area;
+use sheet_rules::Item;
 
 // How far the places of the access 3 areas are covered: `next` is the next place, `end` ends the places of its area, and `area` is
 // the index of the area behind that one.

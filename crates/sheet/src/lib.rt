@@ -3,41 +3,18 @@ ghost use mathlib.Core.Path.{_≡_};
 ghost use Prim.Native.Nat.{_+_, _*_, _≤_};
 ghost use lib.ListN.{length};
 ghost use Rattle.words.specs.Words.{wordAt};
-ghost use Rattle.sheet.specs.Rows.{areaRows, word, areaCount, itemCount, bankWords, functions, addressPlace, ratePlace, clearAddress, areaAt, itemAt, areas};
-ghost use Rattle.sheet.specs.Rules.{judgedSheet, inArea};
-ghost use Rattle.sheet.specs.Lookup.{liesIn};
+ghost use Rattle.sheet_rules.specs.Rows.{areaRows, word, areaCount, itemCount, bankWords, functions, addressPlace, ratePlace, clearAddress, areaAt, itemAt, areas};
+ghost use Rattle.sheet_rules.specs.Rules.{judgedSheet, inArea};
+ghost use Rattle.sheet_rules.specs.Lookup.{liesIn};
 
 mod area_rows;
 mod header;
 mod item_rows;
 
-// An area row. 01: "first address, last address, first place, access".
-pub struct Area {
-    pub first: u16,
-    pub last: u16,
-    pub place: u16,
-    pub access: u16,
-}
-
-// An item row. 01: "kind .., first place, low bound in two words, high bound in two words".
-pub struct Item {
-    pub kind: u16,
-    pub place: u16,
-    pub low: u32,
-    pub high: u32,
-}
-
-// What the check of a sheet answers.
-pub enum SheetJudged {
-    Sound,
-    BreaksRule,
-}
-
-// What lies at an address.
-pub enum Lies {
-    At { place: u32, access: u16 },
-    Nowhere,
-}
+use sheet_rules::Area;
+use sheet_rules::Item;
+use sheet_rules::Lies;
+use sheet_rules::SheetJudged;
 
 // A word of the sheet, counted from 0; 0 past the end.
 fn word(sheet: &[u8], n: u32) -> u16

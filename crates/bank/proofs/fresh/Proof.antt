@@ -3,10 +3,10 @@
 use mathlib.Core.Path.{refl, _∙_, sym}
 use borrow.Author.Tests.{not-true, not-false}
 use denote.Ref.{now}
-use Rattle.bank.specs.declared.Answer.the-variants.{SheetBreaksRule, BankMisfits}
-use Rattle.bank.specs.Bank.{freshStores}
-use Rattle.bank.specs.Cases.{firstCase}
-use Rattle.bank.specs.Calls.{freshAnswer, freshOutcome}
+use Rattle.bank_rules.specs.declared.Answer.the-variants.{SheetBreaksRule, BankMisfits}
+use Rattle.bank_rules.specs.Bank.{freshStores}
+use Rattle.lists.specs.Cases.{firstCase}
+use Rattle.bank_rules.specs.Calls.{freshAnswer, freshOutcome}
 use Rattle.bank.proofs.Refusals.{sheet-sound, sheet-broken, outcome-refused, outcome-done}
 use borrow.Author.Needs.{needs}
 use Rattle.bank.proofs.fresh.Statement.{statement}

@@ -7,13 +7,13 @@ use mathlib.Core.List.{List, [], _∷_}
 use borrow.Author.Tests.{eq-eqb, ne-eqb, not-true, not-false}
 use denote.Ref.{now}
 use lib.ListN.{length}
-use Rattle.bank.specs.declared.Answer.{Answer}
-use Rattle.bank.specs.declared.Answer.the-variants.{BadInput, NotReadOnly}
-use Rattle.bank.specs.Bank.{emptyOrOdd, postStores}
-use Rattle.bank.specs.Cases.{Case, when, firstCase}
-use Rattle.bank.specs.Calls.{badAddress, postAnswer, postOutcome}
+use Rattle.bank_rules.specs.declared.Answer.{Answer}
+use Rattle.bank_rules.specs.declared.Answer.the-variants.{BadInput, NotReadOnly}
+use Rattle.bank_rules.specs.Bank.{emptyOrOdd, postStores}
+use Rattle.lists.specs.Cases.{Case, when, firstCase}
+use Rattle.bank_rules.specs.Calls.{badAddress, postAnswer, postOutcome}
 use Rattle.bank.proofs.Refusals.{not-done, check-refuses, check-passes, outcome-refused, outcome-done}
-use Rattle.bank.proofs.Reach.{read-only-run}
+use Rattle.bank_rules.proofs.Reach.{read-only-run}
 use borrow.Author.Needs.{needs}
 use Rattle.bank.proofs.post.Statement.{statement}
 use Rattle.bank.proofs.post.Tie as tie

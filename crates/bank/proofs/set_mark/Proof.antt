@@ -7,11 +7,11 @@ use mathlib.Core.List.{[], _∷_}
 use borrow.Author.Tests.{le-leb, lt-leb}
 use denote.Ref.{now}
 use Rattle.words.specs.Words.{withWord}
-use Rattle.bank.specs.declared.Answer.the-variants.{BadInput}
-use Rattle.bank.specs.Stores.{stored}
-use Rattle.bank.specs.Bank.{markStores}
-use Rattle.bank.specs.Cases.{when, firstCase}
-use Rattle.bank.specs.Calls.{badMark, markAnswer, markOutcome}
+use Rattle.bank_rules.specs.declared.Answer.the-variants.{BadInput}
+use Rattle.bank_rules.specs.Stores.{stored}
+use Rattle.bank_rules.specs.Bank.{markStores}
+use Rattle.lists.specs.Cases.{when, firstCase}
+use Rattle.bank_rules.specs.Calls.{badMark, markAnswer, markOutcome}
 use Rattle.bank.proofs.Refusals.{not-done, check-refuses, check-passes, outcome-refused, outcome-done}
 use borrow.Author.Needs.{needs}
 use Rattle.bank.proofs.set_mark.Statement.{statement}

@@ -8,13 +8,14 @@ use borrow.Author.Tests.{not-true, not-false}
 use denote.Ref.{now}
 use lib.Dec.{leb}
 use Rattle.words.specs.Words.{wordAt}
-use Rattle.sheet.specs.Rows.{itemCount, itemAt, rows, items}
-use Rattle.sheet.specs.Rules.{each}
-use Rattle.sheet.proofs.Rows.{rows-on, rows-end, rows-all, items-rows}
-use Rattle.bank.specs.Stores.{wordOf}
-use Rattle.bank.specs.Bank.{goodBy, bankSound}
+use Rattle.sheet_rules.specs.Rows.{itemCount, itemAt, items}
+use Rattle.lists.specs.Lists.{rows, each}
+use Rattle.lists.proofs.Walks.{rows-on, rows-end, rows-all, each-goes-on, each-stops, each-ends}
+use Rattle.sheet_rules.proofs.Rows.{items-rows}
+use Rattle.bank_rules.specs.Stores.{wordOf}
+use Rattle.bank_rules.specs.Bank.{goodBy, bankSound}
 use Rattle.bank.proofs.Good.{good-told}
-use Rattle.bank.proofs.Walks.{row-inside, each-goes-on, each-stops, each-ends}
+use Rattle.sheet_rules.proofs.Sound.{row-inside}
 use Rattle.bank.proofs.sound.Statement.{statement}
 use Rattle.bank.proofs.sound.Tie as tie
 

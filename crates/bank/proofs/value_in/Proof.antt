@@ -6,7 +6,7 @@ use borrow.Author.Tests.{eq-eqb, ne-eqb}
 use denote.Ref.{now}
 use Rattle.words.specs.Words.{wordAt}
 use Rattle.range.specs.Range.{unsignedPair}
-use Rattle.bank.proofs.Stores.{next-place}
+use Rattle.bank_rules.proofs.Stores.{next-place}
 use borrow.Author.Needs.{needs}
 use Rattle.bank.proofs.value_in.Statement.{statement}
 use Rattle.bank.proofs.value_in.Tie as tie

@@ -2,7 +2,7 @@
 -- Assumes nothing.
 use mathlib.Core.Path.{_∙_, ap, ap₂}
 use Prim.Native.Nat.{ℕ}
-use Rattle.meter.specs.Answer as meter
+use Rattle.meter_rules.specs.Answer as meter
 use Rattle.cedarskein.specs.Door.{handed, handedOf}
 use borrow.Author.Needs.{needs}
 use Rattle.cedarskein.proofs.cedarskein_answer.Statement.{statement}

@@ -1,7 +1,7 @@
 -- `cedarskein::cedarskein_bank_check` meets its contract: the number of the answer.
 -- Assumes nothing.
 use mathlib.Core.Path.{_∙_, ap}
-use Rattle.bank.specs.Calls.{numberOf}
+use Rattle.bank_rules.specs.Calls.{numberOf}
 use borrow.Author.Needs.{needs}
 use Rattle.cedarskein.proofs.cedarskein_bank_check.Statement.{statement}
 use Rattle.cedarskein.proofs.cedarskein_bank_check.Tie as tie

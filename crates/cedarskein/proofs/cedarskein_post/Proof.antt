@@ -1,7 +1,7 @@
 -- `cedarskein::cedarskein_post` meets its contract: the number of the answer, and the bank as the call leaves it.
 -- Assumes nothing.
 use denote.Ref.{now}
-use Rattle.bank.specs.Calls.{postOutcome}
+use Rattle.bank_rules.specs.Calls.{postOutcome}
 use Rattle.cedarskein.proofs.Telling.{number-told}
 use borrow.Author.Needs.{needs}
 use Rattle.cedarskein.proofs.cedarskein_post.Statement.{statement}

@@ -1,7 +1,7 @@
 -- `cedarskein::cedarskein_sheet_check` meets its contract: the number of the judgement.
 -- Assumes nothing.
 use mathlib.Core.Path.{_∙_, ap}
-use Rattle.sheet.specs.Rules.{sheetNumber}
+use Rattle.sheet_rules.specs.Rules.{sheetNumber}
 use borrow.Author.Needs.{needs}
 use Rattle.cedarskein.proofs.cedarskein_sheet_check.Statement.{statement}
 use Rattle.cedarskein.proofs.cedarskein_sheet_check.Tie as tie

@@ -6,13 +6,13 @@ use mathlib.Core.List.{List}
 use native.Mathlib.Omega.{arith}
 use denote.Ref.{now}
 use borrow.Author.Needs.{needs}
-use Rattle.sheet.specs.declared.Area.{Area}
-use Rattle.sheet.specs.Rows.{areas, areaAt, areaCount}
+use Rattle.sheet_rules.specs.declared.Area.{Area}
+use Rattle.sheet_rules.specs.Rows.{areas, areaAt, areaCount, areasFrom}
 use mathlib.Core.Bool.{true}
-use Rattle.sheet.specs.Rules.{placeInArea}
-use Rattle.sheet.specs.Lookup.{addressOf}
-use Rattle.sheet.specs.Cover.{areasFrom}
-use Rattle.sheet.proofs.Rows.{rows-all, areas-rows}
+use Rattle.sheet_rules.specs.Rules.{placeInArea}
+use Rattle.sheet_rules.specs.Lookup.{addressOf}
+use Rattle.lists.proofs.Walks.{rows-all}
+use Rattle.sheet_rules.proofs.Rows.{areas-rows}
 use Rattle.listing.proofs.Addresses.{place-from, address-on, address-end}
 use Rattle.listing.proofs.address_of.Statement.{statement}
 use Rattle.listing.proofs.address_of.Tie as tie

@@ -4,8 +4,8 @@ use mathlib.Core.Path.{refl, ap, _∙_}
 use mathlib.Core.List.{[], _∷_}
 use denote.Ref.{now}
 use borrow.Author.Needs.{needs}
-use Rattle.sheet.specs.declared.Item.{Item}
-use Rattle.sheet.specs.Rows.{areas}
+use Rattle.sheet_rules.specs.declared.Item.{Item}
+use Rattle.sheet_rules.specs.Rows.{areas}
 use Rattle.listing.specs.Text.{blank, lineFeed, hexadecimal, itemText}
 use Rattle.listing.specs.Line.{lineOf}
 use Rattle.listing.proofs.Lines.{line-on, line-on-byte}

@@ -4,10 +4,10 @@ use mathlib.Core.Path.{_∙_, ap}
 use borrow.Author.Tests.{lt-ltb, le-ltb}
 use denote.Ref.{now}
 use lib.ListN.{length}
-use Rattle.meter.specs.declared.Judged.{Judged}
-use Rattle.meter.specs.Answer.{leastBuffer, readFits, actedOn}
+use Rattle.meter_rules.specs.declared.Judged.{Judged}
+use Rattle.meter_rules.specs.Answer.{leastBuffer, readFits, actedOn}
 use Rattle.meter.proofs.Answering.{answered-by, answered-sized, done-sound}
-use Rattle.meter.proofs.Staging.{judged-fits}
+use Rattle.meter_rules.proofs.Staging.{judged-fits}
 use borrow.Author.Needs.{needs}
 use Rattle.meter.proofs.answer.Statement.{statement}
 use Rattle.meter.proofs.answer.Tie as tie

@@ -4,8 +4,8 @@ use mathlib.Core.Path.{_∙_, sym}
 use borrow.Author.Tests.{not-true, not-false}
 use denote.Ref.{now}
 use lib.ListN.{length}
-use Rattle.meter.specs.declared.Passed.the-variants.{Frame}
-use Rattle.meter.specs.Frame.{passedFrame}
+use Rattle.meter_rules.specs.declared.Passed.the-variants.{Frame}
+use Rattle.meter_rules.specs.Frame.{passedFrame}
 use borrow.Author.Needs.{needs}
 use Rattle.meter.proofs.taken_apart.Statement.{statement}
 use Rattle.meter.proofs.taken_apart.Tie as tie

@@ -2,7 +2,7 @@
 use native.Mathlib.Omega.{arith}
 use Prim.Native.Nat.{_+_, _*_}
 use denote.Ref.{now}
-use Rattle.sheet.specs.Rows.{itemRows}
+use Rattle.sheet_rules.specs.Rows.{itemRows}
 use Rattle.sheet.proofs.Fields.{word-read, pair-read, item-read}
 use borrow.Author.Needs.{needs}
 use Rattle.sheet.proofs.item_inside.Statement.{statement}

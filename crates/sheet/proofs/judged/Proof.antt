@@ -1,9 +1,9 @@
 -- `sheet::judged` meets its contract: each return by the tests that led there. Assumes nothing.
 use mathlib.Core.Path.{sym, ap, _∙_}
 use denote.Ref.{now}
-use Rattle.sheet.specs.Rules.{areasSound, sound, soundOrBroken}
-use Rattle.sheet.proofs.Tests.{refused, passed}
-use Rattle.sheet.proofs.Sound.{follows, rows-length, rest-of}
+use Rattle.sheet_rules.specs.Rules.{areasSound, sound, soundOrBroken}
+use Rattle.lists.proofs.Tests.{refused, passed}
+use Rattle.sheet_rules.proofs.Sound.{follows, rows-length, rest-of}
 use borrow.Author.Needs.{needs}
 use Rattle.sheet.proofs.judged.Statement.{statement}
 use Rattle.sheet.proofs.judged.Tie as tie

@@ -8,12 +8,12 @@ use lib.Dec.{leb}
 use denote.Ref.{now}
 use borrow.Author.Needs.{needs}
 use borrow.Author.Tests.{leb-true}
-use Rattle.sheet.specs.declared.Area.{Area}
-use Rattle.sheet.specs.Rows.{areas, areaAt, areaCount}
-use Rattle.sheet.specs.Lookup.{liesIn}
-use Rattle.sheet.specs.Cover.{areasFrom}
-use Rattle.sheet.proofs.Tests.{first-of, second-of}
-use Rattle.sheet.proofs.Rows.{rows-all, areas-rows, lies-on, lies-end}
+use Rattle.sheet_rules.specs.declared.Area.{Area}
+use Rattle.sheet_rules.specs.Rows.{areas, areaAt, areaCount, areasFrom}
+use Rattle.sheet_rules.specs.Lookup.{liesIn}
+use Rattle.lists.proofs.Tests.{first-of, second-of}
+use Rattle.lists.proofs.Walks.{rows-all}
+use Rattle.sheet_rules.proofs.Rows.{areas-rows, lies-on, lies-end}
 use Rattle.sheet.proofs.lies_at.Statement.{statement}
 use Rattle.sheet.proofs.lies_at.Tie as tie
 

@@ -5,9 +5,9 @@ use mathlib.Core.Path.{_∙_, ap}
 use mathlib.Core.List.{map}
 use denote.Ref.{now}
 use Rattle.words.specs.Words.{withWord}
-use Rattle.sheet.specs.Rules.{upFrom}
-use Rattle.bank.specs.Stores.{stored}
-use Rattle.bank.specs.Bank.{zeroAt}
+use Rattle.lists.specs.Lists.{upFrom}
+use Rattle.bank_rules.specs.Stores.{stored}
+use Rattle.bank_rules.specs.Bank.{zeroAt}
 use Rattle.bank.proofs.Making.{fresh-made}
 use borrow.Author.Needs.{needs}
 use Rattle.bank.proofs.fresh_words.store_fresh.Statement.{statement}

@@ -6,8 +6,8 @@ use mathlib.Core.Path.{_∙_, ap₂}
 use borrow.Author.Tests.{eq-eqb, ne-eqb}
 use Rattle.words.specs.Words.{withWord}
 use Rattle.range.specs.Range.{unsignedPair}
-use Rattle.bank.specs.Stores.{stored}
-use Rattle.bank.proofs.Stores.{next-place}
+use Rattle.bank_rules.specs.Stores.{stored}
+use Rattle.bank_rules.proofs.Stores.{next-place}
 use borrow.Author.Needs.{needs}
 use Rattle.bank.proofs.fresh_words.store_item.Statement.{statement}
 use Rattle.bank.proofs.fresh_words.store_item.Tie as tie

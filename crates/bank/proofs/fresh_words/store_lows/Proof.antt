@@ -8,13 +8,15 @@ use mathlib.Core.Path.{_≡_, refl, _∙_, sym, ap}
 use mathlib.Core.List.{List, _∷_}
 use denote.Ref.{now}
 use lib.ListN.{length}
-use Rattle.sheet.specs.declared.Item.{Item}
-use Rattle.sheet.specs.Rows.{itemCount, itemAt, rows, items}
-use Rattle.sheet.proofs.Rows.{rows-on, rows-end, rows-all, items-rows}
-use Rattle.bank.specs.Stores.{stored}
-use Rattle.bank.specs.Bank.{itemStores, lowStores}
-use Rattle.bank.proofs.Walks.{row-inside}
-use Rattle.bank.proofs.Stores.{stored-append, stored-length}
+use Rattle.sheet_rules.specs.declared.Item.{Item}
+use Rattle.sheet_rules.specs.Rows.{itemCount, itemAt, items}
+use Rattle.lists.specs.Lists.{rows}
+use Rattle.lists.proofs.Walks.{rows-on, rows-end, rows-all}
+use Rattle.sheet_rules.proofs.Rows.{items-rows}
+use Rattle.bank_rules.specs.Stores.{stored}
+use Rattle.bank_rules.specs.Bank.{itemStores, lowStores}
+use Rattle.sheet_rules.proofs.Sound.{row-inside}
+use Rattle.bank_rules.proofs.Stores.{stored-append, stored-length}
 use Rattle.bank.proofs.fresh_words.store_lows.Statement.{statement}
 use Rattle.bank.proofs.fresh_words.store_lows.Tie as tie
 

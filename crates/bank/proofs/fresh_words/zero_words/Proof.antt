@@ -9,10 +9,10 @@ use mathlib.Core.List.{map}
 use denote.Ref.{now}
 use lib.ListN.{length}
 use Rattle.words.proofs.Stores.{word-length}
-use Rattle.sheet.specs.Rules.{upFrom}
-use Rattle.bank.specs.Stores.{stored}
-use Rattle.bank.specs.Bank.{zeroAt}
-use Rattle.bank.proofs.Walks.{storesFrom, stores-start, stores-go-on, stores-end}
+use Rattle.lists.specs.Lists.{upFrom}
+use Rattle.bank_rules.specs.Stores.{stored}
+use Rattle.bank_rules.specs.Bank.{zeroAt}
+use Rattle.bank_rules.proofs.Stores.{storesFrom, stores-start, stores-go-on, stores-end}
 use Rattle.bank.proofs.fresh_words.zero_words.Statement.{statement}
 use Rattle.bank.proofs.fresh_words.zero_words.Tie as tie
 

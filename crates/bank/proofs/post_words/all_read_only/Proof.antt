@@ -7,12 +7,12 @@ use mathlib.Core.Path.{_≡_, _∙_, sym, ap}
 use mathlib.Core.Bool.{Bool}
 use borrow.Author.Tests.{not-true, not-false}
 use denote.Ref.{now}
-use Rattle.sheet.specs.Rows.{areas}
-use Rattle.sheet.specs.Rules.{upFrom}
-use Rattle.sheet.specs.Lookup.{liesIn}
-use Rattle.bank.specs.Bank.{isReadOnly, allReadOnly}
-use Rattle.bank.proofs.Walks.{up-on, up-end, up-all, each-goes-on, each-stops, each-ends}
-use Rattle.bank.proofs.Reach.{read-only-below}
+use Rattle.sheet_rules.specs.Rows.{areas}
+use Rattle.lists.specs.Lists.{upFrom}
+use Rattle.sheet_rules.specs.Lookup.{liesIn}
+use Rattle.bank_rules.specs.Bank.{isReadOnly, allReadOnly}
+use Rattle.lists.proofs.Walks.{up-on, up-end, up-all, each-goes-on, each-stops, each-ends}
+use Rattle.bank_rules.proofs.Reach.{read-only-below}
 use Rattle.bank.proofs.post_words.all_read_only.Statement.{statement}
 use Rattle.bank.proofs.post_words.all_read_only.Tie as tie
 

@@ -1,7 +1,7 @@
 -- `bank::post_words::is_read_only` meets its contract, case by case.
 -- Assumes nothing.
 use mathlib.Core.Path.{ap, sym}
-use Rattle.bank.specs.Bank.{isReadOnly}
+use Rattle.bank_rules.specs.Bank.{isReadOnly}
 use borrow.Author.Needs.{needs}
 use Rattle.bank.proofs.post_words.is_read_only.Statement.{statement}
 use Rattle.bank.proofs.post_words.is_read_only.Tie as tie

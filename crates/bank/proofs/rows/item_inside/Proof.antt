@@ -3,7 +3,7 @@ use Prim.Native.Nat.{ℕ, _+_, _*_}
 use mathlib.Core.Path.{_≡_, ap, _∙_}
 use denote.Ref.{now}
 use borrow.Author.Needs.{needs}
-use Rattle.sheet.specs.Rows.{word, twoWords, itemRows, itemAt}
+use Rattle.sheet_rules.specs.Rows.{word, twoWords, itemRows, itemAt}
 use Rattle.bank.proofs.rows.item_inside.Statement.{statement}
 use Rattle.bank.proofs.rows.item_inside.Tie as tie
 

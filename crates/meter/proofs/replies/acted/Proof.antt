@@ -6,13 +6,14 @@ use mathlib.Core.List.{List}
 use borrow.Author.Tests.{leb-true}
 use denote.Ref.{now}
 use Rattle.words.specs.Words.{wordAt, withWord}
-use Rattle.bank.specs.Stores.{stored}
-use Rattle.meter.specs.declared.Judged.the-variants.{FailsCheck, OtherStation, FunctionNotAllowed, WrongLength, WrongCount, WrongAddress, WrongValue, BadItem, GoodRead, GoodClear, GoodWrite}
-use Rattle.meter.specs.Steps.{mostRead}
-use Rattle.meter.specs.Reply.{replyTo, storesOf, withCheck}
-use Rattle.meter.specs.Answer.{readFits}
+use Rattle.bank_rules.specs.Stores.{stored}
+use Rattle.meter_rules.specs.declared.Judged.the-variants.{FailsCheck, OtherStation, FunctionNotAllowed, WrongLength, WrongCount, WrongAddress, WrongValue, BadItem, GoodRead, GoodClear, GoodWrite}
+use Rattle.meter_rules.specs.Steps.{mostRead}
+use Rattle.meter_rules.specs.Reply.{replyTo, storesOf, withCheck}
+use Rattle.meter_rules.specs.Answer.{readFits}
 use Rattle.meter.specs.Sending.{sending}
-use Rattle.meter.proofs.Acting.{acted-sent, write-echo, run-stores, many-stores}
+use Rattle.meter.proofs.Acting.{acted-sent, run-stores, many-stores}
+use Rattle.meter_rules.proofs.Reading.{write-echo}
 use borrow.Author.Needs.{needs}
 use Rattle.meter.proofs.replies.acted.Statement.{statement}
 use Rattle.meter.proofs.replies.acted.Tie as tie

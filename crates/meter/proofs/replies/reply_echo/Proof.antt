@@ -5,9 +5,9 @@ use mathlib.Core.Path.{refl, _∙_, ap}
 use mathlib.Core.List.{[], _∷_}
 use denote.Ref.{now}
 use Rattle.words.specs.Words.{withByte, withWord}
-use Rattle.meter.specs.declared.Answered.the-variants.{Reply}
-use Rattle.meter.specs.Frame.{station, function, start, second}
-use Rattle.meter.specs.Reply.{wordBytes, echo, withCheck}
+use Rattle.meter_rules.specs.declared.Answered.the-variants.{Reply}
+use Rattle.meter_rules.specs.Frame.{station, function, start, second}
+use Rattle.meter_rules.specs.Reply.{wordBytes, echo, withCheck}
 use Rattle.meter.specs.Sending.{sent}
 use Rattle.meter.proofs.Laying.{then-byte, then-word, then-sealed}
 use borrow.Author.Needs.{needs}

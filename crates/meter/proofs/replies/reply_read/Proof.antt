@@ -10,15 +10,15 @@ use lib.ListN.{length, take, length-append}
 use lib.Seq.{length-take-le}
 use Rattle.words.specs.Words.{withByte, withWord}
 use Rattle.words.proofs.Stores.{word-length}
-use Rattle.sheet.specs.Rules.{upFrom}
-use Rattle.bank.specs.Stores.{wordOf}
-use Rattle.meter.specs.declared.Answered.the-variants.{Reply}
-use Rattle.meter.specs.Frame.{reads, station}
-use Rattle.meter.specs.Reply.{wordBytes, bankRun, readReply, withCheck}
-use Rattle.meter.specs.Answer.{laid, leastBuffer}
+use Rattle.lists.specs.Lists.{upFrom}
+use Rattle.bank_rules.specs.Stores.{wordOf}
+use Rattle.meter_rules.specs.declared.Answered.the-variants.{Reply}
+use Rattle.meter_rules.specs.Frame.{reads, station}
+use Rattle.meter_rules.specs.Reply.{wordBytes, bankRun, readReply, withCheck}
+use Rattle.meter_rules.specs.Answer.{laid, leastBuffer}
 use Rattle.meter.specs.Sending.{sent}
 use Rattle.meter.proofs.Laying.{then-byte, then-word, then-sealed, laid-over, laid-first}
-use Rattle.meter.proofs.Reading.{run-more, run-length, check-length, read-length}
+use Rattle.meter_rules.proofs.Reading.{run-more, run-length, check-length, read-length}
 use Rattle.meter.proofs.replies.reply_read.Statement.{statement}
 use Rattle.meter.proofs.replies.reply_read.Tie as tie
 

@@ -8,11 +8,10 @@ use mathlib.Core.Path.{_≡_, sym, subst, _∙_}
 use mathlib.Core.List.{_∷_}
 use mathlib.Core.Logic.{⊎-elim}
 use denote.Ref.{now}
-use Rattle.sheet.specs.Rows.{areaCount}
-use Rattle.sheet.specs.Rules.{upFrom}
-use Rattle.sheet.specs.Cover.{areasFrom}
-use Rattle.sheet.proofs.Tests.{refused, passed}
-use Rattle.meter.specs.Runs.{allOpen}
+use Rattle.sheet_rules.specs.Rows.{areaCount, areasFrom}
+use Rattle.lists.specs.Lists.{upFrom}
+use Rattle.lists.proofs.Tests.{refused, passed}
+use Rattle.meter_rules.specs.Runs.{allOpen}
 use Rattle.meter.proofs.Reaching.{Reached, reached-start, reached-row, reached-rows, reached-on, reached-shut, reached-over, reached-all}
 use Rattle.meter.proofs.runs.all_open.Statement.{statement}
 use Rattle.meter.proofs.runs.all_open.Tie as tie

@@ -1,7 +1,7 @@
 -- `meter::runs::permitted` meets its contract. Assumes nothing.
 use borrow.Author.Tests.{eq-eqb, ne-eqb}
 use borrow.Author.Needs.{needs}
-use Rattle.sheet.specs.Rules.{readOnly}
+use Rattle.sheet_rules.specs.Rules.{readOnly}
 use Rattle.meter.proofs.runs.permitted.Statement.{statement}
 use Rattle.meter.proofs.runs.permitted.Tie as tie
 

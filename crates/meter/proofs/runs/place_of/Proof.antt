@@ -1,7 +1,7 @@
 -- `meter::runs::place_of` meets its contract. Assumes nothing.
 use mathlib.Core.Path.{_∙_, sym, ap}
 use borrow.Author.Needs.{needs}
-use Rattle.bank.specs.Bank.{placeIn}
+use Rattle.bank_rules.specs.Bank.{placeIn}
 use Rattle.meter.proofs.runs.place_of.Statement.{statement}
 use Rattle.meter.proofs.runs.place_of.Tie as tie
 

@@ -4,7 +4,7 @@ use Prim.Native.Nat.{ℕ, _/_, _%_}
 use mathlib.Core.Path.{_∙_, sym, ap}
 use denote.Ref.{now}
 use lib.Dec.{eqb}
-use Rattle.meter.proofs.Order.{code-read, code-clear, code-one, code-many, code-none}
+use Rattle.meter_rules.proofs.Order.{code-read, code-clear, code-one, code-many, code-none}
 use borrow.Author.Needs.{needs}
 use Rattle.meter.proofs.stages.function_allowed.Statement.{statement}
 use Rattle.meter.proofs.stages.function_allowed.Tie as tie

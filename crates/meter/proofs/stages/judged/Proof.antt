@@ -6,11 +6,11 @@ use mathlib.Core.Bool.{not}
 use borrow.Author.Tests.{eq-eqb, ne-eqb, not-true, not-false}
 use denote.Ref.{now}
 use Rattle.words.specs.Words.{wordAt}
-use Rattle.meter.specs.declared.Parts.{Parts}
-use Rattle.meter.specs.Frame.{station, function, codeAllowed}
-use Rattle.bank.specs.Bank.{stationOf}
+use Rattle.meter_rules.specs.declared.Parts.{Parts}
+use Rattle.meter_rules.specs.Frame.{station, function, codeAllowed}
+use Rattle.bank_rules.specs.Bank.{stationOf}
 use Rattle.meter.proofs.Passing.{passed-parts, passed-true, passed-false}
-use Rattle.meter.proofs.Staging.{stops-check, stops-station, stops-function, passes-function}
+use Rattle.meter_rules.proofs.Staging.{stops-check, stops-station, stops-function, passes-function}
 use borrow.Author.Needs.{needs}
 use Rattle.meter.proofs.stages.judged.Statement.{statement}
 use Rattle.meter.proofs.stages.judged.Tie as tie

@@ -5,10 +5,10 @@ use mathlib.Core.Path.{_∙_, sym, ap}
 use mathlib.Core.Bool.{not}
 use borrow.Author.Tests.{eq-eqb, ne-eqb}
 use denote.Ref.{now}
-use Rattle.sheet.specs.Rows.{clearAddress}
-use Rattle.meter.specs.declared.Parts.{Parts}
-use Rattle.meter.specs.Frame.{function, start, second}
-use Rattle.meter.proofs.Staging.{clear-address, clear-value, stops-address, stops-value, good-clear}
+use Rattle.sheet_rules.specs.Rows.{clearAddress}
+use Rattle.meter_rules.specs.declared.Parts.{Parts}
+use Rattle.meter_rules.specs.Frame.{function, start, second}
+use Rattle.meter_rules.proofs.Staging.{clear-address, clear-value, stops-address, stops-value, good-clear}
 use borrow.Author.Needs.{needs}
 use Rattle.meter.proofs.stages.judged_clear.Statement.{statement}
 use Rattle.meter.proofs.stages.judged_clear.Tie as tie

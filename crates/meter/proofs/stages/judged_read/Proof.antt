@@ -7,18 +7,18 @@ use mathlib.Core.Path.{_∙_, sym, ap, ap₂}
 use mathlib.Core.Bool.{Bool, not, _||_}
 use borrow.Author.Tests.{lt-ltb, le-ltb, not-true, not-false}
 use denote.Ref.{now}
-use Rattle.meter.specs.declared.Parts.{Parts}
-use Rattle.sheet.specs.Rows.{areas}
-use Rattle.sheet.specs.Rules.{upFrom}
-use Rattle.sheet.specs.Lookup.{liesIn}
-use Rattle.bank.specs.Bank.{placeIn}
-use Rattle.meter.specs.declared.Judged.the-variants.{GoodRead}
-use Rattle.meter.specs.declared.runs.Purpose.the-variants.{Read}
-use Rattle.meter.specs.Frame.{reads, function, start, second, run}
-use Rattle.meter.specs.Runs.{allOpen}
-use Rattle.meter.specs.Steps.{mostRead}
-use Rattle.meter.proofs.Order.{asks-for, many-is}
-use Rattle.meter.proofs.Staging.{read-address, stops-address, good-read}
+use Rattle.meter_rules.specs.declared.Parts.{Parts}
+use Rattle.sheet_rules.specs.Rows.{areas}
+use Rattle.lists.specs.Lists.{upFrom}
+use Rattle.sheet_rules.specs.Lookup.{liesIn}
+use Rattle.bank_rules.specs.Bank.{placeIn}
+use Rattle.meter_rules.specs.declared.Judged.the-variants.{GoodRead}
+use Rattle.meter_rules.specs.declared.Purpose.the-variants.{Read}
+use Rattle.meter_rules.specs.Frame.{reads, function, start, second, run}
+use Rattle.meter_rules.specs.Runs.{allOpen}
+use Rattle.meter_rules.specs.Steps.{mostRead}
+use Rattle.meter_rules.proofs.Order.{asks-for, many-is}
+use Rattle.meter_rules.proofs.Staging.{read-address, stops-address, good-read}
 use borrow.Author.Needs.{needs}
 use Rattle.meter.proofs.stages.judged_read.Statement.{statement}
 use Rattle.meter.proofs.stages.judged_read.Tie as tie

@@ -2,7 +2,7 @@
 use native.Mathlib.Omega.{arith}
 use borrow.Author.Tests.{not-true, not-false}
 use denote.Ref.{now}
-use Rattle.meter.proofs.Placing.{place-small}
+use Rattle.meter_rules.proofs.Placing.{place-small}
 use Rattle.meter.proofs.Writing.{write-shut, write-stopped, write-good}
 use borrow.Author.Needs.{needs}
 use Rattle.meter.proofs.stages.judged_write.Statement.{statement}

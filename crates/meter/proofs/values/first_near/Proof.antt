@@ -4,8 +4,8 @@ use Prim.Native.Nat.{ℕ, _+_, _-_, _/_, _≤_, _<_}
 use native.Mathlib.Omega.{arith}
 use denote.Ref.{now}
 use borrow.Author.Needs.{needs}
-use Rattle.sheet.specs.Rows.{itemCount, itemAt}
-use Rattle.meter.proofs.Stopping.{all-in-front}
+use Rattle.sheet_rules.specs.Rows.{itemCount, itemAt}
+use Rattle.meter_rules.proofs.Stopping.{all-in-front}
 use Rattle.meter.proofs.values.first_near.Statement.{statement}
 use Rattle.meter.proofs.values.first_near.Tie as tie
 

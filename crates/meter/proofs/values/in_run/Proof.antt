@@ -1,6 +1,6 @@
 -- `meter::values::in_run` meets its contract. Assumes nothing.
 use mathlib.Core.Path.{sym}
-use Rattle.meter.proofs.Judging.{run-test, run-none}
+use Rattle.meter_rules.proofs.Judging.{run-test, run-none}
 use Rattle.meter.proofs.values.in_run.Statement.{statement}
 use Rattle.meter.proofs.values.in_run.Tie as tie
 

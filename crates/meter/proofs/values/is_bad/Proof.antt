@@ -3,9 +3,9 @@ use mathlib.Core.Path.{refl, sym, ap}
 use mathlib.Core.Bool.{not}
 use denote.Ref.{now}
 use borrow.Author.Needs.{needs}
-use Rattle.sheet.proofs.Tests.{refused, passed}
+use Rattle.lists.proofs.Tests.{refused, passed}
 use Rattle.bank.proofs.Good.{good-told}
-use Rattle.meter.specs.Write.{wouldBe, badItem}
+use Rattle.meter_rules.specs.Write.{wouldBe, badItem}
 use Rattle.meter.proofs.values.is_bad.Statement.{statement}
 use Rattle.meter.proofs.values.is_bad.Tie as tie
 

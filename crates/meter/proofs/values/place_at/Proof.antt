@@ -3,7 +3,7 @@ use Prim.Native.Nat.{ℕ, _+_, _*_}
 use mathlib.Core.Path.{ap, _∙_}
 use denote.Ref.{now}
 use borrow.Author.Needs.{needs}
-use Rattle.sheet.specs.Rows.{word, itemAt}
+use Rattle.sheet_rules.specs.Rows.{word, itemAt}
 use Rattle.meter.proofs.values.place_at.Statement.{statement}
 use Rattle.meter.proofs.values.place_at.Tie as tie
 

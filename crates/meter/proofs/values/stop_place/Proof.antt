@@ -5,10 +5,10 @@ use native.Mathlib.Omega.{arith}
 use Prim.Native.Nat.{_-_, _≤_}
 use mathlib.Core.Path.{_≡_, sym, ap, _∙_}
 use denote.Ref.{now}
-use Rattle.sheet.specs.declared.Item.{Item}
-use Rattle.sheet.specs.Rows.{itemCount, items}
-use Rattle.meter.specs.Write.{stopIn}
-use Rattle.meter.proofs.Stopping.{itemsFrom, stop-skips, stop-past, stop-goes-on, stop-here, stop-none}
+use Rattle.sheet_rules.specs.declared.Item.{Item}
+use Rattle.sheet_rules.specs.Rows.{itemCount, items}
+use Rattle.meter_rules.specs.Write.{stopIn}
+use Rattle.meter_rules.proofs.Stopping.{itemsFrom, stop-skips, stop-past, stop-goes-on, stop-here, stop-none}
 use Rattle.meter.proofs.values.stop_place.Statement.{statement}
 use Rattle.meter.proofs.values.stop_place.Tie as tie
 

@@ -9,11 +9,11 @@ use denote.Ref.{now}
 use lib.ListN.{length}
 use Rattle.words.specs.Words.{wordAt, withWord}
 use Rattle.words.proofs.Stores.{word-length}
-use Rattle.sheet.specs.Rules.{upFrom}
-use Rattle.bank.specs.Stores.{stored}
-use Rattle.bank.proofs.Walks.{storesFrom, stores-start, stores-go-on, stores-end}
-use Rattle.meter.specs.Frame.{valuesAt}
-use Rattle.meter.specs.Write.{runStore}
+use Rattle.lists.specs.Lists.{upFrom}
+use Rattle.bank_rules.specs.Stores.{stored}
+use Rattle.bank_rules.proofs.Stores.{storesFrom, stores-start, stores-go-on, stores-end}
+use Rattle.meter_rules.specs.Frame.{valuesAt}
+use Rattle.meter_rules.specs.Write.{runStore}
 use Rattle.meter.proofs.values.store_run.Statement.{statement}
 use Rattle.meter.proofs.values.store_run.Tie as tie
 

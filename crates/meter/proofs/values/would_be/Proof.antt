@@ -4,8 +4,8 @@ use mathlib.Core.Path.{ap, _∙_}
 use denote.Ref.{now}
 use borrow.Author.Needs.{needs}
 use Rattle.words.specs.Words.{wordAt}
-use Rattle.sheet.proofs.Tests.{refused, passed}
-use Rattle.meter.proofs.Judging.{run-above}
+use Rattle.lists.proofs.Tests.{refused, passed}
+use Rattle.meter_rules.proofs.Judging.{run-above}
 use Rattle.meter.proofs.values.would_be.Statement.{statement}
 use Rattle.meter.proofs.values.would_be.Tie as tie
 

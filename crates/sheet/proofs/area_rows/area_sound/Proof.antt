@@ -1,6 +1,6 @@
 -- `sheet::area_rows::area_sound` meets its contract: each return by the tests that led there. Assumes nothing.
 use borrow.Author.Tests.{lt-leb, le-leb}
-use Rattle.sheet.proofs.Tests.{refused, passed}
+use Rattle.lists.proofs.Tests.{refused, passed}
 use borrow.Author.Needs.{needs}
 use Rattle.sheet.proofs.area_rows.area_sound.Statement.{statement}
 use Rattle.sheet.proofs.area_rows.area_sound.Tie as tie

@@ -7,11 +7,11 @@ use native.Mathlib.Omega.{arith}
 use lib.Dec.{eqb}
 use denote.Ref.{now}
 use borrow.Author.Needs.{needs}
-use Rattle.sheet.specs.Rows.{areaAt, areaCount, bankWords, functions, clearAddress}
-use Rattle.sheet.specs.Rules.{allowed, bitOf05, areasSound}
-use Rattle.sheet.specs.Cover.{areasFrom}
-use Rattle.sheet.proofs.Tests.{refused, passed}
-use Rattle.sheet.proofs.Rows.{rows-all, areas-rows}
+use Rattle.sheet_rules.specs.Rows.{areaAt, areaCount, bankWords, functions, clearAddress, areasFrom}
+use Rattle.sheet_rules.specs.Rules.{allowed, bitOf05, areasSound}
+use Rattle.lists.proofs.Tests.{refused, passed}
+use Rattle.lists.proofs.Walks.{rows-all}
+use Rattle.sheet_rules.proofs.Rows.{areas-rows}
 use Rattle.sheet.proofs.Areas.{walk, walk-on, walk-next, walk-end, walk-sound, word-broken, allowed-word, kept-word}
 use Rattle.sheet.proofs.area_rows.areas_sound.Statement.{statement}
 use Rattle.sheet.proofs.area_rows.areas_sound.Tie as tie

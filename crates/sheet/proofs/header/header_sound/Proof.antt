@@ -7,9 +7,10 @@ use lib.Dec.{eqb}
 use lib.ListN.{length}
 use denote.Ref.{now}
 use borrow.Author.Tests.{eq-eqb, ne-eqb}
-use Rattle.sheet.specs.Rows.{word}
-use Rattle.sheet.specs.Rules.{versionRule, areaCountRule, areaOffsetRule, itemCountRule, itemOffsetRule, bankWordsRule, functionsRule, sheetWordsRule, spareWordRule, byteLengthRule, between, headerSound}
-use Rattle.sheet.proofs.Tests.{tested, carried}
+use Rattle.sheet_rules.specs.Rows.{word}
+use Rattle.sheet_rules.specs.Rules.{versionRule, areaCountRule, areaOffsetRule, itemCountRule, itemOffsetRule, bankWordsRule, functionsRule, sheetWordsRule, spareWordRule, byteLengthRule, headerSound}
+use Rattle.lists.specs.Lists.{between}
+use Rattle.lists.proofs.Tests.{tested, carried}
 use borrow.Author.Needs.{needs}
 use Rattle.sheet.proofs.header.header_sound.Statement.{statement}
 use Rattle.sheet.proofs.header.header_sound.Tie as tie

@@ -2,7 +2,8 @@
 use mathlib.Core.Bool.{and-false}
 use lib.Dec.{leb·zero}
 use borrow.Author.Tests.{lt-leb, le-leb}
-use Rattle.sheet.proofs.Tests.{refused, passed, elsewhere, found-before, found-here, all-three}
+use Rattle.lists.proofs.Tests.{refused, passed, found-before, found-here, all-three}
+use Rattle.sheet_rules.proofs.Tests.{elsewhere}
 use borrow.Author.Needs.{needs}
 use Rattle.sheet.proofs.item_rows.address_found.Statement.{statement}
 use Rattle.sheet.proofs.item_rows.address_found.Tie as tie

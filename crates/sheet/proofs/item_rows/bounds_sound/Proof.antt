@@ -1,6 +1,6 @@
 -- `sheet::item_rows::bounds_sound` meets its contract: the first word of a bound is 0 just where the bound is below 10000. Assumes nothing.
 use borrow.Author.Tests.{eq-eqb, ne-eqb}
-use Rattle.sheet.proofs.Tests.{upper-some, upper-none, upper-test}
+use Rattle.sheet_rules.proofs.Tests.{upper-some, upper-none, upper-test}
 use Rattle.sheet.proofs.item_rows.bounds_sound.Statement.{statement}
 use Rattle.sheet.proofs.item_rows.bounds_sound.Tie as tie
 

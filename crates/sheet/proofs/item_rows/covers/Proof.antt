@@ -1,7 +1,7 @@
 -- `sheet::item_rows::covers` meets its contract: each return by the tests that led there. Assumes nothing.
 use borrow.Author.Tests.{eq-eqb, ne-eqb}
 use native.Mathlib.Omega.{arith}
-use Rattle.sheet.proofs.Tests.{size-small}
+use Rattle.sheet.proofs.Covering.{size-small}
 use borrow.Author.Needs.{needs}
 use Rattle.sheet.proofs.item_rows.covers.Statement.{statement}
 use Rattle.sheet.proofs.item_rows.covers.Tie as tie

@@ -8,11 +8,11 @@ use lib.Dec.{leb, eqb}
 use denote.Ref.{now}
 use borrow.Author.Needs.{needs}
 use borrow.Author.Tests.{leb-true}
-use Rattle.sheet.specs.Rows.{areaCount, itemCount}
-use Rattle.sheet.specs.Rules.{itemsSound, settingsSound, addressItem, rateItem}
+use Rattle.sheet_rules.specs.Rows.{areaCount, itemCount}
+use Rattle.sheet_rules.specs.Rules.{itemsSound, settingsSound, addressItem, rateItem}
 use Rattle.sheet.specs.Cover.{sizeOf, placesLeft, UnderWay}
-use Rattle.sheet.proofs.Tests.{refused, passed, second-of, size-small}
-use Rattle.sheet.proofs.Covering.{way-start, way-on}
+use Rattle.lists.proofs.Tests.{refused, passed, second-of}
+use Rattle.sheet.proofs.Covering.{size-small, way-start, way-on}
 use Rattle.sheet.proofs.Items.{asked, itemsFrom, asked-all, asked-same, refused-itself, refused-place, passed-on, refused-left, passed-all}
 use Rattle.sheet.proofs.item_rows.items_and_settings_sound.Statement.{statement}
 use Rattle.sheet.proofs.item_rows.items_and_settings_sound.Tie as tie

@@ -1,7 +1,8 @@
 -- `sheet::item_rows::rate_found` meets its contract: each return by the tests that led there. Assumes nothing.
 use mathlib.Core.Bool.{and-false}
 use borrow.Author.Tests.{eq-eqb, ne-eqb}
-use Rattle.sheet.proofs.Tests.{refused, passed, elsewhere, found-before, found-here, all-three}
+use Rattle.lists.proofs.Tests.{refused, passed, found-before, found-here, all-three}
+use Rattle.sheet_rules.proofs.Tests.{elsewhere}
 use borrow.Author.Needs.{needs}
 use Rattle.sheet.proofs.item_rows.rate_found.Statement.{statement}
 use Rattle.sheet.proofs.item_rows.rate_found.Tie as tie

@@ -1,7 +1,7 @@
 -- `sheet::item_rows::row_sound` meets its contract: each return by the tests that led there. Assumes nothing.
 use borrow.Author.Tests.{lt-leb, le-leb}
 use lib.Dec.{leb·zero}
-use Rattle.sheet.proofs.Tests.{refused, passed}
+use Rattle.lists.proofs.Tests.{refused, passed}
 use borrow.Author.Needs.{needs}
 use Rattle.sheet.proofs.item_rows.row_sound.Statement.{statement}
 use Rattle.sheet.proofs.item_rows.row_sound.Tie as tie

@@ -4,7 +4,7 @@ use Prim.Native.Nat.{_-_}
 use native.Mathlib.Omega.{arith}
 use denote.Ref.{now}
 use borrow.Author.Needs.{needs}
-use Rattle.sheet.specs.Rows.{areaCount}
+use Rattle.sheet_rules.specs.Rows.{areaCount}
 use Rattle.sheet.specs.Cover.{placesLeft, UnderWay}
 use Rattle.sheet.proofs.Covering.{cover, left-open, way-open, wide-small}
 use Rattle.sheet.proofs.item_rows.walked.Statement.{statement}

@@ -1,0 +1,10 @@
+pub mod Stores
+pub mod Latest
+pub mod Held
+pub mod Inside
+pub mod Numbers
+pub mod Values
+pub mod FreshBank
+pub mod Changes
+pub mod Soundness
+pub mod Reach

@@ -1,0 +1,4 @@
+pub mod Tests
+pub mod Among
+pub mod Walks
+pub mod Cases

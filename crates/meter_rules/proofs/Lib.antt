@@ -1,0 +1,12 @@
+pub mod CaseSet
+pub mod Reading
+pub mod Order
+pub mod Staging
+pub mod Judging
+pub mod Stopping
+pub mod Placing
+pub mod Closing
+pub mod Outcomes
+pub mod Written
+pub mod Keeping
+pub mod Soundness

@@ -1,0 +1,126 @@
+-- The order of judgement, step by step: a step that holds stops the frame, and one that does not hands it on; and what each step comes to
+-- for each function. Assumes nothing.
+use mathlib.Core.Path.{_≡_, refl, sym, ap, ap₂, _∙_}
+use mathlib.Core.Bool.{Bool, true, false, not, cond, _&&_, _||_, or-false}
+use mathlib.Core.List.{List, [], _∷_}
+use Prim.Native.Nat.{ℕ, _+_, _*_}
+use lib.Dec.{ltb, eqb}
+use lib.ListN.{length}
+use borrow.Author.Tests.{ne-eqb, eqb-true}
+use Rattle.sheet_rules.specs.Rows.{clearAddress}
+use Rattle.sheet_rules.specs.Rules.{allowed, bitOf03, bitOf05, bitOf06, bitOf10}
+use Rattle.lists.specs.Cases.{Case, firstCase}
+use Rattle.meter_rules.specs.declared.Purpose.the-variants.{Read, Write}
+use Rattle.meter_rules.specs.Frame.{reads, clears, writesOne, writesMany, function, start, second, byteCount, isWrite, count, run, codeAllowed}
+use Rattle.meter_rules.specs.Runs.{allOpen}
+use Rattle.meter_rules.specs.Write.{someBad}
+use Rattle.meter_rules.specs.Steps.{wrongLength, wrongCount, wrongAddress, wrongValue, badWrite, mostRead}
+
+module _ {A : Type 0} (this : Case A) (behind : List (Case A)) (good : A) where
+  pub step-stops : this .holds ≡ true → firstCase (this ∷ behind) good ≡ this .outcome
+  unfolding firstCase
+  step-stops e = ap (λ (b : Bool). cond b (this .outcome) (firstCase behind good)) e
+
+  pub step-passes : this .holds ≡ false → firstCase (this ∷ behind) good ≡ firstCase behind good
+  unfolding firstCase
+  step-passes e = ap (λ (b : Bool). cond b (this .outcome) (firstCase behind good)) e
+
+pub step-none : {A : Type 0} (good : A) → firstCase [] good ≡ good
+unfolding firstCase
+step-none good = refl
+
+-- which of the four functions a frame has, as the tests say it
+pub record Asks (frame : List ℕ) (read clear one many : Bool) : Type 0 where
+  pub isRead : eqb (function frame) reads ≡ read
+  pub isClear : eqb (function frame) clears ≡ clear
+  pub isOne : eqb (function frame) writesOne ≡ one
+  pub isMany : eqb (function frame) writesMany ≡ many
+
+pub asks-for : (frame : List ℕ) (code : ℕ) → function frame ≡ code
+    → Asks frame (eqb code reads) (eqb code clears) (eqb code writesOne) (eqb code writesMany)
+asks-for frame code e =
+    record {
+      isRead = ap (λ (n : ℕ). eqb n reads) e;
+      isClear = ap (λ (n : ℕ). eqb n clears) e;
+      isOne = ap (λ (n : ℕ). eqb n writesOne) e;
+      isMany = ap (λ (n : ℕ). eqb n writesMany) e;
+    }
+
+-- a function that is allowed and is none of the first three is 10
+pub last-function : (sheet : List ℕ) (code : ℕ) → codeAllowed sheet code ≡ true → (code ≡ reads → ⊥) → (code ≡ clears → ⊥)
+    → (code ≡ writesOne → ⊥) → code ≡ writesMany
+last-function sheet code permitted read clear one =
+    eqb-true code writesMany
+    (go (eqb code writesMany)
+    (sym (ap₂ (λ (r c : Bool). r && bit bitOf03 || c && bit bitOf05 || eqb code writesOne && bit bitOf06 || eqb code writesMany && bit bitOf10)
+    (ne-eqb code reads read) (ne-eqb code clears clear)
+    ∙ ap (λ (o : Bool). o && bit bitOf06 || eqb code writesMany && bit bitOf10) (ne-eqb code writesOne one))
+    ∙ permitted))
+  where
+    bit : ℕ → Bool
+    bit = allowed sheet
+
+    go : (m : Bool) → (m && bit bitOf10) ≡ true → m ≡ true
+    go true e = refl
+    go false e = e
+
+-- what each step comes to, once it is known which function a frame has
+module _ (sheet bank frame : List ℕ) {read clear one many : Bool} (asks : Asks frame read clear one many) where
+  pub count-is : wrongCount frame ≡ (read && eqb (second frame) 0 || many && (eqb (second frame) 0 || not (eqb (byteCount frame) (2 * second frame))))
+  count-is =
+      ap₂ (λ (r m : Bool). r && eqb (second frame) 0 || m && (eqb (second frame) 0 || not (eqb (byteCount frame) (2 * second frame))))
+      (asks .isRead) (asks .isMany)
+
+  pub write-is : isWrite frame ≡ (one || many)
+  write-is = ap₂ (λ (o m : Bool). o || m) (asks .isOne) (asks .isMany)
+
+  pub many-is : count frame ≡ cond one 1 (second frame)
+  many-is = ap (λ (b : Bool). cond b 1 (second frame)) (asks .isOne)
+
+  pub address-is : wrongAddress sheet frame
+      ≡ (read && (ltb mostRead (second frame) || not (allOpen Read sheet (run frame))) || (one || many) && not (allOpen Write sheet (run frame))
+      || clear && not (eqb (start frame) (clearAddress sheet)))
+  address-is =
+      ap₂ (λ (r w : Bool). r && (ltb mostRead (second frame) || not (allOpen Read sheet (run frame))) || w && not (allOpen Write sheet (run frame))
+      || eqb (function frame) clears && not (eqb (start frame) (clearAddress sheet))) (asks .isRead) write-is
+      ∙ ap (λ (c : Bool). read && (ltb mostRead (second frame) || not (allOpen Read sheet (run frame)))
+      || (one || many) && not (allOpen Write sheet (run frame)) || c && not (eqb (start frame) (clearAddress sheet))) (asks .isClear)
+
+  pub value-is : wrongValue frame ≡ (clear && not (eqb (second frame) 0))
+  value-is = ap (λ (c : Bool). c && not (eqb (second frame) 0)) (asks .isClear)
+
+  pub bad-is : badWrite sheet bank frame ≡ ((one || many) && someBad sheet bank frame)
+  bad-is = ap (λ (w : Bool). w && someBad sheet bank frame) write-is
+
+-- the lengths: 10 apart from the others
+pub other-length : (frame : List ℕ) → (function frame ≡ writesMany → ⊥) → wrongLength frame ≡ not (eqb (length frame) 8)
+other-length frame e =
+    ap (λ (b : Bool). cond b (ltb (length frame) 9 || not (eqb (length frame) (9 + byteCount frame))) (not (eqb (length frame) 8)))
+    (ne-eqb (function frame) writesMany e)
+
+pub many-length : (frame : List ℕ) → function frame ≡ writesMany
+    → wrongLength frame ≡ (ltb (length frame) 9 || not (eqb (length frame) (9 + byteCount frame)))
+many-length frame e =
+    ap (λ (b : Bool). cond b (ltb (length frame) 9 || not (eqb (length frame) (9 + byteCount frame))) (not (eqb (length frame) 8)))
+    (ap (λ (n : ℕ). eqb n writesMany) e)
+
+-- a function that is one of the four is allowed as its bit says, and any other is not
+module _ (sheet : List ℕ) {code : ℕ} where
+  pub code-read : code ≡ reads → allowed sheet bitOf03 ≡ codeAllowed sheet code
+  code-read e =
+      sym (ap (codeAllowed sheet) e ∙ or-false (allowed sheet bitOf03 || false || false) ∙ or-false (allowed sheet bitOf03 || false)
+      ∙ or-false (allowed sheet bitOf03))
+
+  pub code-clear : code ≡ clears → allowed sheet bitOf05 ≡ codeAllowed sheet code
+  code-clear e = sym (ap (codeAllowed sheet) e ∙ or-false (allowed sheet bitOf05 || false) ∙ or-false (allowed sheet bitOf05))
+
+  pub code-one : code ≡ writesOne → allowed sheet bitOf06 ≡ codeAllowed sheet code
+  code-one e = sym (ap (codeAllowed sheet) e ∙ or-false (allowed sheet bitOf06))
+
+  pub code-many : code ≡ writesMany → allowed sheet bitOf10 ≡ codeAllowed sheet code
+  code-many e = sym (ap (codeAllowed sheet) e)
+
+pub code-none : (sheet : List ℕ) (code : ℕ) → (code ≡ reads → ⊥) → (code ≡ clears → ⊥) → (code ≡ writesOne → ⊥) → (code ≡ writesMany → ⊥)
+    → codeAllowed sheet code ≡ false
+code-none sheet code read clear one many =
+    simp (ne-eqb code reads read, ne-eqb code clears clear, ne-eqb code writesOne one, ne-eqb code writesMany many)

@@ -1,0 +1,125 @@
+-- A sound bank stays sound, whatever the call answers and whatever frame comes. Assumes nothing.
+use mathlib.Core.Path.{_≡_, refl, sym, ap, _∙_}
+use mathlib.Core.Bool.{Bool, true, false, not, cond, _&&_, _||_, true≢false}
+use mathlib.Core.List.{List, [], _∷_}
+use Prim.Native.Nat.{ℕ, _+_, _≤_}
+use native.Mathlib.Omega.{arith}
+use lib.Dec.{ltb, eqb}
+use borrow.Author.Tests.{eq-eqb, eqb-false, ltb-false}
+use Rattle.sheet_rules.specs.Rows.{items, clearAddress}
+use Rattle.sheet_rules.specs.Rules.{sound}
+use Rattle.lists.proofs.Tests.{first-of}
+use Rattle.bank_rules.specs.Stores.{stored}
+use Rattle.bank_rules.specs.Bank.{fits, bankSound}
+use Rattle.lists.specs.Cases.{when, firstCase}
+use Rattle.meter_rules.specs.declared.Judged.{Judged}
+use Rattle.meter_rules.specs.declared.Judged.the-variants.{FailsCheck, OtherStation, FunctionNotAllowed, WrongLength, WrongCount, WrongAddress, WrongValue, BadItem, GoodRead, GoodClear, GoodWrite}
+use Rattle.meter_rules.specs.declared.Purpose.the-variants.{Read, Write}
+use Rattle.meter_rules.specs.Frame.{reads, clears, writesOne, writesMany, function, start, second, isWrite, count, run, functionAllowed}
+use Rattle.meter_rules.specs.Runs.{allOpen}
+use Rattle.meter_rules.specs.Write.{firstPlace, someBad, stopIn, stopPlace, runStores}
+use Rattle.meter_rules.specs.Steps.{failsCheck, otherStation, wrongLength, wrongCount, mostRead, wrongAddress, wrongValue, badWrite, goodFrame, judgedFrame}
+use Rattle.meter_rules.specs.Reply.{storesOf}
+use Rattle.meter_rules.specs.Answer.{actedOn, answerOutcome}
+use Rattle.meter_rules.proofs.Order.{last-function}
+use Rattle.meter_rules.proofs.Stopping.{stop-some, stop-bound}
+use Rattle.meter_rules.proofs.Outcomes.{quiet, quiet-changes-nothing, outcome-cases}
+use Rattle.meter_rules.proofs.Keeping.{write-sound, clear-sound}
+
+-- ---- what is known of a frame that changes the bank
+
+-- a write whose addresses are all open
+pub record OpenWrite (sheet frame : List ℕ) : Type 0 where
+  pub write : isWrite frame ≡ true
+  pub all : allOpen Write sheet (run frame) ≡ true
+
+open-of : (a w o c : Bool) → (a || w && not o || c) ≡ false → w ≡ true → o ≡ true
+open-of true w o c e f = absurd (true≢false e)
+open-of false w true c e f = refl
+open-of false true false c e f = absurd (true≢false e)
+open-of false false false c e f = f
+
+module _ (sheet bank frame : List ℕ) where
+  pub open-write : isWrite frame ≡ true → wrongAddress sheet frame ≡ false → OpenWrite sheet frame
+  open-write write right =
+      record {
+        write = write;
+        all = open-of (eqb (function frame) reads && (ltb mostRead (second frame) || not (allOpen Read sheet (run frame)))) (isWrite frame)
+            (allOpen Write sheet (run frame)) (eqb (function frame) clears && not (eqb (start frame) (clearAddress sheet))) right write;
+      }
+
+  -- a function that is allowed, and neither reads nor clears, writes
+  pub writes : functionAllowed sheet frame ≡ true → eqb (function frame) reads ≡ false → eqb (function frame) clears ≡ false → isWrite frame ≡ true
+  writes permitted read clear = go (eqb (function frame) writesOne) refl
+    where
+      go : (one : Bool) → eqb (function frame) writesOne ≡ one → (one || eqb (function frame) writesMany) ≡ true
+      go true e = refl
+      go false e =
+          eq-eqb (function frame) writesMany
+          (last-function sheet (function frame) permitted (eqb-false (function frame) reads read) (eqb-false (function frame) clears clear)
+          (eqb-false (function frame) writesOne e))
+
+  -- what holds of each judgement that stores nothing, of a write with a bad item, of a good clear and of a good write holds of the frame's
+  pub judged-cases : (P : Judged → Type 0) → ((judged : Judged) → quiet judged ≡ true → P judged)
+      → (OpenWrite sheet frame → P (BadItem (firstPlace sheet frame) (stopPlace sheet bank frame)))
+      → P GoodClear
+      → (OpenWrite sheet frame → someBad sheet bank frame ≡ false → P (GoodWrite (firstPlace sheet frame) (count frame)))
+      → P (judgedFrame sheet bank frame)
+  unfolding judgedFrame firstCase
+  judged-cases P nothing stops clears-mark stores =
+      go (failsCheck frame) (otherStation sheet bank frame) (functionAllowed sheet frame) (wrongLength frame) (wrongCount frame)
+      (wrongAddress sheet frame) (wrongValue frame) (badWrite sheet bank frame) refl refl refl
+    where
+      good : (read clear : Bool) → eqb (function frame) reads ≡ read → eqb (function frame) clears ≡ clear
+          → functionAllowed sheet frame ≡ true → wrongAddress sheet frame ≡ false → badWrite sheet bank frame ≡ false
+          → P (cond read (GoodRead (firstPlace sheet frame) (count frame)) (cond clear GoodClear (GoodWrite (firstPlace sheet frame) (count frame))))
+      good true clear r c p f h = nothing (GoodRead (firstPlace sheet frame) (count frame)) refl
+      good false true r c p f h = clears-mark
+      good false false r c p f h =
+          let write = writes p r c in
+          stores (open-write write f) (ap (λ (b : Bool). b && someBad sheet bank frame) (sym write) ∙ h)
+
+      go : (a₁ a₂ a₃ a₄ a₅ a₆ a₇ a₈ : Bool) → functionAllowed sheet frame ≡ a₃ → wrongAddress sheet frame ≡ a₆ → badWrite sheet bank frame ≡ a₈
+          → P (firstCase (when a₁ FailsCheck ∷ when a₂ OtherStation ∷ when (not a₃) FunctionNotAllowed ∷ when a₄ WrongLength ∷ when a₅ WrongCount
+          ∷ when a₆ WrongAddress ∷ when a₇ WrongValue ∷ when a₈ (BadItem (firstPlace sheet frame) (stopPlace sheet bank frame)) ∷ [])
+          (goodFrame sheet frame))
+      go true a₂ a₃ a₄ a₅ a₆ a₇ a₈ p f h = nothing FailsCheck refl
+      go false true a₃ a₄ a₅ a₆ a₇ a₈ p f h = nothing OtherStation refl
+      go false false false a₄ a₅ a₆ a₇ a₈ p f h = nothing FunctionNotAllowed refl
+      go false false true true a₅ a₆ a₇ a₈ p f h = nothing WrongLength refl
+      go false false true false true a₆ a₇ a₈ p f h = nothing WrongCount refl
+      go false false true false false true a₇ a₈ p f h = nothing WrongAddress refl
+      go false false true false false false true a₈ p f h = nothing WrongValue refl
+      go false false true false false false false true p f h =
+          stops (open-write (first-of (isWrite frame) (someBad sheet bank frame) h) f)
+      go false false true false false false false false p f h =
+          good (eqb (function frame) reads) (eqb (function frame) clears) refl refl p f h
+
+  -- a write without a bad item stops at its end
+  pub stops-at-end : someBad sheet bank frame ≡ false → stopPlace sheet bank frame ≡ firstPlace sheet frame + count frame
+  unfolding someBad stopPlace
+  stops-at-end none =
+      let end : ℕ = firstPlace sheet frame + count frame in
+      let stop : ℕ = stopIn (firstPlace sheet frame) (count frame) bank frame (items sheet) in
+      let low : end ≤ stop = ltb-false stop end (stop-some (firstPlace sheet frame) (count frame) bank frame (items sheet) ∙ none) in
+      let high : stop ≤ end = stop-bound (firstPlace sheet frame) (count frame) bank frame (items sheet) in
+      omega (arith, low, high)
+
+-- ---- a sound bank stays sound
+
+pub acted-sound : (sheet bank frame buffer : List ℕ) → sound sheet ≡ true → fits sheet bank ≡ true → bankSound sheet bank ≡ true
+    → bankSound sheet (actedOn (judgedFrame sheet bank frame) sheet bank frame buffer .bank) ≡ true
+unfolding actedOn storesOf
+acted-sound sheet bank frame buffer keeps fitting whole =
+    judged-cases sheet bank frame (λ judged. bankSound sheet (actedOn judged sheet bank frame buffer .bank) ≡ true)
+    (λ judged silent. ap (bankSound sheet) (quiet-changes-nothing judged sheet bank frame buffer silent) ∙ whole)
+    (λ opened. write-sound sheet bank frame keeps fitting whole (opened .all))
+    (clear-sound sheet bank keeps fitting whole)
+    (λ opened none. ap (λ (stop : ℕ). bankSound sheet (stored bank (runStores frame (firstPlace sheet frame) stop))) (sym (stops-at-end sheet bank frame none))
+    ∙ write-sound sheet bank frame keeps fitting whole (opened .all))
+
+pub stays-sound : (sheet bank frame buffer : List ℕ) → bankSound sheet bank ≡ true
+    → bankSound sheet (answerOutcome sheet bank frame buffer .bank) ≡ true
+stays-sound sheet bank frame buffer whole =
+    outcome-cases (λ o. bankSound sheet (o .bank) ≡ true) sheet bank frame buffer (λ answered refused. whole)
+    (λ keeps fitting sounds. acted-sound sheet bank frame buffer keeps fitting sounds)

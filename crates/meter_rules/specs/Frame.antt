@@ -1,0 +1,92 @@
+-- The parts of a frame that 01's order of judgement speaks of. Total: a byte past the end is 0. Assumes nothing.
+use Prim.Native.Nat.{ℕ, _+_, _*_}
+use mathlib.Core.Bool.{Bool, cond, _&&_, _||_}
+use mathlib.Core.List.{List}
+use lib.Dec.{eqb}
+use lib.ListN.{length}
+use Rattle.words.specs.Words.{byteAt, wordAt}
+use Rattle.check_value.specs.Frame.{passes}
+use Rattle.sheet_rules.specs.Rules.{allowed, bitOf03, bitOf05, bitOf06, bitOf10}
+use Rattle.lists.specs.Lists.{upFrom}
+use Rattle.meter_rules.specs.declared.Passed.{Passed}
+use Rattle.meter_rules.specs.declared.Passed.the-variants.{Frame, Fails}
+use Rattle.meter_rules.specs.declared.Parts.{Parts}
+
+-- the functions: 03 reads, 05 clears the mark, 06 writes one register, 10 writes several
+abbrev pub reads : ℕ
+reads = 0x03
+
+abbrev pub clears : ℕ
+clears = 0x05
+
+abbrev pub writesOne : ℕ
+writesOne = 0x06
+
+abbrev pub writesMany : ℕ
+writesMany = 0x10
+
+-- the station byte and the function byte
+abbrev pub station : List ℕ → ℕ
+station frame = byteAt frame 0
+
+abbrev pub function : List ℕ → ℕ
+function frame = byteAt frame 1
+
+-- the first word: the address, or the first one of a run
+abbrev pub start : List ℕ → ℕ
+start frame = wordAt frame 2
+
+-- the second word: the count of 03 and 10, the value of 05 and 06
+abbrev pub second : List ℕ → ℕ
+second frame = wordAt frame 4
+
+-- the byte count of 10
+abbrev pub byteCount : List ℕ → ℕ
+byteCount frame = byteAt frame 6
+
+abbrev pub isWrite : List ℕ → Bool
+isWrite frame = eqb (function frame) writesOne || eqb (function frame) writesMany
+
+-- how many registers a read or a write is for, by its function and its second word: one for 06, else the count
+abbrev pub manyOf : ℕ → ℕ → ℕ
+manyOf code word = cond (eqb code writesOne) 1 word
+
+abbrev pub count : List ℕ → ℕ
+count frame = manyOf (function frame) (second frame)
+
+-- the addresses of a read or a write, as numbers without a width, so that a run past FFFF never comes round to 0
+abbrev pub run : List ℕ → List ℕ
+run frame = upFrom (start frame) (count frame)
+
+-- where the words that a write sends begin: at the value of 06, or behind the byte count of 10
+abbrev pub valuesAt : List ℕ → ℕ
+valuesAt frame = cond (eqb (function frame) writesOne) 4 7
+
+-- the k-th word that a write sends
+abbrev pub sent : List ℕ → ℕ → ℕ
+sent frame k = wordAt frame (valuesAt frame + 2 * k)
+
+-- a function is one of the four, and the sheet allows it
+abbrev pub codeAllowed : List ℕ → ℕ → Bool
+codeAllowed sheet code =
+    (eqb code reads && allowed sheet bitOf03) || (eqb code clears && allowed sheet bitOf05)
+    || (eqb code writesOne && allowed sheet bitOf06) || (eqb code writesMany && allowed sheet bitOf10)
+
+abbrev pub functionAllowed : List ℕ → List ℕ → Bool
+functionAllowed sheet frame = codeAllowed sheet (function frame)
+
+-- a frame, taken apart
+abbrev pub partsOf : List ℕ → Parts
+partsOf frame =
+    record {
+      station = station frame;
+      function = function frame;
+      start = start frame;
+      second = second frame;
+      bytes = byteCount frame;
+      length = length frame;
+    }
+
+-- what step 1 answers: a frame that passes, taken apart, or that it fails
+unfoldable pub passedFrame : List ℕ → Passed
+passedFrame frame = cond (passes frame) (Frame (partsOf frame)) Fails

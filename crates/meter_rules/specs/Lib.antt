@@ -1,0 +1,6 @@
+pub mod Frame
+pub mod Runs
+pub mod Write
+pub mod Steps
+pub mod Reply
+pub mod Answer

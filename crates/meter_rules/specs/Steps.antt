@@ -1,0 +1,88 @@
+-- 01, "Order of judgement for a frame": the conditions of steps 1 to 7, step 7 as two; the first that holds wins. Assumes nothing.
+use Prim.Native.Nat.{ℕ, _+_, _*_}
+use mathlib.Core.Bool.{Bool, not, cond, _&&_, _||_}
+use mathlib.Core.List.{List, [], _∷_}
+use lib.Dec.{ltb, eqb}
+use lib.ListN.{length, drop}
+use Rattle.check_value.specs.Frame.{passes}
+use Rattle.sheet_rules.specs.Rows.{clearAddress}
+use Rattle.bank_rules.specs.Bank.{stationOf}
+use Rattle.lists.specs.Cases.{Case, when, firstCase}
+use Rattle.meter_rules.specs.declared.Judged.{Judged}
+use Rattle.meter_rules.specs.declared.Judged.the-variants.{FailsCheck, OtherStation, FunctionNotAllowed, WrongLength, WrongCount, WrongAddress, WrongValue, BadItem, GoodRead, GoodClear, GoodWrite}
+use Rattle.meter_rules.specs.Frame.{reads, clears, writesMany, station, function, start, second, byteCount, isWrite, count, run, functionAllowed}
+use Rattle.meter_rules.specs.declared.Purpose.the-variants.{Read, Write}
+use Rattle.meter_rules.specs.Runs.{allOpen}
+use Rattle.meter_rules.specs.Write.{firstPlace, someBad, stopPlace}
+
+-- 1. "Length not 4..100, or wrong check: silence."
+abbrev pub failsCheck : List ℕ → Bool
+failsCheck frame = not (passes frame)
+
+-- 2. "Station byte differs from the bank's address: silence. Address 0 is compared like any other."
+abbrev pub otherStation : List ℕ → List ℕ → List ℕ → Bool
+otherStation sheet bank frame = not (eqb (station frame) (stationOf sheet bank))
+
+-- 3. "Function not allowed: error 01."
+abbrev pub functionNotAllowed : List ℕ → List ℕ → Bool
+functionNotAllowed sheet frame = not (functionAllowed sheet frame)
+
+-- 4. "03, 05, 06 not of 8 bytes; 10 below 9 bytes or not 9 plus its byte count: silence."
+abbrev pub wrongLength : List ℕ → Bool
+wrongLength frame =
+    cond (eqb (function frame) writesMany) (ltb (length frame) 9 || not (eqb (length frame) (9 + byteCount frame)))
+    (not (eqb (length frame) 8))
+
+-- 5. "03 with count 0; 10 with count 0 or byte count not twice the count: error 03."
+abbrev pub wrongCount : List ℕ → Bool
+wrongCount frame =
+    (eqb (function frame) reads && eqb (second frame) 0)
+    || (eqb (function frame) writesMany && (eqb (second frame) 0 || not (eqb (byteCount frame) (2 * second frame))))
+
+-- "03 with count over 47"
+abbrev pub mostRead : ℕ
+mostRead = 47
+
+-- 6. "An address of the run in no area, or for a write in an access 1 area, or above FFFF; 03 with count over 47; 05 at another address
+-- than the clear address: error 02." The areas of a sheet of bytes end at FFFF at the most, so an
+-- address above it lies in none.
+abbrev pub wrongAddress : List ℕ → List ℕ → Bool
+wrongAddress sheet frame =
+    (eqb (function frame) reads && (ltb mostRead (second frame) || not (allOpen Read sheet (run frame))))
+    || (isWrite frame && not (allOpen Write sheet (run frame)))
+    || (eqb (function frame) clears && not (eqb (start frame) (clearAddress sheet)))
+
+-- 7. "05 with a value other than 0 ..: error 03."
+abbrev pub wrongValue : List ℕ → Bool
+wrongValue frame = eqb (function frame) clears && not (eqb (second frame) 0)
+
+-- 7. ".. a write with a bad item: error 03."
+abbrev pub badWrite : List ℕ → List ℕ → List ℕ → Bool
+badWrite sheet bank frame = isWrite frame && someBad sheet bank frame
+
+-- 01's order: the first step whose condition holds says where the frame stops
+abbrev pub steps : List ℕ → List ℕ → List ℕ → List (Case Judged)
+steps sheet bank frame =
+    when (failsCheck frame) FailsCheck
+    ∷ when (otherStation sheet bank frame) OtherStation
+    ∷ when (functionNotAllowed sheet frame) FunctionNotAllowed
+    ∷ when (wrongLength frame) WrongLength
+    ∷ when (wrongCount frame) WrongCount
+    ∷ when (wrongAddress sheet frame) WrongAddress
+    ∷ when (wrongValue frame) WrongValue
+    ∷ when (badWrite sheet bank frame) (BadItem (firstPlace sheet frame) (stopPlace sheet bank frame))
+    ∷ []
+
+-- a frame that no step stops: a read, a clear or a write
+abbrev pub goodFrame : List ℕ → List ℕ → Judged
+goodFrame sheet frame =
+    cond (eqb (function frame) reads) (GoodRead (firstPlace sheet frame) (count frame))
+    (cond (eqb (function frame) clears) GoodClear (GoodWrite (firstPlace sheet frame) (count frame)))
+
+-- where a frame stops, or that it is good, once so many of these conditions have let it through; only private promises cite this
+unfoldable pub judgedFrom : ℕ → List ℕ → List ℕ → List ℕ → Judged
+judgedFrom passed sheet bank frame = firstCase (drop passed (steps sheet bank frame)) (goodFrame sheet frame)
+
+-- where a frame stops, or that it is good
+unfoldable pub judgedFrame : List ℕ → List ℕ → List ℕ → Judged
+judgedFrame sheet bank frame = firstCase (steps sheet bank frame) (goodFrame sheet frame)

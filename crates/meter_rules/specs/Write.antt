@@ -1,0 +1,55 @@
+-- 01: "A write is cut into items." The places of a run, the item that a write stops at, and what it stores. Assumes nothing.
+use Prim.Native.Nat.{ℕ, _+_, _-_}
+use mathlib.Core.Bool.{Bool, not, cond, _&&_, _||_}
+use mathlib.Core.List.{List, [], _∷_, map}
+use lib.Dec.{leb, ltb}
+use Rattle.sheet_rules.specs.declared.Item.{Item}
+use Rattle.sheet_rules.specs.Rows.{areas, items}
+use Rattle.lists.specs.Lists.{some, upFrom}
+use Rattle.sheet_rules.specs.Rules.{isPair}
+use Rattle.sheet_rules.specs.Lookup.{liesIn}
+use Rattle.bank_rules.specs.Stores.{Store, wordOf}
+use Rattle.bank_rules.specs.Bank.{goodBy, placeIn}
+use Rattle.meter_rules.specs.Frame.{start, count, sent}
+
+-- the place of the run's first address; the places of a run of addresses that all lie in areas follow each other from there
+abbrev pub firstPlace : List ℕ → List ℕ → ℕ
+firstPlace sheet frame = placeIn (liesIn (areas sheet) (start frame))
+
+-- a place is in the run: one of so many from a first one on
+abbrev pub inRun : ℕ → ℕ → ℕ → Bool
+inRun first many place = leb first place && ltb place (first + many)
+
+-- the word that would be at a place: the word sent if the place is in the run, else the bank's
+abbrev pub wouldBe : ℕ → ℕ → List ℕ → List ℕ → ℕ → ℕ
+wouldBe first many bank frame place = cond (inRun first many place) (sent frame (place - first)) (wordOf bank place)
+
+-- an item is touched if one of its places is in the run
+abbrev pub touched : ℕ → ℕ → Item → Bool
+touched first many item = inRun first many (item .place) || (isPair item && inRun first many (item .place + 1))
+
+-- "A pair with both halves in the write is one item; a half alone is judged with the other half now in the bank."
+unfoldable pub badItem : ℕ → ℕ → List ℕ → List ℕ → Item → Bool
+badItem first many bank frame item = touched first many item && not (goodBy (wouldBe first many bank frame) item)
+
+-- "a write with a bad item"
+unfoldable pub someBad : List ℕ → List ℕ → List ℕ → Bool
+someBad sheet bank frame = some (badItem (firstPlace sheet frame) (count frame) bank frame) (items sheet)
+
+-- the first place of the first bad item; the end of the run where no item is bad
+unfoldable pub stopIn : ℕ → ℕ → List ℕ → List ℕ → List Item → ℕ
+stopIn first many bank frame [] = first + many
+stopIn first many bank frame (item ∷ behind) =
+    cond (badItem first many bank frame item) (item .place) (stopIn first many bank frame behind)
+
+unfoldable pub stopPlace : List ℕ → List ℕ → List ℕ → ℕ
+stopPlace sheet bank frame = stopIn (firstPlace sheet frame) (count frame) bank frame (items sheet)
+
+-- the k-th word sent, at its place
+abbrev pub runStore : List ℕ → ℕ → ℕ → Store
+runStore frame first k = record { place = first + k; word = sent frame k }
+
+-- the words of a run, from its first place on, that stand in front of a stop; none where the stop is in front of the run, as where its
+-- first word is the lower half of a bad pair
+unfoldable pub runStores : List ℕ → ℕ → ℕ → List Store
+runStores frame first stop = map (runStore frame first) (upFrom 0 (stop - first))

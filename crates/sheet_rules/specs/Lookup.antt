@@ -1,0 +1,26 @@
+-- What lies at an address, the address of a place, and the item that holds a place, over the areas and items of a sheet. Assumes nothing.
+use Prim.Native.Nat.{ℕ, _+_, _-_}
+use mathlib.Core.Bool.{Bool, _&&_, _||_, cond}
+use mathlib.Core.List.{List, [], _∷_}
+use lib.Dec.{eqb}
+use Rattle.sheet_rules.specs.declared.Area.{Area}
+use Rattle.sheet_rules.specs.declared.Item.{Item}
+use Rattle.sheet_rules.specs.declared.Lies.{Lies}
+use Rattle.sheet_rules.specs.declared.Lies.the-variants.{At, Nowhere}
+use Rattle.sheet_rules.specs.Rules.{inArea, placeInArea, isPair}
+
+-- what lies at an address: a place of the bank with the access of its area, or nothing
+unfoldable pub liesIn : List Area → ℕ → Lies
+liesIn [] address = Nowhere
+liesIn (area ∷ behind) address =
+    cond (inArea address area) (At (area .place + (address - area .first)) (area .access)) (liesIn behind address)
+
+-- the address of a place; 0x10000, which is no address, where no area has the place
+unfoldable pub addressOf : List Area → ℕ → ℕ
+addressOf [] place = 0x10000
+addressOf (area ∷ behind) place =
+    cond (placeInArea place area) (area .first + (place - area .place)) (addressOf behind place)
+
+-- a place is one of an item's
+abbrev pub holds : Item → ℕ → Bool
+holds item place = eqb (item .place) place || (isPair item && eqb (item .place + 1) place)

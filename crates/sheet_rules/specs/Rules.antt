@@ -1,0 +1,237 @@
+-- 01, "The sheet: a header of counts and offsets": its rules, each a definition, in 01's order. Each has its answer on any bytes, whatever
+-- the others say. Assumes nothing.
+use Prim.Native.Nat.{ℕ, zero, suc, _+_, _-_, _*_, _/_, _%_}
+use mathlib.Core.Bool.{Bool, true, false, not, _&&_, _||_, cond}
+use mathlib.Core.List.{List, [], _∷_, _++_}
+use lib.Dec.{leb, ltb, eqb}
+use lib.ListN.{length}
+use Rattle.range.specs.Range.{unsignedWord, unsignedPair, notAbove, inRange}
+use Rattle.sheet_rules.specs.declared.Area.{Area}
+use Rattle.sheet_rules.specs.declared.Item.{Item}
+use Rattle.sheet_rules.specs.declared.SheetJudged.{SheetJudged}
+use Rattle.sheet_rules.specs.declared.SheetJudged.the-variants.{Sound, BreaksRule}
+use Rattle.sheet_rules.specs.Rows.{version, areaCount, areaOffset, itemCount, itemOffset, bankWords, functions, sheetWords, addressPlace, ratePlace, clearAddress, spareWord, areaRows, itemRows, rowsEnd, areas, items}
+use Rattle.lists.specs.Lists.{between, each, samePlaces, some, upFrom}
+
+-- ---- the header
+
+-- "0 version, 1"
+abbrev pub versionRule : List ℕ → Bool
+versionRule sheet = eqb (version sheet) 1
+
+-- "1 number of areas A, 1 to 8"
+abbrev pub areaCountRule : List ℕ → Bool
+areaCountRule sheet = between 1 8 (areaCount sheet)
+
+-- "2 offset of area rows, 12"
+abbrev pub areaOffsetRule : List ℕ → Bool
+areaOffsetRule sheet = eqb (areaOffset sheet) areaRows
+
+-- "3 number of items I, 2 to 64"
+abbrev pub itemCountRule : List ℕ → Bool
+itemCountRule sheet = between 2 64 (itemCount sheet)
+
+-- "4 offset of item rows, 12 + 4A"
+abbrev pub itemOffsetRule : List ℕ → Bool
+itemOffsetRule sheet = eqb (itemOffset sheet) (itemRows sheet)
+
+-- "5 number of bank words B, 2 to 256"
+abbrev pub bankWordsRule : List ℕ → Bool
+bankWordsRule sheet = between 2 256 (bankWords sheet)
+
+-- "6 functions allowed, 0 to 15"
+abbrev pub functionsRule : List ℕ → Bool
+functionsRule sheet = between 0 15 (functions sheet)
+
+-- "7 length of the sheet in words, 12 + 4A + 6I"
+abbrev pub sheetWordsRule : List ℕ → Bool
+sheetWordsRule sheet = eqb (sheetWords sheet) (rowsEnd sheet)
+
+-- "11 zero"
+abbrev pub spareWordRule : List ℕ → Bool
+spareWordRule sheet = eqb (spareWord sheet) 0
+
+-- "The byte length is exactly twice word 7"
+abbrev pub byteLengthRule : List ℕ → Bool
+byteLengthRule sheet = eqb (length sheet) (2 * sheetWords sheet)
+
+unfoldable pub headerSound : List ℕ → Bool
+headerSound sheet =
+    versionRule sheet && areaCountRule sheet && areaOffsetRule sheet && itemCountRule sheet && itemOffsetRule sheet
+    && bankWordsRule sheet && functionsRule sheet && sheetWordsRule sheet && spareWordRule sheet && byteLengthRule sheet
+
+-- ---- the functions allowed: "1 for 03, 2 for 05, 4 for 06, 8 for 10, summed"
+abbrev pub bitOf03 : ℕ
+bitOf03 = 1
+
+abbrev pub bitOf05 : ℕ
+bitOf05 = 2
+
+abbrev pub bitOf06 : ℕ
+bitOf06 = 4
+
+abbrev pub bitOf10 : ℕ
+bitOf10 = 8
+
+-- the function of a bit is among those allowed
+abbrev pub allowed : List ℕ → ℕ → Bool
+allowed sheet bit = eqb (functions sheet / bit % 2) 1
+
+-- ---- the area rows
+
+-- "access (1 read only, 3 read and write)"
+abbrev pub readOnly : ℕ
+readOnly = 1
+
+abbrev pub readAndWrite : ℕ
+readAndWrite = 3
+
+abbrev pub accessRule : Area → Bool
+accessRule area = eqb (area .access) readOnly || eqb (area .access) readAndWrite
+
+-- "First is not above last"
+abbrev pub firstLastRule : Area → Bool
+firstLastRule area = leb (area .first) (area .last)
+
+-- how many addresses, and so places, an area has; none where first is above last
+abbrev pub lengthOf : Area → ℕ
+lengthOf area = area .last + 1 - area .first
+
+-- "areas ascend and share no address": each ends in front of every one behind it
+unfoldable pub areasAscend : List Area → Bool
+unfolding each
+areasAscend [] = true
+areasAscend (area ∷ behind) = each (λ later. ltb (area .last) (later .first)) behind && areasAscend behind
+
+-- "an area's first place is the sum of the lengths before it"
+unfoldable pub placesFollow : ℕ → List Area → Bool
+placesFollow before [] = true
+placesFollow before (area ∷ behind) = eqb (area .place) before && placesFollow (before + lengthOf area) behind
+
+unfoldable pub lengthsSum : List Area → ℕ
+lengthsSum [] = 0
+lengthsSum (area ∷ behind) = lengthOf area + lengthsSum behind
+
+-- "the lengths sum to B"
+abbrev pub lengthsSumRule : List ℕ → Bool
+lengthsSumRule sheet = eqb (lengthsSum (areas sheet)) (bankWords sheet)
+
+-- an address lies in an area
+abbrev pub inArea : ℕ → Area → Bool
+inArea address area = leb (area .first) address && leb address (area .last)
+
+-- "If function 05 is allowed, the clear address lies in no area; otherwise word 10 is 0."
+abbrev pub clearAddressRule : List ℕ → Bool
+clearAddressRule sheet =
+    cond (allowed sheet bitOf05) (not (some (inArea (clearAddress sheet)) (areas sheet))) (eqb (clearAddress sheet) 0)
+
+unfoldable pub areasSound : List ℕ → Bool
+areasSound sheet =
+    each accessRule (areas sheet) && each firstLastRule (areas sheet) && areasAscend (areas sheet)
+    && placesFollow 0 (areas sheet) && lengthsSumRule sheet && clearAddressRule sheet
+
+-- ---- the item rows
+
+-- "kind (0 unsigned word, 1 signed word, 2 unsigned pair ..)"
+abbrev pub kindRule : Item → Bool
+kindRule item = between 0 2 (item .kind)
+
+abbrev pub isPair : Item → Bool
+isPair item = eqb (item .kind) unsignedPair
+
+-- "For kinds 0 and 1 the first word of each bound is 0 and the second is the bound"
+abbrev pub boundsRule : Item → Bool
+boundsRule item = isPair item || (eqb (item .low / 65536) 0 && eqb (item .high / 65536) 0)
+
+-- "Low is not above high", "signed for kind 1"
+abbrev pub lowHighRule : Item → Bool
+lowHighRule item = notAbove (item .kind) (item .low) (item .high)
+
+-- the places of an item: its first place, and the next one for a pair
+abbrev pub placesOf : Item → List ℕ
+placesOf item = item .place ∷ cond (isPair item) ((item .place + 1) ∷ []) []
+
+unfoldable pub itemPlaces : List Item → List ℕ
+itemPlaces [] = []
+itemPlaces (item ∷ behind) = placesOf item ++ itemPlaces behind
+
+-- the access of an area that may be written, and whose places are covered by items
+abbrev pub writable : ℕ → Bool
+writable access = eqb access readAndWrite
+
+-- the access of an area that may be read
+abbrev pub readable : ℕ → Bool
+readable access = eqb access readOnly || eqb access readAndWrite
+
+unfoldable pub writablePlaces : List Area → List ℕ
+unfolding upFrom
+writablePlaces [] = []
+writablePlaces (area ∷ behind) =
+    cond (writable (area .access)) (upFrom (area .place) (lengthOf area)) [] ++ writablePlaces behind
+
+-- "Items ascend, and cover each place of every access 3 area exactly once and no other place": the places of the items, row after row,
+-- are the places of the access 3 areas, row after row
+abbrev pub coverRule : List ℕ → Bool
+coverRule sheet = samePlaces (itemPlaces (items sheet)) (writablePlaces (areas sheet))
+
+-- a place is one of an area's
+abbrev pub placeInArea : ℕ → Area → Bool
+placeInArea place area = leb (area .place) place && ltb place (area .place + lengthOf area)
+
+-- a place and the next one lie within one area
+abbrev pub pairWithin : List Area → ℕ → Bool
+pairWithin all place = some (λ area. placeInArea place area && placeInArea (place + 1) area) all
+
+-- "a pair lies within one area"
+abbrev pub pairRule : List Area → Item → Bool
+pairRule all item = not (isPair item) || pairWithin all (item .place)
+
+unfoldable pub itemsSound : List ℕ → Bool
+itemsSound sheet =
+    each kindRule (items sheet) && each boundsRule (items sheet) && each lowHighRule (items sheet) && coverRule sheet
+    && each (pairRule (areas sheet)) (items sheet)
+
+-- ---- the address and the rate
+
+-- "the address range is within 0 to FF"
+abbrev pub lowestStation : ℕ
+lowestStation = 0
+
+abbrev pub highestStation : ℕ
+highestStation = 0xFF
+
+-- a "kind 0 item" whose first place is a given one and "whose range holds 1"
+abbrev pub settingAt : ℕ → Item → Bool
+settingAt place item =
+    eqb (item .kind) unsignedWord && eqb (item .place) place && inRange (item .kind) (item .low) (item .high) 1
+
+-- "the address range is within 0 to FF"
+abbrev pub addressItem : ℕ → Item → Bool
+addressItem place item = settingAt place item && leb lowestStation (item .low) && leb (item .high) highestStation
+
+-- "the rate's is 0 to 1"
+abbrev pub rateItem : ℕ → Item → Bool
+rateItem place item = settingAt place item && eqb (item .low) 0 && eqb (item .high) 1
+
+-- "Address and rate are different places, each a kind 0 item whose range holds 1; the address range is within 0 to FF, the rate's is 0 to 1."
+unfoldable pub settingsSound : List ℕ → Bool
+settingsSound sheet =
+    not (eqb (addressPlace sheet) (ratePlace sheet)) && some (addressItem (addressPlace sheet)) (items sheet)
+    && some (rateItem (ratePlace sheet)) (items sheet)
+
+-- ---- a sheet that breaks no rule
+unfoldable pub sound : List ℕ → Bool
+sound sheet = headerSound sheet && areasSound sheet && itemsSound sheet && settingsSound sheet
+
+abbrev pub soundOrBroken : Bool → SheetJudged
+soundOrBroken true = Sound
+soundOrBroken false = BreaksRule
+
+-- what the check of a sheet answers
+abbrev pub judgedSheet : List ℕ → SheetJudged
+judgedSheet sheet = soundOrBroken (sound sheet)
+
+-- 01, "Numbers handed back to the firmware": 0 done, 2 "sheet breaks a rule"
+abbrev pub sheetNumber : SheetJudged → ℕ
+sheetNumber Sound = 0
+sheetNumber BreaksRule = 2
