@@ -1,0 +1,171 @@
+-- Condition 6 in plain numbers is what step 6 tests. Assumes nothing.
+use mathlib.Core.Path.{_≡_, refl, sym, ap, ap₂, subst, _∙_}
+use mathlib.Core.Bool.{Bool, true, false, not, cond, _&&_, _||_, true≢false}
+use mathlib.Core.List.{List}
+use mathlib.Core.Logic.{_⊎_, inl, inr}
+use Prim.Native.Nat.{ℕ, zero, suc, _+_, _≤_, _<_}
+use native.Mathlib.Omega.{arith}
+use lib.Dec.{leb, ltb, eqb}
+use borrow.Author.Tests.{eqb-true, eq-eqb, le-ltb, ltb-false, not-false}
+use Rattle.lists.specs.Lists.{each, upFrom}
+use Rattle.sheet_rules.specs.declared.Lies.the-variants.{At}
+use Rattle.sheet_rules.specs.Rows.{areas, clearAddress}
+use Rattle.sheet_rules.specs.Rules.{sound}
+use Rattle.sheet_rules.specs.Lookup.{liesIn}
+use Rattle.sheet_rules.proofs.Addresses.{lies-word}
+use Rattle.bank_rules.specs.Bank.{placeIn}
+use Rattle.meter_rules.specs.declared.Purpose.{Purpose}
+use Rattle.meter_rules.specs.declared.Purpose.the-variants.{Read, Write}
+use Rattle.meter_rules.specs.Runs.{permits, opens, allOpen}
+use Rattle.meter_rules.specs.Frame.{function, start, second, isWrite, count, run}
+use Rattle.meter_rules.specs.Steps.{wrongAddress}
+use Rattle.meter_rules.proofs.Written.{each-open}
+use Rattle.plain.specs.Numbers.{Bytes, byte, word}
+use Rattle.plain.specs.Sheet.{LiesAt}
+use Rattle.plain.specs.Frame.{registers, address, Readable, Writable, RightAddress}
+use Rattle.plain.proofs.Rows.{word-same, lies-plain, plain-lies}
+use Rattle.plain.proofs.Conditions.{Tells, neither-first, neither-second, neither, where-so, so-where}
+
+-- a rule that holds of each number of a run
+pub each-up : (rule : ℕ → Bool) (first many : ℕ) → ((k : ℕ) → k < many → rule (first + k) ≡ true) → each rule (upFrom first many) ≡ true
+unfolding each upFrom
+each-up rule first zero all = refl
+each-up rule first (suc many) all =
+    ap₂ _&&_ (ap rule (let same : first ≡ first + 0 = omega arith in same) ∙ all 0 (omega arith))
+    (each-up rule (suc first) many (λ k less. ap rule (let same : suc first + k ≡ first + suc k = omega arith in same) ∙ all (suc k) (omega arith)))
+
+-- the addresses of a frame, as the definitions count them
+pub address-same : (frame : List ℕ) (k : ℕ) → address frame k ≡ start frame + k
+address-same frame k = ap (λ (n : ℕ). n + k) (word-same frame 2)
+
+pub registers-same : (frame : List ℕ) → registers frame ≡ count frame
+registers-same frame = ap (λ (n : ℕ). cond (eqb (function frame) 0x06) 1 n) (word-same frame 4)
+
+-- a write is a 06 or a 10
+module _ (frame : List ℕ) where
+  pub writes : (byte frame 1 ≡ 0x06) ⊎ (byte frame 1 ≡ 0x10) → isWrite frame ≡ true
+  writes (inl e) = ap (λ (b : Bool). b || eqb (function frame) 0x10) (eq-eqb (function frame) 0x06 e)
+  writes (inr e) = either (eqb (function frame) 0x06) (eqb (function frame) 0x10) (eq-eqb (function frame) 0x10 e)
+    where
+      either : (a b : Bool) → b ≡ true → (a || b) ≡ true
+      either true b e = refl
+      either false b e = e
+
+  pub which : isWrite frame ≡ true → (byte frame 1 ≡ 0x06) ⊎ (byte frame 1 ≡ 0x10)
+  which e = go (eqb (function frame) 0x06) refl e
+    where
+      go : (one : Bool) → eqb (function frame) 0x06 ≡ one → (one || eqb (function frame) 0x10) ≡ true → (byte frame 1 ≡ 0x06) ⊎ (byte frame 1 ≡ 0x10)
+      go true o e = inl (eqb-true (function frame) 0x06 o)
+      go false o e = inr (eqb-true (function frame) 0x10 e)
+
+module _ (sheet : List ℕ) (keeps : sound sheet ≡ true) (bytes : Bytes sheet) where
+  -- an address that is open to a purpose
+  pub record Open (purpose : Purpose) (at : ℕ) : Type 0 where
+    pub small : at ≤ 0xFFFF
+    pub place : ℕ
+    pub access : ℕ
+    pub lies : LiesAt sheet at place access
+    pub permitted : permits purpose access ≡ true
+
+  module _ (purpose : Purpose) (frame : List ℕ) where
+    pub open-so : allOpen purpose sheet (run frame) ≡ true → (k : ℕ) → k < registers frame → Open purpose (address frame k)
+    open-so all k less =
+        let one = each-open purpose sheet keeps (start frame) (count frame) all k (omega (arith, registers-same frame)) in
+        let at = ap (liesIn (areas sheet)) (address-same frame k) ∙ one .at in
+        record {
+          small = omega (arith, lies-word sheet keeps bytes (address frame k) (placeIn (liesIn (areas sheet) (start frame + k))) (one .access) at);
+          place = placeIn (liesIn (areas sheet) (start frame + k));
+          access = one .access;
+          lies = lies-plain sheet keeps at;
+          permitted = one .permitted;
+        }
+
+    pub so-open : ((k : ℕ) → k < registers frame → Open purpose (address frame k)) → allOpen purpose sheet (run frame) ≡ true
+    unfolding allOpen
+    so-open all =
+        each-up (λ at. opens purpose (liesIn (areas sheet) at)) (start frame) (count frame)
+        (λ k less. let one = all k (omega (arith, registers-same frame)) in
+        ap (λ (at : ℕ). opens purpose (liesIn (areas sheet) at)) (sym (address-same frame k))
+        ∙ ap (opens purpose) (plain-lies sheet keeps (one .lies)) ∙ one .permitted)
+
+  readable-so : {at : ℕ} → Open Read at → Readable sheet at
+  readable-so one =
+      record { small = one .small; place = one .place; access = one .access; lies = one .lies; permitted = go (eqb (one .access) 1) refl (one .permitted) }
+    where
+      go : (is : Bool) → eqb (one .access) 1 ≡ is → (is || eqb (one .access) 3) ≡ true → (one .access ≡ 1) ⊎ (one .access ≡ 3)
+      go true e f = inl (eqb-true (one .access) 1 e)
+      go false e f = inr (eqb-true (one .access) 3 f)
+
+  so-readable : {at : ℕ} → Readable sheet at → Open Read at
+  so-readable one =
+      record { small = one .small; place = one .place; access = one .access; lies = one .lies; permitted = go (one .permitted) }
+    where
+      either : (a b : Bool) → b ≡ true → (a || b) ≡ true
+      either true b e = refl
+      either false b e = e
+
+      go : (one .access ≡ 1) ⊎ (one .access ≡ 3) → (eqb (one .access) 1 || eqb (one .access) 3) ≡ true
+      go (inl e) = ap (λ (b : Bool). b || eqb (one .access) 3) (eq-eqb (one .access) 1 e)
+      go (inr e) = either (eqb (one .access) 1) (eqb (one .access) 3) (eq-eqb (one .access) 3 e)
+
+  writable-so : {at : ℕ} → Open Write at → Writable sheet at
+  writable-so {at} one =
+      record { small = one .small; place = one .place; lies = subst (LiesAt sheet at (one .place)) (eqb-true (one .access) 3 (one .permitted)) (one .lies) }
+
+  so-writable : {at : ℕ} → Writable sheet at → Open Write at
+  so-writable one = record { small = one .small; place = one .place; access = 3; lies = one .lies; permitted = refl }
+
+  -- ---- the whole of step 6
+
+  module _ (frame : List ℕ) where
+    abbrev tooMany : Bool
+    tooMany = ltb 47 (second frame)
+
+    abbrev readClosed : Bool
+    readClosed = not (allOpen Read sheet (run frame))
+
+    abbrev writeClosed : Bool
+    writeClosed = not (allOpen Write sheet (run frame))
+
+    abbrev elsewhere : Bool
+    elsewhere = not (eqb (start frame) (clearAddress sheet))
+
+    abbrev ofRead : Bool
+    ofRead = eqb (function frame) 0x03 && (tooMany || readClosed)
+
+    abbrev ofWrite : Bool
+    ofWrite = isWrite frame && writeClosed
+
+    abbrev ofClear : Bool
+    ofClear = eqb (function frame) 0x05 && elsewhere
+
+    address-so : wrongAddress sheet frame ≡ false → RightAddress sheet frame
+    address-so e =
+        let early = neither-first (ofRead || ofWrite) ofClear e in
+        let reading : byte frame 1 ≡ 0x03 → (tooMany || readClosed) ≡ false =
+        λ is. where-so (eqb (function frame) 0x03) (tooMany || readClosed) (neither-first ofRead ofWrite early) (eq-eqb (function frame) 0x03 is) in
+        record {
+          atMost47 = λ is. omega (arith, word-same frame 4, ltb-false 47 (second frame) (neither-first tooMany readClosed (reading is)));
+          read = λ is k less. readable-so (open-so Read frame
+              (not-false (allOpen Read sheet (run frame)) (neither-second tooMany readClosed (reading is))) k less);
+          written = λ is k less. writable-so (open-so Write frame
+              (not-false (allOpen Write sheet (run frame)) (where-so (isWrite frame) writeClosed (neither-second ofRead ofWrite early) (writes frame is))) k less);
+          cleared = λ is. word-same frame 2 ∙ eqb-true (start frame) (clearAddress sheet)
+              (not-false (eqb (start frame) (clearAddress sheet))
+              (where-so (eqb (function frame) 0x05) elsewhere (neither-second (ofRead || ofWrite) ofClear e) (eq-eqb (function frame) 0x05 is)))
+              ∙ sym (word-same sheet 20);
+        }
+
+    so-address : RightAddress sheet frame → wrongAddress sheet frame ≡ false
+    so-address right =
+        neither
+        (neither
+        (so-where (eqb (function frame) 0x03) (tooMany || readClosed) (λ is. let read = eqb-true (function frame) 0x03 is in
+        neither (le-ltb 47 (second frame) (omega (arith, word-same frame 4, right .atMost47 read)))
+        (ap not (so-open Read frame (λ k less. so-readable (right .read read k less))))))
+        (so-where (isWrite frame) writeClosed (λ is. ap not (so-open Write frame (λ k less. so-writable (right .written (which frame is) k less))))))
+        (so-where (eqb (function frame) 0x05) elsewhere (λ is.
+        ap not (eq-eqb (start frame) (clearAddress sheet) (sym (word-same frame 2) ∙ right .cleared (eqb-true (function frame) 0x05 is) ∙ word-same sheet 20))))
+
+    pub address-tells : Tells (wrongAddress sheet frame) (RightAddress sheet frame)
+    address-tells = record { right = address-so; wrongly = so-address }

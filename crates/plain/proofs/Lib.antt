@@ -1,0 +1,5 @@
+pub mod Rows
+pub mod Conditions
+pub mod Addresses
+pub mod Values
+pub mod Fates

@@ -1,0 +1,126 @@
+-- What a frame gets: seven conditions in plain numbers, in 01's order; the first that fails decides. Functions, lengths, counts, addresses and
+-- bounds stand here as numbers, and every condition says what must hold. Assumes nothing.
+use mathlib.Core.Path.{_≡_}
+use mathlib.Core.Bool.{cond}
+use mathlib.Core.Logic.{_⊎_}
+use mathlib.Core.List.{List}
+use Prim.Native.Nat.{ℕ, _+_, _-_, _*_, _/_, _%_, _≤_, _<_}
+use lib.Dec.{eqb}
+use lib.ListN.{length, take}
+use Rattle.check_value.specs.Check.{valueOf}
+use Rattle.plain.specs.Numbers.{byte, word, signedAndMore}
+use Rattle.plain.specs.Sheet.{ItemRow, LiesAt}
+
+-- ---- 1: 4 to 100 bytes, and the last two hold the check value of those before them, low byte first
+pub record Whole (frame : List ℕ) : Type 0 where
+  pub least : 4 ≤ length frame
+  pub most : length frame ≤ 100
+  pub check : byte frame (length frame - 2) + 256 * byte frame (length frame - 1) ≡ valueOf (take (length frame - 2) frame)
+
+-- ---- 2: the first byte is the word of the bank at the place that header word 8 gives
+abbrev pub OurStation : List ℕ → List ℕ → List ℕ → Type 0
+OurStation sheet bank frame = byte frame 0 ≡ word bank (2 * word sheet 16)
+
+-- ---- 3: the second byte is a function whose bit is set in header word 6
+abbrev pub Set : ℕ → ℕ → Type 0
+Set sum bit = sum / bit % 2 ≡ 1
+
+abbrev pub Allowed : List ℕ → List ℕ → Type 0
+Allowed sheet frame =
+    ((byte frame 1 ≡ 0x03) × Set (word sheet 12) 1) ⊎ ((byte frame 1 ≡ 0x05) × Set (word sheet 12) 2)
+    ⊎ ((byte frame 1 ≡ 0x06) × Set (word sheet 12) 4) ⊎ ((byte frame 1 ≡ 0x10) × Set (word sheet 12) 8)
+
+-- ---- 4: 8 bytes; for 10 nine and as many as its byte count says
+pub record RightLength (frame : List ℕ) : Type 0 where
+  pub eight : (byte frame 1 ≡ 0x10 → ⊥) → length frame ≡ 8
+  pub nineAndMore : byte frame 1 ≡ 0x10 → length frame ≡ 9 + byte frame 6
+
+-- ---- 5: a read and a 10 ask for at least one register, and the byte count of a 10 is twice its count
+pub record RightCount (frame : List ℕ) : Type 0 where
+  pub ofRead : byte frame 1 ≡ 0x03 → 1 ≤ word frame 4
+  pub ofMany : byte frame 1 ≡ 0x10 → (1 ≤ word frame 4) × (byte frame 6 ≡ 2 * word frame 4)
+
+-- ---- 6: the addresses
+
+-- how many registers a frame reads or writes, from the address in its third and fourth byte on: one for 06, else its count
+abbrev pub registers : List ℕ → ℕ
+registers frame = cond (eqb (byte frame 1) 0x06) 1 (word frame 4)
+
+abbrev pub address : List ℕ → ℕ → ℕ
+address frame k = word frame 2 + k
+
+-- an address that can be read, and one that can be written
+pub record Readable (sheet : List ℕ) (at : ℕ) : Type 0 where
+  pub small : at ≤ 0xFFFF
+  pub place : ℕ
+  pub access : ℕ
+  pub lies : LiesAt sheet at place access
+  pub permitted : (access ≡ 1) ⊎ (access ≡ 3)
+
+pub record Writable (sheet : List ℕ) (at : ℕ) : Type 0 where
+  pub small : at ≤ 0xFFFF
+  pub place : ℕ
+  pub lies : LiesAt sheet at place 3
+
+pub record RightAddress (sheet frame : List ℕ) : Type 0 where
+  pub atMost47 : byte frame 1 ≡ 0x03 → word frame 4 ≤ 47
+  pub read : byte frame 1 ≡ 0x03 → (k : ℕ) → k < registers frame → Readable sheet (address frame k)
+  pub written : (byte frame 1 ≡ 0x06) ⊎ (byte frame 1 ≡ 0x10) → (k : ℕ) → k < registers frame → Writable sheet (address frame k)
+  pub cleared : byte frame 1 ≡ 0x05 → word frame 2 ≡ word sheet 20
+
+-- ---- 7: the value of a clear, and the items of a write
+
+-- the k-th word that a write sends: behind four bytes for 06, behind seven for 10
+abbrev pub sentWord : List ℕ → ℕ → ℕ
+sentWord frame k = word frame (cond (eqb (byte frame 1) 0x06) 4 7 + 2 * k)
+
+-- the write goes to a place with its k-th word
+abbrev pub Goes : List ℕ → List ℕ → ℕ → ℕ → Type 0
+Goes sheet frame k place = (k < registers frame) × LiesAt sheet (address frame k) place 3
+
+-- the word that would be at a place: the word sent there, or the bank's where none is
+pub data WouldBe (sheet bank frame : List ℕ) (place w : ℕ) : Type 0 where
+  written : (k : ℕ) → Goes sheet frame k place → w ≡ sentWord frame k → WouldBe sheet bank frame place w
+  kept : ((k : ℕ) → Goes sheet frame k place → ⊥) → w ≡ word bank (2 * place) → WouldBe sheet bank frame place w
+
+-- the value that an item would have: a pair's is its two words, the upper one first
+pub data ValueWouldBe (sheet bank frame : List ℕ) (place value : ℕ) : ℕ → Type 0 where
+  ofWord : {kind : ℕ} → (kind ≡ 2 → ⊥) → WouldBe sheet bank frame place value → ValueWouldBe sheet bank frame place value kind
+  ofPair : {kind : ℕ} → kind ≡ 2 → (upper lower : ℕ) → WouldBe sheet bank frame place upper → WouldBe sheet bank frame (place + 1) lower
+      → value ≡ 65536 * upper + lower → ValueWouldBe sheet bank frame place value kind
+
+-- the write goes to a place of an item
+abbrev pub Touches : List ℕ → List ℕ → ℕ → ℕ → Type 0
+Touches sheet frame kind place = (k : ℕ) × (Goes sheet frame k place ⊎ ((kind ≡ 2) × Goes sheet frame k (place + 1)))
+
+-- a value between its bounds, signed for kind 1
+pub record Within (kind low high value : ℕ) : Type 0 where
+  pub plain : (kind ≡ 1 → ⊥) → (low ≤ value) × (value ≤ high)
+  pub signed : kind ≡ 1 → (signedAndMore low ≤ signedAndMore value) × (signedAndMore value ≤ signedAndMore high)
+
+pub record RightValue (sheet bank frame : List ℕ) : Type 0 where
+  pub ofClear : byte frame 1 ≡ 0x05 → word frame 4 ≡ 0
+  pub ofItems : (byte frame 1 ≡ 0x06) ⊎ (byte frame 1 ≡ 0x10) → (kind place low high value : ℕ) → ItemRow sheet kind place low high
+      → Touches sheet frame kind place → ValueWouldBe sheet bank frame place value kind → Within kind low high value
+
+-- ---- what comes of it: silence, an error by its code, or a reply without error
+
+pub data Fate : Type 0 where
+  silence : Fate
+  error : ℕ → Fate
+  good : Fate
+
+-- the first condition that fails decides; where none fails there is a reply without error
+pub data Gets (sheet bank frame : List ℕ) : Fate → Type 0 where
+  notWhole : (Whole frame → ⊥) → Gets sheet bank frame silence
+  otherStation : Whole frame → (OurStation sheet bank frame → ⊥) → Gets sheet bank frame silence
+  notAllowed : Whole frame → OurStation sheet bank frame → (Allowed sheet frame → ⊥) → Gets sheet bank frame (error 1)
+  wrongLength : Whole frame → OurStation sheet bank frame → Allowed sheet frame → (RightLength frame → ⊥) → Gets sheet bank frame silence
+  wrongCount : Whole frame → OurStation sheet bank frame → Allowed sheet frame → RightLength frame → (RightCount frame → ⊥)
+      → Gets sheet bank frame (error 3)
+  wrongAddress : Whole frame → OurStation sheet bank frame → Allowed sheet frame → RightLength frame → RightCount frame
+      → (RightAddress sheet frame → ⊥) → Gets sheet bank frame (error 2)
+  wrongValue : Whole frame → OurStation sheet bank frame → Allowed sheet frame → RightLength frame → RightCount frame → RightAddress sheet frame
+      → (RightValue sheet bank frame → ⊥) → Gets sheet bank frame (error 3)
+  allRight : Whole frame → OurStation sheet bank frame → Allowed sheet frame → RightLength frame → RightCount frame → RightAddress sheet frame
+      → RightValue sheet bank frame → Gets sheet bank frame good
