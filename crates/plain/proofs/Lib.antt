@@ -3,3 +3,4 @@ pub mod Conditions
 pub mod Addresses
 pub mod Values
 pub mod Fates
+pub mod Damage

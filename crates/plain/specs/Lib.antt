@@ -1,3 +1,4 @@
 pub mod Numbers
 pub mod Sheet
 pub mod Frame
+pub mod Damage
