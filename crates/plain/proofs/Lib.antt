@@ -4,3 +4,5 @@ pub mod Addresses
 pub mod Values
 pub mod Fates
 pub mod Damage
+pub mod Registers
+pub mod Printed

@@ -98,7 +98,7 @@ module _ (sheet bank frame : List ℕ) (keeps : sound sheet ≡ true) (all : all
   abbrev many : ℕ
   many = count frame
 
-  goes-at : (k place : ℕ) → Goes sheet frame k place → place ≡ first + k
+  pub goes-at : (k place : ℕ) → Goes sheet frame k place → place ≡ first + k
   goes-at k place goes =
       sym (ap placeIn (plain-lies sheet keeps (goes .1))) ∙ ap (λ (n : ℕ). placeIn (liesIn (areas sheet) n)) (address-same frame k)
       ∙ run-place Write sheet keeps (start frame) many all k (omega (arith, goes .0, registers-same frame))
@@ -146,7 +146,7 @@ module _ (sheet bank frame : List ℕ) (keeps : sound sheet ≡ true) (all : all
   abbrev would : ℕ → ℕ
   would = wouldBe first many bank frame
 
-  value-so : (item : Item) (value : ℕ) → ValueWouldBe sheet bank frame (item .place) value (item .kind) → value ≡ valueBy would item
+  pub value-so : (item : Item) (value : ℕ) → ValueWouldBe sheet bank frame (item .place) value (item .kind) → value ≡ valueBy would item
   value-so item value (ofWord other is) =
       would-so (item .place) value is
       ∙ ap (λ (b : Bool). cond b (would (item .place) * 65536 + would (item .place + 1)) (would (item .place))) (sym (ne-eqb (item .kind) 2 other))
@@ -154,7 +154,7 @@ module _ (sheet bank frame : List ℕ) (keeps : sound sheet ≡ true) (all : all
       is ∙ omega (arith, would-so (item .place) upper up, would-so (item .place + 1) lower down)
       ∙ ap (λ (b : Bool). cond b (would (item .place) * 65536 + would (item .place + 1)) (would (item .place))) (sym (eq-eqb (item .kind) 2 pair))
 
-  so-value : (item : Item) → ValueWouldBe sheet bank frame (item .place) (valueBy would item) (item .kind)
+  pub so-value : (item : Item) → ValueWouldBe sheet bank frame (item .place) (valueBy would item) (item .kind)
   so-value item = go (isPair item) refl
     where
       go : (pair : Bool) → isPair item ≡ pair

@@ -2,3 +2,4 @@ pub mod Numbers
 pub mod Sheet
 pub mod Frame
 pub mod Damage
+pub mod Registers
