@@ -6,3 +6,5 @@ pub mod Fates
 pub mod Damage
 pub mod Registers
 pub mod Printed
+pub mod Once
+pub mod ReadOnly

@@ -3,3 +3,4 @@ pub mod Sheet
 pub mod Frame
 pub mod Damage
 pub mod Registers
+pub mod Left
