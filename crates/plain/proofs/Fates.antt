@@ -20,14 +20,14 @@ use Rattle.plain.proofs.Addresses.{address-tells}
 use Rattle.plain.proofs.Values.{value-tells}
 
 -- a test that is not passed is true
-fails : {wrong : Bool} {Right : Type 0} → Tells wrong Right → (Right → ⊥) → wrong ≡ true
+pub fails : {wrong : Bool} {Right : Type 0} → Tells wrong Right → (Right → ⊥) → wrong ≡ true
 fails {wrong} tells not-right = go wrong refl
   where
     go : (b : Bool) → wrong ≡ b → wrong ≡ true
     go true e = e
     go false e = absurd (not-right (tells .right e))
 
-unmet : {wrong : Bool} {Right : Type 0} → Tells wrong Right → wrong ≡ true → Right → ⊥
+pub unmet : {wrong : Bool} {Right : Type 0} → Tells wrong Right → wrong ≡ true → Right → ⊥
 unmet tells e right = true≢false (sym e ∙ tells .wrongly right)
 
 -- the fate that seven tests give, one after the other

@@ -8,3 +8,4 @@ pub mod Registers
 pub mod Printed
 pub mod Once
 pub mod ReadOnly
+pub mod Words

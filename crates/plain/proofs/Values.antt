@@ -88,7 +88,7 @@ module _ (kind low high value : ℕ) where
 
 -- ---- the places that a write goes to
 
-sent-same : (frame : List ℕ) (k : ℕ) → sentWord frame k ≡ sent frame k
+pub sent-same : (frame : List ℕ) (k : ℕ) → sentWord frame k ≡ sent frame k
 sent-same frame k = word-same frame (cond (eqb (function frame) 0x06) 4 7 + 2 * k)
 
 module _ (sheet bank frame : List ℕ) (keeps : sound sheet ≡ true) (all : allOpen Write sheet (run frame) ≡ true) where
@@ -103,12 +103,12 @@ module _ (sheet bank frame : List ℕ) (keeps : sound sheet ≡ true) (all : all
       sym (ap placeIn (plain-lies sheet keeps (goes .1))) ∙ ap (λ (n : ℕ). placeIn (liesIn (areas sheet) n)) (address-same frame k)
       ∙ run-place Write sheet keeps (start frame) many all k (omega (arith, goes .0, registers-same frame))
 
-  goes-in : (k place : ℕ) → Goes sheet frame k place → inRun first many place ≡ true
+  pub goes-in : (k place : ℕ) → Goes sheet frame k place → inRun first many place ≡ true
   goes-in k place goes =
       let at = goes-at k place goes in
       ap₂ _&&_ (le-leb first place (omega (arith, at))) (lt-ltb place (first + many) (omega (arith, at, goes .0, registers-same frame)))
 
-  in-goes : (place : ℕ) → inRun first many place ≡ true → Goes sheet frame (place - first) place
+  pub in-goes : (place : ℕ) → inRun first many place ≡ true → Goes sheet frame (place - first) place
   in-goes place e =
       let low = run-above first many place e in
       let high = run-below first many place e in
@@ -165,7 +165,7 @@ module _ (sheet bank frame : List ℕ) (keeps : sound sheet ≡ true) (all : all
 
   -- ---- the items that a write touches
 
-  touches-so : (item : Item) → Touches sheet frame (item .kind) (item .place) → touched first many item ≡ true
+  pub touches-so : (item : Item) → Touches sheet frame (item .kind) (item .place) → touched first many item ≡ true
   touches-so item (k, inl goes) =
       ap (λ (b : Bool). b || (isPair item && inRun first many (item .place + 1))) (goes-in k (item .place) goes)
   touches-so item (k, inr second) =
@@ -176,7 +176,7 @@ module _ (sheet bank frame : List ℕ) (keeps : sound sheet ≡ true) (all : all
       either true b e = refl
       either false b e = e
 
-  so-touches : (item : Item) → touched first many item ≡ true → Touches sheet frame (item .kind) (item .place)
+  pub so-touches : (item : Item) → touched first many item ≡ true → Touches sheet frame (item .kind) (item .place)
   so-touches item e = go (inRun first many (item .place)) refl e
     where
       go : (b : Bool) → inRun first many (item .place) ≡ b → (b || (isPair item && inRun first many (item .place + 1))) ≡ true
@@ -211,7 +211,7 @@ module _ (sheet bank frame : List ℕ) (keeps : sound sheet ≡ true) (all : all
           absurd (false≢true (sym none ∙ among-some (badItem first many bank frame) (row-item sheet row)
           (ap₂ _&&_ (touches-so record { kind = kind; place = place; low = low; high = high } touch) (ap not e))))
 
-  so-items : ItemsRight → someBad sheet bank frame ≡ false
+  pub so-items : ItemsRight → someBad sheet bank frame ≡ false
   unfolding someBad badItem goodBy
   so-items right = go (someBad sheet bank frame) refl
     where
