@@ -29,5 +29,5 @@ handed number length rate bank buffer = record { number = number; length = lengt
 
 abbrev pub handedOf : meter.Outcome → Handed
 handedOf outcome =
-    handed (meter.numberOf (outcome .answered)) (meter.lengthOf (outcome .answered)) (meter.rateIn (outcome .answered)) (outcome .bank)
+    handed (meter.numberOf (outcome .answered)) (meter.lengthIn (outcome .answered)) (meter.rateIn (outcome .answered)) (outcome .bank)
     (outcome .buffer)

@@ -34,6 +34,7 @@ pub(crate) fn of_answered(answered: Answered) -> u32
 {
     match answered {
         Answered::Reply { length: _, rate: _ } => 0,
+        Answered::Error { code: _, rate: _ } => 0,
         Answered::Silence => 1,
         Answered::SheetBreaksRule => 2,
         Answered::BankMisfits => 3,
@@ -44,10 +45,11 @@ pub(crate) fn of_answered(answered: Answered) -> u32
 
 // The length of a reply; 0 where there is none.
 pub(crate) fn length_of(answered: Answered) -> u32
-    ensures { λ r. ⌜ r ≡ meter.lengthOf answered ⌝ }
+    ensures { λ r. ⌜ r ≡ meter.lengthIn answered ⌝ }
 {
     match answered {
         Answered::Reply { length, rate: _ } => length,
+        Answered::Error { code: _, rate: _ } => frame::ERROR_LENGTH,
         Answered::Silence => 0,
         Answered::SheetBreaksRule => 0,
         Answered::BankMisfits => 0,
@@ -62,6 +64,7 @@ pub(crate) fn rate_of(answered: Answered) -> u32
 {
     match answered {
         Answered::Reply { length: _, rate } => rate as u32,
+        Answered::Error { code: _, rate } => rate as u32,
         Answered::Silence => 0,
         Answered::SheetBreaksRule => 0,
         Answered::BankMisfits => 0,

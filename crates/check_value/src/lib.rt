@@ -4,6 +4,14 @@ ghost use denote.Ref.{now};
 ghost use Rattle.check_value.specs.Check.{startState, bitsOfByte, shiftedTimes, taken, valueOf, checkAt};
 ghost use Rattle.check_value.specs.Frame.{passes, sealed};
 
+// "Start at FFFF."
+const START_STATE: u16 = 0xFFFF;
+
+// "4 to 100 bytes", the last two of which hold the check.
+pub const SHORTEST: usize = 4;
+pub const LONGEST: usize = 100;
+pub const CHECK_BYTES: usize = 2;
+
 // The running state.
 pub struct Check {
     pub state: u16,
@@ -28,7 +36,7 @@ impl Check {
     pub fn start() -> Check
         ensures { λ r. ⌜ r ≡ checkAt startState ⌝ }
     {
-        Check { state: 0xFFFF }
+        Check { state: START_STATE }
     }
 
     // The state after one byte more.
@@ -68,13 +76,13 @@ pub fn passes(frame: &[u8]) -> bool
     ensures { λ r. ⌜ r ≡ passes (now (frame .entry)) ⌝ }
 {
     let n = frame.len();
-    if n < 4 {
+    if n < SHORTEST {
         return false;
     }
-    if 100 < n {
+    if LONGEST < n {
         return false;
     }
-    let body = n - 2;
+    let body = n - CHECK_BYTES;
     let value = value_of(&frame[..body]);
     value == words::byte_at(frame, n - 1) as u16 * 256 + words::byte_at(frame, body) as u16
 }
@@ -83,10 +91,10 @@ pub fn passes(frame: &[u8]) -> bool
 pub fn seal(buffer: &mut [u8], n: usize)
     ensures { λ _. ⌜ now (buffer .exit) ≡ sealed (now (buffer .entry)) n ⌝ }
 {
-    if buffer.len() < 2 {
+    if buffer.len() < CHECK_BYTES {
         return;
     }
-    if buffer.len() - 2 < n {
+    if buffer.len() - CHECK_BYTES < n {
         return;
     }
     let value = value_of(&buffer[..n]);

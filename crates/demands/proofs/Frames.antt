@@ -11,7 +11,7 @@ use lib.Dec.{ltb, eqb}
 use lib.ListN.{length, take, drop}
 use lib.Seq.{take-at, drop-append-seam}
 use borrow.Author.Tests.{eqb-true, le-ltb, ltb-false, not-false}
-use Rattle.words.specs.Words.{byteAt}
+use Rattle.words.specs.Words.{byteAt, wordBytes}
 use Rattle.check_value.specs.Frame.{passes}
 use Rattle.lists.specs.Lists.{each, upFrom}
 use Rattle.bank_rules.specs.Bank.{rateOf}
@@ -21,13 +21,14 @@ use Rattle.lists.proofs.Cases.{mapped-first, first-none, first-in-front, none-h
 use Rattle.bank_rules.proofs.Stores.{stored-length}
 use Rattle.meter_rules.specs.declared.Judged.{Judged}
 use Rattle.meter_rules.specs.declared.Judged.the-variants.{FailsCheck, OtherStation, FunctionNotAllowed, WrongLength, WrongCount, WrongAddress, WrongValue, BadItem, GoodRead, GoodClear, GoodWrite}
-use Rattle.meter_rules.specs.Frame.{reads, clears, writesOne, writesMany, station, function, start, second, isWrite, count, functionAllowed}
+use Rattle.frame.specs.Frame.{reads, clears, writesOne, writesMany, station, function, start, second, isWrite, count}
+use Rattle.meter_rules.specs.Steps.{functionAllowed}
 use Rattle.meter_rules.specs.Write.{firstPlace}
 use Rattle.meter_rules.specs.Steps as meter
-use Rattle.meter_rules.specs.Reply.{wordBytes, bankRun, echo, writeReply, errorReply, topBitSet, withCheck, replyTo, storesOf}
-use Rattle.meter_rules.specs.Answer.{numberOf, laid, leastBuffer, outcome, answeredWith, actedOn, answerOutcome}
-use Rattle.meter_rules.proofs.Staging.{judged-fits}
-use Rattle.meter_rules.proofs.Closing.{reply-length, reply-passes}
+use Rattle.meter_rules.specs.Reply.{bankRun, replyTo, storesOf}
+use Rattle.frame.specs.Reply.{echo, writeReply, errorReply, topBitSet, withCheck, laid}
+use Rattle.meter_rules.specs.Answer.{numberOf, leastBuffer, outcome, answeredWith, actedOn, answerOutcome}
+use Rattle.meter_rules.proofs.Closing.{judged-fits, reply-length, reply-passes}
 use Rattle.meter_rules.proofs.Outcomes.{quiet, quiet-changes-nothing, outcome-cases}
 use Rattle.meter_rules.proofs.Soundness.{writes}
 use Rattle.cedarskein.specs.Door.{Handed, handed, handedOf}

@@ -26,13 +26,14 @@ use Rattle.bank_rules.proofs.Changes.{mark-there, mark-apart}
 use Rattle.meter_rules.specs.declared.Judged.{Judged}
 use Rattle.meter_rules.specs.declared.Judged.the-variants.{BadItem, GoodRead, GoodClear, GoodWrite}
 use Rattle.meter_rules.specs.declared.Purpose.the-variants.{Read, Write}
-use Rattle.meter_rules.specs.Frame.{reads, clears, writesOne, writesMany, station, function, start, second, isWrite, count, run, sent}
+use Rattle.frame.specs.Frame.{reads, clears, writesOne, writesMany, station, function, start, second, isWrite, count, run, sent}
 use Rattle.meter_rules.specs.Runs.{allOpen}
 use Rattle.meter_rules.specs.Write.{firstPlace, inRun, wouldBe, touched, badItem, someBad, stopIn, stopPlace, runStores}
 use Rattle.meter_rules.specs.Steps as meter
-use Rattle.meter_rules.specs.Reply.{bankRun, readReply, echo, withCheck, replyTo, storesOf}
-use Rattle.meter_rules.specs.Answer.{outcome, answeredWith, laid, actedOn}
-use Rattle.meter_rules.proofs.Reading.{check-length, read-length}
+use Rattle.meter_rules.specs.Reply.{bankRun, replyTo, storesOf}
+use Rattle.frame.specs.Reply.{readReply, echo, withCheck, laid}
+use Rattle.meter_rules.specs.Answer.{outcome, answeredWith, actedOn}
+use Rattle.frame.proofs.Reading.{check-length, read-length}
 use Rattle.meter_rules.proofs.Written.{run-place, each-open}
 use Rattle.meter_rules.proofs.Judging.{run-test, run-above}
 use Rattle.meter_rules.proofs.Stopping.{run-below, stop-some}

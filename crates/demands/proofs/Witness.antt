@@ -7,7 +7,7 @@ use mathlib.Core.List.{List, [], _∷_, _++_, map}
 use Prim.Native.Nat.{ℕ}
 use native.Mathlib.Omega.{arith}
 use lib.ListN.{take, drop, replicate}
-use Rattle.words.specs.Words.{wordAt, withWord}
+use Rattle.words.specs.Words.{wordAt, withWord, bytesOf}
 use Rattle.check_value.specs.Check.{valueOf}
 use Rattle.check_value.specs.Frame.{passes}
 use Rattle.check_value.proofs.Witness.{frameSent, framesReceived, AllDamaged, sent-passes, received-damaged}
@@ -26,9 +26,10 @@ use Rattle.meter_rules.specs.declared.Judged.the-variants.{FailsCheck, OtherSta
 use Rattle.meter_rules.specs.Runs.{allOpen}
 use Rattle.meter_rules.specs.Write.{badItem, someBad, stopIn, stopPlace, runStores}
 use Rattle.meter_rules.specs.Steps.{judgedFrame}
-use Rattle.meter_rules.specs.Reply.{bankRun, withCheck, replyTo, storesOf}
+use Rattle.meter_rules.specs.Reply.{bankRun, replyTo, storesOf}
+use Rattle.frame.specs.Reply.{withCheck}
 use Rattle.meter_rules.specs.Answer.{actedOn, answerOutcome}
-use Rattle.meter_rules.proofs.CaseSet.{uxMeter, bytesOf}
+use Rattle.meter_rules.proofs.CaseSet.{uxMeter}
 use Rattle.cedarskein.specs.Door.{Handed, handed, handedOf, toldOf}
 use Rattle.demands.specs.Verdict.{Accepted}
 

@@ -9,8 +9,8 @@ use Rattle.sheet_rules.specs.Rules.{sound}
 use Rattle.bank_rules.specs.Bank.{fits, bankSound, rateOf}
 use Rattle.lists.specs.Cases.{Case, when, firstCase}
 use Rattle.meter_rules.specs.Steps.{failsCheck, otherStation, functionNotAllowed, wrongLength, wrongCount, wrongAddress, wrongValue, badWrite}
-use Rattle.meter_rules.specs.Reply.{errorReply, withCheck}
-use Rattle.meter_rules.specs.Answer.{leastBuffer, laid}
+use Rattle.frame.specs.Reply.{errorReply, withCheck, laid}
+use Rattle.meter_rules.specs.Answer.{leastBuffer}
 use Rattle.cedarskein.specs.Door.{Handed, handed}
 
 -- a sound sheet, a bank that fits it and is sound, and a buffer of at least 100 bytes: none of the refusals 2 to 5 applies

@@ -4,7 +4,7 @@ use mathlib.Core.Bool.{cond}
 use mathlib.Core.List.{List, [], _∷_, _++_}
 use lib.Dec.{eqb}
 use lib.ListN.{length}
-use Rattle.words.specs.Words.{upper, lower}
+use Rattle.words.specs.Words.{bytesOf}
 use Rattle.range.specs.Range.{unsignedPair}
 use Rattle.sheet_rules.specs.declared.Area.{Area}
 use Rattle.sheet_rules.specs.declared.Item.{Item}
@@ -107,11 +107,6 @@ itemWords (item ∷ behind) =
     ∷ (item .high / 65536)
     ∷ (item .high % 65536)
     ∷ itemWords behind
-
--- "16-bit words, two bytes each, upper byte first"
-unfoldable pub bytesOf : List ℕ → List ℕ
-bytesOf [] = []
-bytesOf (word ∷ behind) = upper word ∷ lower word ∷ bytesOf behind
 
 -- the bytes of the sheet of a map
 unfoldable pub sheetOf : Map → List ℕ

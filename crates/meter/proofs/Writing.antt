@@ -10,14 +10,16 @@ use Rattle.sheet_rules.specs.Rows.{areas, items}
 use Rattle.lists.specs.Lists.{upFrom}
 use Rattle.sheet_rules.specs.Lookup.{liesIn}
 use Rattle.bank_rules.specs.Bank.{placeIn}
-use Rattle.meter_rules.specs.declared.Parts.{Parts}
+use Rattle.frame.specs.declared.Parts.{Parts}
 use Rattle.meter_rules.specs.declared.Judged.the-variants.{WrongAddress, BadItem, GoodWrite}
 use Rattle.meter_rules.specs.declared.Purpose.the-variants.{Write}
-use Rattle.meter_rules.specs.Frame.{partsOf, manyOf, isWrite, count}
+use Rattle.frame.specs.Frame.{partsOf, manyOf, isWrite, count}
 use Rattle.meter_rules.specs.Runs.{allOpen}
 use Rattle.meter_rules.specs.Write.{firstPlace, someBad, stopIn, stopPlace}
-use Rattle.meter_rules.specs.Steps.{wrongAddress, judgedFrom}
-use Rattle.meter_rules.proofs.Staging.{stops-address, stops-item, good-write, write-address, write-value, write-bad}
+use Rattle.meter_rules.specs.Steps.{wrongAddress}
+use Rattle.meter.specs.Stages.{judgedFrom}
+use Rattle.meter.proofs.Staging.{stops-address, stops-item, good-write}
+use Rattle.meter_rules.proofs.Order.{write-address, write-value, write-bad}
 use Rattle.meter_rules.proofs.Stopping.{stop-some}
 
 module _ (sheet bank frame : List ℕ) (write : isWrite frame ≡ true) (parts : Parts) (apart : parts ≡ partsOf frame) {many : ℕ}

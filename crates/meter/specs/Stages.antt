@@ -1,13 +1,29 @@
--- What the stages of judgement from step 4 on know of a frame: the sheet is sound, the parts are the frame's, and its function is
--- allowed. Only private promises cite this file. Assumes nothing.
+-- What the stages of judgement answer, and what those from step 4 on know of a frame. Only private promises cite this file. Assumes nothing.
 use Prim.Native.Nat.{ℕ}
 use mathlib.Core.Path.{_≡_}
-use mathlib.Core.Bool.{true}
+use mathlib.Core.Bool.{true, cond}
 use mathlib.Core.List.{List}
+use lib.Dec.{eqb}
+use lib.ListN.{drop}
+use Rattle.lists.specs.Cases.{firstCase}
 use Rattle.sheet_rules.specs.Rules.{sound}
-use Rattle.meter_rules.specs.declared.Parts.{Parts}
-use Rattle.meter_rules.specs.Frame.{partsOf, functionAllowed}
+use Rattle.bank_rules.specs.Bank.{stationOf}
+use Rattle.frame.specs.declared.Parts.{Parts}
+use Rattle.frame.specs.Frame.{partsOf}
+use Rattle.meter_rules.specs.declared.Judged.{Judged}
+use Rattle.meter_rules.specs.Steps.{functionAllowed, steps, goodFrame}
+use Rattle.meter.specs.declared.stages.Addressed.{Addressed}
+use Rattle.meter.specs.declared.stages.Addressed.the-variants.{Here, Elsewhere}
 
+-- what step 2 answers: a frame for the bank's station, taken apart, or that it is for another
+unfoldable pub addressedTo : List ℕ → List ℕ → Parts → Addressed
+addressedTo sheet bank parts = cond (eqb (parts .station) (stationOf sheet bank)) (Here parts) Elsewhere
+
+-- where a frame stops, or that it is good, once so many of these conditions have let it through
+unfoldable pub judgedFrom : ℕ → List ℕ → List ℕ → List ℕ → Judged
+judgedFrom passed sheet bank frame = firstCase (drop passed (steps sheet bank frame)) (goodFrame sheet frame)
+
+-- the sheet is sound, the parts are the frame's, and its function is allowed
 pub record Known (sheet frame : List ℕ) (parts : Parts) : Type 0 where
   pub sheetSound : sound sheet ≡ true
   pub apart : parts ≡ partsOf frame

@@ -1,34 +1,57 @@
 // The order of judgement for a frame, stage by stage: each answers where the frame stops, or hands it on to the next.
 ghost use mathlib.Core.Path.{_≡_};
 ghost use mathlib.Core.Bool.{true};
+ghost use Rattle.meter.specs.Stages.{addressedTo, judgedFrom, Known};
 ghost use Rattle.sheet_rules.specs.Rules.{sound};
-ghost use Rattle.meter_rules.specs.Frame.{reads, clears, codeAllowed, isWrite, manyOf};
-ghost use Rattle.meter_rules.specs.Steps.{judgedFrom, judgedFrame};
-ghost use Rattle.meter.specs.Stages.{Known};
+ghost use Rattle.frame.specs.Frame.{reads, clears, isWrite, manyOf};
+ghost use Rattle.meter_rules.specs.Steps.{codeAllowed, judgedFrame};
 use crate::runs;
 use crate::values;
 use crate::values::Write;
+use frame::Parts;
+use frame::Passed;
 use meter_rules::Judged;
-use meter_rules::Parts;
-use meter_rules::Passed;
 use meter_rules::Purpose;
+
+// The bits that allow the functions 03, 05, 06 and 10, of whose sum the sheet has one word.
+const BIT_OF_03: u16 = 1;
+const BIT_OF_05: u16 = 2;
+const BIT_OF_06: u16 = 4;
+const BIT_OF_10: u16 = 8;
+
+// What step 2 answers: a frame for the bank's station, taken apart, or that it is for another.
+pub enum Addressed {
+    Here(Parts),
+    Elsewhere,
+}
+
+// Step 2: the station byte is the bank's address.
+fn for_station(sheet: &[u8], bank: &[u8], parts: Parts) -> Addressed
+    ensures { λ r. ⌜ r ≡ addressedTo (now (sheet .entry)) (now (bank .entry)) parts ⌝ }
+{
+    let address = words::word_at(bank, 2 * (sheet::address_place(sheet) as usize));
+    if parts.station as u16 != address {
+        return Addressed::Elsewhere;
+    }
+    Addressed::Here(parts)
+}
 
 // Whether a function is one of the four and the sheet allows it.
 fn function_allowed(sheet: &[u8], function: u8) -> bool
     ensures { λ r. ⌜ r ≡ codeAllowed (now (sheet .entry)) function ⌝ }
 {
     let sum = sheet::functions(sheet);
-    if function == 0x03 {
-        return sum / 1 % 2 == 1;
+    if function == frame::READS {
+        return sum / BIT_OF_03 % 2 == 1;
     }
-    if function == 0x05 {
-        return sum / 2 % 2 == 1;
+    if function == frame::CLEARS {
+        return sum / BIT_OF_05 % 2 == 1;
     }
-    if function == 0x06 {
-        return sum / 4 % 2 == 1;
+    if function == frame::WRITES_ONE {
+        return sum / BIT_OF_06 % 2 == 1;
     }
-    if function == 0x10 {
-        return sum / 8 % 2 == 1;
+    if function == frame::WRITES_MANY {
+        return sum / BIT_OF_10 % 2 == 1;
     }
     false
 }
@@ -38,13 +61,12 @@ pub(crate) fn judged(sheet: &[u8], bank: &[u8], frame: &[u8]) -> Judged
     requires { ⌜ sound (now sheet) ≡ true ⌝ }
     ensures { λ r. ⌜ r ≡ judgedFrame (now (sheet .entry)) (now (bank .entry)) (now (frame .entry)) ⌝ }
 {
-    let Passed::Frame(parts) = crate::taken_apart(frame) else {
+    let Passed::Frame(passed) = frame::taken_apart(frame) else {
         return Judged::FailsCheck;
     };
-    let address = words::word_at(bank, 2 * (sheet::address_place(sheet) as usize));
-    if parts.station as u16 != address {
+    let Addressed::Here(parts) = for_station(sheet, bank, passed) else {
         return Judged::OtherStation;
-    }
+    };
     if !function_allowed(sheet, parts.function) {
         return Judged::FunctionNotAllowed;
     }
@@ -56,7 +78,7 @@ fn judged_length(sheet: &[u8], bank: &[u8], frame: &[u8], parts: Parts) -> Judge
     requires { ⌜ Known (now sheet) (now frame) parts ⌝ }
     ensures { λ r. ⌜ r ≡ judgedFrom 3 (now (sheet .entry)) (now (bank .entry)) (now (frame .entry)) ⌝ }
 {
-    if parts.function != 0x10 {
+    if parts.function != frame::WRITES_MANY {
         if parts.length != 8 {
             return Judged::WrongLength;
         }
@@ -76,16 +98,16 @@ fn judged_count(sheet: &[u8], bank: &[u8], frame: &[u8], parts: Parts) -> Judged
     requires { ⌜ Known (now sheet) (now frame) parts ⌝ }
     ensures { λ r. ⌜ r ≡ judgedFrom 4 (now (sheet .entry)) (now (bank .entry)) (now (frame .entry)) ⌝ }
 {
-    if parts.function == 0x03 {
+    if parts.function == frame::READS {
         if parts.second == 0 {
             return Judged::WrongCount;
         }
         return judged_read(sheet, bank, frame, parts);
     }
-    if parts.function == 0x05 {
+    if parts.function == frame::CLEARS {
         return judged_clear(sheet, bank, frame, parts);
     }
-    if parts.function == 0x06 {
+    if parts.function == frame::WRITES_ONE {
         return judged_write(sheet, bank, frame, parts);
     }
     if parts.second == 0 {
@@ -103,7 +125,7 @@ fn judged_read(sheet: &[u8], bank: &[u8], frame: &[u8], parts: Parts) -> Judged
     requires { ⌜ parts .function ≡ reads ⌝ }
     ensures { λ r. ⌜ r ≡ judgedFrom 5 (now (sheet .entry)) (now (bank .entry)) (now (frame .entry)) ⌝ }
 {
-    if 47 < parts.second {
+    if frame::MOST_READ < parts.second {
         return Judged::WrongAddress;
     }
     if !runs::all_open(sheet, Purpose::Read, parts.start, parts.second) {
@@ -134,7 +156,7 @@ fn judged_clear(sheet: &[u8], bank: &[u8], frame: &[u8], parts: Parts) -> Judged
 fn many_of(parts: Parts) -> u16
     ensures { λ r. ⌜ r ≡ manyOf (parts .function) (parts .second) ⌝ }
 {
-    if parts.function == 0x06 {
+    if parts.function == frame::WRITES_ONE {
         1
     } else {
         parts.second

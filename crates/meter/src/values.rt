@@ -8,7 +8,7 @@ ghost use Rattle.lists.specs.Lists.{upFrom};
 ghost use Rattle.sheet_rules.specs.Rules.{sound};
 ghost use Rattle.bank_rules.specs.Stores.{stored};
 ghost use Rattle.bank_rules.specs.Bank.{valueBy};
-ghost use Rattle.meter_rules.specs.Frame.{valuesAt};
+ghost use Rattle.frame.specs.Frame.{valuesAt};
 ghost use Rattle.meter_rules.specs.Write.{inRun, wouldBe, touched, badItem, stopIn, runStore};
 use sheet_rules::Item;
 
@@ -23,7 +23,11 @@ pub struct Write {
 pub(crate) fn values_at(frame: &[u8]) -> u8
     ensures { λ r. ⌜ r ≡ valuesAt (now (frame .entry)) ⌝ }
 {
-    if words::byte_at(frame, 1) == 6 { 4 } else { 7 }
+    if words::byte_at(frame, 1) == frame::WRITES_ONE {
+        4
+    } else {
+        7
+    }
 }
 
 // Whether a place is in the run of a write.

@@ -1,12 +1,13 @@
 -- Case set P of 01, "Both sides of each line", as one table under one statement. Frames and replies are typed from 01, with their checks
 -- behind them; the words that change are typed from 01 at their addresses. Assumes nothing.
 use mathlib.Core.Path.{_≡_, refl}
-use mathlib.Core.Bool.{Bool, cond, _&&_}
+use mathlib.Core.Bool.{Bool, true, _&&_}
 use mathlib.Core.List.{List, [], _∷_, _++_}
-use Prim.Native.Nat.{ℕ, suc, _+_, _-_}
+use Prim.Native.Nat.{ℕ}
 use lib.Dec.{eqb}
-use lib.ListN.{length, drop, set, replicate}
-use Rattle.words.specs.Words.{wordAt, withWord, upper, lower}
+use lib.ListN.{length, drop, replicate}
+use Rattle.words.specs.Words.{wordAt, withWord, bytesOf}
+use Rattle.words.specs.Changes.{Change, at, changed}
 use Rattle.check_value.specs.Check.{valueOf}
 use Rattle.check_value.specs.Frame.{passes}
 use Rattle.range.specs.Range.{inRange}
@@ -22,8 +23,9 @@ use Rattle.lists.specs.Cases.{firstCase}
 use Rattle.meter_rules.specs.Runs.{allOpen}
 use Rattle.meter_rules.specs.Write.{badItem, someBad, stopIn, stopPlace, runStores}
 use Rattle.meter_rules.specs.Steps.{judgedFrame}
-use Rattle.meter_rules.specs.Reply.{bankRun, withCheck, replyTo, storesOf}
-use Rattle.meter_rules.specs.Answer.{Outcome, numberOf, lengthOf, rateIn, actedOn, answerOutcome}
+use Rattle.meter_rules.specs.Reply.{replyTo, storesOf}
+use Rattle.frame.specs.Reply.{withCheck}
+use Rattle.meter_rules.specs.Answer.{Outcome, numberOf, lengthIn, rateIn, actedOn, answerOutcome}
 
 -- ---- the two meters of the table
 
@@ -49,29 +51,12 @@ asweMeter =
       fresh = 0 ∷ 0 ∷ 0 ∷ 0 ∷ 0 ∷ 0 ∷ 0x0001 ∷ 0x0320 ∷ 0x0001 ∷ 0x0001 ∷ 0 ∷ 0x01F4 ∷ 0 ∷ 0x0001 ∷ 0x0001 ∷ 0 ∷ 0 ∷ 0x0001 ∷ 0 ∷ 0x0001 ∷ 0xFF9C ∷ 0 ∷ 0 ∷ 0 ∷ 0 ∷ 0 ∷ 0 ∷ 0 ∷ 0 ∷ 0 ∷ 0 ∷ 0 ∷ 0 ∷ 0 ∷ 0 ∷ 0 ∷ 0 ∷ 0 ∷ 0 ∷ [];
     }
 
--- a word at an address
-pub record Word : Type 0 where
-  pub address : ℕ
-  pub word : ℕ
-
-abbrev pub at : ℕ → ℕ → Word
-at address word = record { address = address; word = word }
-
--- words of a bank with others in their places, the first address being the origin
-unfoldable pub changed : ℕ → List ℕ → List Word → List ℕ
-changed origin words [] = words
-changed origin words (this ∷ behind) = changed origin (set words (this .address - origin) (this .word)) behind
-
-unfoldable pub bytesOf : List ℕ → List ℕ
-bytesOf [] = []
-bytesOf (word ∷ behind) = upper word ∷ lower word ∷ bytesOf behind
-
 -- ---- the rows
 
 -- a frame to a meter: the words of its bank that are not fresh, the frame, the reply, and the words that the frame changes; or the check
 -- value of some bytes
 pub data Row : Type 0 where
-  asked : Meter → List Word → List ℕ → List ℕ → List Word → Row
+  asked : Meter → List Change → List ℕ → List ℕ → List Change → Row
   valued : List ℕ → ℕ → Row
 
 -- the answer buffer, of 101 bytes that no reply has in a row
@@ -81,7 +66,7 @@ buffer = replicate 101 0xA5
 -- an outcome is a reply, at the rate before the frame, with the bank as it should be
 abbrev pub isReply : Outcome → List ℕ → List ℕ → Bool
 isReply outcome reply bank =
-    eqb (numberOf (outcome .answered)) 0 && eqb (lengthOf (outcome .answered)) (length reply) && eqb (rateIn (outcome .answered)) 1
+    eqb (numberOf (outcome .answered)) 0 && eqb (lengthIn (outcome .answered)) (length reply) && eqb (rateIn (outcome .answered)) 1
     && samePlaces (outcome .buffer) (reply ++ drop (length reply) buffer) && samePlaces (outcome .bank) bank
 
 unfoldable pub right : Row → Bool
@@ -91,11 +76,6 @@ right (asked meter before frame reply after) =
     reply
     (bytesOf (changed (meter .origin) (changed (meter .origin) (meter .fresh) before) after))
 right (valued bytes value) = eqb (valueOf bytes) value
-
--- the index of the first row that is not right, or the number of rows
-unfoldable pub firstWrong : List Row → ℕ
-firstWrong [] = 0
-firstWrong (row ∷ behind) = cond (right row) (suc (firstWrong behind)) 0
 
 pub table : List Row
 table =
@@ -146,6 +126,6 @@ table =
     ∷ []
 
 -- every row is right
-pub case-set-P : firstWrong table ≡ 22
-unfolding allOpen firstWrong table right changed bytesOf answerOutcome actedOn judgedFrame firstCase replyTo storesOf bankRun withCheck runStores stopPlace stopIn badItem someBad goodBy bankSound stored passes valueOf sound headerSound areasSound itemsSound settingsSound each some upFrom samePlaces itemPlaces writablePlaces placesFollow areasAscend lengthsSum areas items liesIn wordAt withWord inRange sheetOf
+pub case-set-P : each right table ≡ true
+unfolding allOpen table right changed bytesOf answerOutcome actedOn judgedFrame firstCase replyTo storesOf withCheck runStores stopPlace stopIn badItem someBad goodBy bankSound stored passes valueOf sound headerSound areasSound itemsSound settingsSound each some upFrom samePlaces itemPlaces writablePlaces placesFollow areasAscend lengthsSum areas items liesIn wordAt withWord inRange sheetOf
 case-set-P = refl

@@ -1,79 +1,123 @@
--- Every reply has 5 to 99 bytes and passes the check. Assumes nothing.
-use mathlib.Core.Path.{_≡_, refl, ap, subst, _∙_}
-use mathlib.Core.Bool.{true}
-use mathlib.Core.List.{List, []}
+-- A good read is of at most 47 registers; every reply has 5 to 99 bytes and passes the check. Assumes nothing.
+use mathlib.Core.Path.{_≡_, refl, sym, ap, subst, _∙_}
+use mathlib.Core.Bool.{true, Bool, false, _||_, not, cond}
+use mathlib.Core.List.{List, [], _∷_, head}
 use mathlib.Core.Logic.{_⊎_, inl, inr}
 use Prim.Native.Nat.{ℕ, _+_, _≤_}
 use native.Mathlib.Omega.{arith}
 use lib.ListN.{length}
-use borrow.Author.Tests.{leb-true}
+use borrow.Author.Tests.{leb-true, le-leb, ltb-false, eqb-true}
 use Rattle.check_value.specs.Frame.{passes}
-use Rattle.check_value.proofs.Zero.{closed-passes}
+use Rattle.check_value.proofs.Zero.{closed-passes, closed}
 use Rattle.meter_rules.specs.declared.Judged.{Judged}
 use Rattle.meter_rules.specs.declared.Judged.the-variants.{FailsCheck, OtherStation, FunctionNotAllowed, WrongLength, WrongCount, WrongAddress, WrongValue, BadItem, GoodRead, GoodClear, GoodWrite}
-use Rattle.meter_rules.specs.Steps.{mostRead}
-use Rattle.meter_rules.specs.Reply.{errorReply, readReply, echo, withCheck, replyTo}
-use Rattle.meter_rules.specs.Answer.{readFits}
-use Rattle.meter_rules.proofs.Reading.{write-echo, check-length, read-length}
+use Rattle.frame.specs.Frame.{mostRead, function, reads, count, run, second, clears}
+use Rattle.frame.specs.Reply.{errorReply, readReply, echo, withCheck, hasRoom}
+use Rattle.meter_rules.specs.declared.Purpose.the-variants.{Read}
+use Rattle.meter_rules.specs.Reply.{replyTo}
+use Rattle.frame.proofs.Reading.{write-echo, check-length, read-length}
+use Rattle.lists.specs.Cases.{firstCase, when}
+use Rattle.meter_rules.specs.Steps.{wrongAddress, judgedFrame, failsCheck, goodFrame, otherStation, functionNotAllowed, wrongLength, wrongCount, wrongValue, badWrite}
+use Rattle.frame.proofs.Closing.{closed-length, closed-checked, Closed, error-closed, closing, echo-closed}
+use Rattle.meter_rules.specs.Answer.{leastBuffer}
+use lib.Dec.{leb, ltb, eqb}
+use Rattle.frame.proofs.Laying.{has-room}
+use Rattle.meter_rules.specs.Runs.{allOpen}
+use Rattle.meter_rules.specs.Write.{firstPlace, stopPlace}
+use Rattle.meter_rules.proofs.Order.{asks-for, read-address}
 
--- a reply is 3 to 97 bytes with their check behind them
-pub record Closed (reply : List ℕ) : Type 0 where
-  pub bytes : List ℕ
-  pub least : 3 ≤ length bytes
-  pub most : length bytes ≤ 97
-  pub is : reply ≡ withCheck bytes
+-- a good read is of at most 47 registers, so that its reply has room
+abbrev pub readFits : Judged → Bool
+readFits FailsCheck = true
+readFits OtherStation = true
+readFits FunctionNotAllowed = true
+readFits WrongLength = true
+readFits WrongCount = true
+readFits WrongAddress = true
+readFits WrongValue = true
+readFits (BadItem first stop) = true
+readFits (GoodRead first many) = leb many mostRead
+readFits GoodClear = true
+readFits (GoodWrite first many) = true
 
-closing : (bytes : List ℕ) → 3 ≤ length bytes → length bytes ≤ 97 → Closed (withCheck bytes)
-closing bytes least most = record { bytes = bytes; least = least; most = most; is = refl }
+module _ (sheet bank frame : List ℕ) where
+  fits : (a₁ a₂ a₃ a₄ a₅ a₆ a₇ a₈ : Bool) (first stop : ℕ) (good : Judged) → (a₆ ≡ false → readFits good ≡ true)
+      → readFits (firstCase (when a₁ FailsCheck ∷ when a₂ OtherStation ∷ when a₃ FunctionNotAllowed ∷ when a₄ WrongLength ∷ when a₅ WrongCount
+      ∷ when a₆ WrongAddress ∷ when a₇ WrongValue ∷ when a₈ (BadItem first stop) ∷ []) good) ≡ true
+  unfolding firstCase
+  fits true a₂ a₃ a₄ a₅ a₆ a₇ a₈ first stop good h = refl
+  fits false true a₃ a₄ a₅ a₆ a₇ a₈ first stop good h = refl
+  fits false false true a₄ a₅ a₆ a₇ a₈ first stop good h = refl
+  fits false false false true a₅ a₆ a₇ a₈ first stop good h = refl
+  fits false false false false true a₆ a₇ a₈ first stop good h = refl
+  fits false false false false false true a₇ a₈ first stop good h = refl
+  fits false false false false false false true a₈ first stop good h = refl
+  fits false false false false false false false true first stop good h = refl
+  fits false false false false false false false false first stop good h = h refl
 
-error-closed : (frame : List ℕ) (code : ℕ) → Closed (withCheck (errorReply frame code))
-error-closed frame code = closing (errorReply frame code) (omega arith) (omega arith)
+  good-fits : wrongAddress sheet frame ≡ false → readFits (goodFrame sheet frame) ≡ true
+  good-fits p = go (eqb (function frame) reads) refl (eqb (function frame) clears)
+    where
+      few : function frame ≡ reads → leb (count frame) mostRead ≡ true
+      few e =
+          ap (λ (o : Bool). leb (cond o 1 (second frame)) mostRead) (asks-for frame reads e .isOne)
+          ∙ le-leb (second frame) mostRead (ltb-false mostRead (second frame) (under (ltb mostRead (second frame)) (sym (read-address sheet bank frame e) ∙ p)))
+        where
+          under : (b : Bool) → (b || not (allOpen Read sheet (run frame))) ≡ false → b ≡ false
+          under true q = q
+          under false q = refl
 
-echo-closed : (frame : List ℕ) → Closed (withCheck (echo frame))
-echo-closed frame = closing (echo frame) (omega arith) (omega arith)
+      go : (r : Bool) → eqb (function frame) reads ≡ r → (c : Bool)
+          → readFits (cond r (GoodRead (firstPlace sheet frame) (count frame)) (cond c GoodClear (GoodWrite (firstPlace sheet frame) (count frame)))) ≡ true
+      go true e c = few (eqb-true (function frame) reads e)
+      go false e true = refl
+      go false e false = refl
 
--- a reply is none, or is closed
-pub reply-closed : (judged : Judged) (bank frame : List ℕ) → readFits judged ≡ true
-    → (replyTo judged bank frame ≡ []) ⊎ Closed (replyTo judged bank frame)
+  pub judged-fits : readFits (judgedFrame sheet bank frame) ≡ true
+  unfolding judgedFrame
+  judged-fits =
+      fits (failsCheck frame) (otherStation sheet bank frame) (functionNotAllowed sheet frame) (wrongLength frame) (wrongCount frame)
+      (wrongAddress sheet frame) (wrongValue frame) (badWrite sheet bank frame) (firstPlace sheet frame) (stopPlace sheet bank frame)
+      (goodFrame sheet frame) good-fits
+
+-- a reply that is not none is closed
+reply-closed : (judged : Judged) (bank frame : List ℕ) → readFits judged ≡ true → (replyTo judged bank frame ≡ [] → ⊥)
+    → Closed (replyTo judged bank frame)
 unfolding replyTo
-reply-closed FailsCheck bank frame room = inl refl
-reply-closed OtherStation bank frame room = inl refl
-reply-closed FunctionNotAllowed bank frame room = inr (error-closed frame 1)
-reply-closed WrongLength bank frame room = inl refl
-reply-closed WrongCount bank frame room = inr (error-closed frame 3)
-reply-closed WrongAddress bank frame room = inr (error-closed frame 2)
-reply-closed WrongValue bank frame room = inr (error-closed frame 3)
-reply-closed (BadItem first stop) bank frame room = inr (error-closed frame 3)
-reply-closed (GoodRead first many) bank frame room =
-    inr (closing (readReply bank frame first many) (omega (arith, read-length bank frame first many))
-    (omega (arith, read-length bank frame first many, leb-true many mostRead room)))
-reply-closed GoodClear bank frame room = inr (echo-closed frame)
-reply-closed (GoodWrite first many) bank frame room =
-    inr (subst (λ (l : List ℕ). Closed (withCheck l)) (write-echo frame) (echo-closed frame))
+reply-closed FailsCheck bank frame fits some = absurd (some refl)
+reply-closed OtherStation bank frame fits some = absurd (some refl)
+reply-closed FunctionNotAllowed bank frame fits some = error-closed frame 1
+reply-closed WrongLength bank frame fits some = absurd (some refl)
+reply-closed WrongCount bank frame fits some = error-closed frame 3
+reply-closed WrongAddress bank frame fits some = error-closed frame 2
+reply-closed WrongValue bank frame fits some = error-closed frame 3
+reply-closed (BadItem first stop) bank frame fits some = error-closed frame 3
+reply-closed (GoodRead first many) bank frame fits some =
+    closing (readReply bank frame first many) (omega (arith, read-length bank frame first many))
+    (omega (arith, read-length bank frame first many, leb-true many mostRead fits))
+reply-closed GoodClear bank frame fits some = echo-closed frame
+reply-closed (GoodWrite first many) bank frame fits some =
+    subst (λ (l : List ℕ). Closed (withCheck l)) (write-echo frame) (echo-closed frame)
 
-module _ {reply : List ℕ} (closed : Closed reply) where
-  pub closed-length : (5 ≤ length reply) × (length reply ≤ 99)
-  closed-length =
-      let long : length reply ≡ length (closed .bytes) + 2 = ap length (closed .is) ∙ check-length (closed .bytes) in
-      (omega (arith, closed .least), omega (arith, closed .most))
+module _ (judged : Judged) (bank frame : List ℕ) (fits : readFits judged ≡ true) where
+  -- a reply that is not none has 5 to 99 bytes and passes the check
+  module _ (some : replyTo judged bank frame ≡ [] → ⊥) where
+    pub reply-sized : (5 ≤ length (replyTo judged bank frame)) × (length (replyTo judged bank frame) ≤ 99)
+    reply-sized = closed-length (reply-closed judged bank frame fits some)
 
-  pub closed-checked : passes reply ≡ true
-  unfolding withCheck
-  closed-checked = ap passes (closed .is) ∙ closed-passes (closed .bytes) (omega (arith, closed .least)) (omega (arith, closed .most))
+    pub reply-passes : passes (replyTo judged bank frame) ≡ true
+    reply-passes = closed-checked (reply-closed judged bank frame fits some)
 
-module _ (judged : Judged) (bank frame : List ℕ) (room : readFits judged ≡ true) where
-  -- a reply is none, or has 5 to 99 bytes
-  pub reply-length : (replyTo judged bank frame ≡ []) ⊎ ((5 ≤ length (replyTo judged bank frame)) × (length (replyTo judged bank frame) ≤ 99))
-  reply-length = go (reply-closed judged bank frame room)
+  -- so it has room in a buffer of at least 100 bytes, where none has room too
+  pub reply-room : (buffer : List ℕ) → leastBuffer ≤ length buffer → hasRoom (replyTo judged bank frame) buffer ≡ true
+  reply-room buffer long = go (replyTo judged bank frame) refl
     where
-      go : {reply : List ℕ} → (reply ≡ []) ⊎ Closed reply → (reply ≡ []) ⊎ ((5 ≤ length reply) × (length reply ≤ 99))
-      go (inl none) = inl none
-      go (inr closed) = inr (closed-length closed)
+      go : (reply : List ℕ) → replyTo judged bank frame ≡ reply → hasRoom reply buffer ≡ true
+      go [] e = has-room [] buffer (omega arith) (omega arith)
+      go (byte ∷ bytes) e =
+          let sized = reply-sized (λ none. let z : _≡_ {A = ℕ} 0 1 = cc in omega arith) in
+          has-room (byte ∷ bytes) buffer (omega (arith, ap length e)) (omega (arith, ap length e))
 
-  -- a reply that is not none passes the check
-  pub reply-passes : (replyTo judged bank frame ≡ [] → ⊥) → passes (replyTo judged bank frame) ≡ true
-  reply-passes some = go (reply-closed judged bank frame room) some
-    where
-      go : {reply : List ℕ} → (reply ≡ []) ⊎ Closed reply → (reply ≡ [] → ⊥) → passes reply ≡ true
-      go (inl none) some = absurd (some none)
-      go (inr closed) some = closed-checked closed
+pub judged-room : (sheet bank frame buffer : List ℕ) {judged : Judged} → judged ≡ judgedFrame sheet bank frame → leastBuffer ≤ length buffer
+    → hasRoom (replyTo judged bank frame) buffer ≡ true
+judged-room sheet bank frame buffer {judged} is long = reply-room judged bank frame (ap readFits is ∙ judged-fits sheet bank frame) buffer long

@@ -1,7 +1,5 @@
 pub mod CaseSet
-pub mod Reading
 pub mod Order
-pub mod Staging
 pub mod Judging
 pub mod Stopping
 pub mod Placing

@@ -11,10 +11,10 @@ use Rattle.sheet_rules.specs.Rows.{clearAddress}
 use Rattle.sheet_rules.specs.Rules.{allowed, bitOf03, bitOf05, bitOf06, bitOf10}
 use Rattle.lists.specs.Cases.{Case, firstCase}
 use Rattle.meter_rules.specs.declared.Purpose.the-variants.{Read, Write}
-use Rattle.meter_rules.specs.Frame.{reads, clears, writesOne, writesMany, function, start, second, byteCount, isWrite, count, run, codeAllowed}
+use Rattle.frame.specs.Frame.{reads, clears, writesOne, writesMany, function, start, second, byteCount, isWrite, count, run, mostRead}
+use Rattle.meter_rules.specs.Steps.{codeAllowed, wrongLength, wrongCount, wrongAddress, wrongValue, badWrite}
 use Rattle.meter_rules.specs.Runs.{allOpen}
 use Rattle.meter_rules.specs.Write.{someBad}
-use Rattle.meter_rules.specs.Steps.{wrongLength, wrongCount, wrongAddress, wrongValue, badWrite, mostRead}
 
 module _ {A : Type 0} (this : Case A) (behind : List (Case A)) (good : A) where
   pub step-stops : this .holds ≡ true → firstCase (this ∷ behind) good ≡ this .outcome
@@ -124,3 +124,45 @@ pub code-none : (sheet : List ℕ) (code : ℕ) → (code ≡ reads → ⊥) →
     → codeAllowed sheet code ≡ false
 code-none sheet code read clear one many =
     simp (ne-eqb code reads read, ne-eqb code clears clear, ne-eqb code writesOne one, ne-eqb code writesMany many)
+
+-- ---- by function
+
+module _ (sheet bank frame : List ℕ) where
+  pub read-address : function frame ≡ reads
+      → wrongAddress sheet frame ≡ (ltb mostRead (second frame) || not (allOpen Read sheet (run frame)))
+  read-address e =
+      address-is sheet bank frame (asks-for frame reads e)
+      ∙ or-false ((ltb mostRead (second frame) || not (allOpen Read sheet (run frame))) || false)
+      ∙ or-false (ltb mostRead (second frame) || not (allOpen Read sheet (run frame)))
+
+  pub clear-address : function frame ≡ clears → wrongAddress sheet frame ≡ not (eqb (start frame) (clearAddress sheet))
+  clear-address e = address-is sheet bank frame (asks-for frame clears e)
+
+  pub clear-value : function frame ≡ clears → wrongValue frame ≡ not (eqb (second frame) 0)
+  clear-value e = value-is sheet bank frame (asks-for frame clears e)
+
+  -- a write is neither a read nor a clear
+  pub asks-write : isWrite frame ≡ true → Asks frame false false (eqb (function frame) writesOne) (eqb (function frame) writesMany)
+  asks-write e = go (eqb (function frame) writesOne) refl e
+    where
+      go : (one : Bool) → eqb (function frame) writesOne ≡ one → (one || eqb (function frame) writesMany) ≡ true
+          → Asks frame false false (eqb (function frame) writesOne) (eqb (function frame) writesMany)
+      go true o w =
+          let asks = asks-for frame writesOne (eqb-true (function frame) writesOne o) in
+          record { isRead = asks .isRead; isClear = asks .isClear; isOne = refl; isMany = refl }
+      go false o w =
+          let asks = asks-for frame writesMany (eqb-true (function frame) writesMany w) in
+          record { isRead = asks .isRead; isClear = asks .isClear; isOne = refl; isMany = refl }
+
+  module _ (write : isWrite frame ≡ true) where
+    pub write-address : wrongAddress sheet frame ≡ not (allOpen Write sheet (run frame))
+    write-address =
+        address-is sheet bank frame (asks-write write)
+        ∙ ap (λ (w : Bool). w && not (allOpen Write sheet (run frame)) || false) write
+        ∙ or-false (not (allOpen Write sheet (run frame)))
+
+    pub write-value : wrongValue frame ≡ false
+    write-value = value-is sheet bank frame (asks-write write)
+
+    pub write-bad : badWrite sheet bank frame ≡ someBad sheet bank frame
+    write-bad = ap (λ (w : Bool). w && someBad sheet bank frame) write

@@ -1,27 +1,28 @@
 -- What a call with one frame comes to: a refusal leaves the bank, and else the frame is acted on; a reply has 5 to 99 bytes and
 -- passes the check; only a good clear, a good write and a write with a bad item change the bank. Assumes nothing.
-use mathlib.Core.Path.{_≡_, refl, ap, _∙_}
-use mathlib.Core.Bool.{Bool, true, false, not, false≢true}
+use mathlib.Core.Path.{_≡_, refl, sym, ap, _∙_}
+use mathlib.Core.Bool.{Bool, true, false, not, cond, false≢true}
 use mathlib.Core.List.{List, [], _∷_}
-use mathlib.Core.Logic.{_⊎_, inl, inr}
 use Prim.Native.Nat.{ℕ, _≤_}
 use native.Mathlib.Omega.{arith}
 use lib.ListN.{length, take, drop}
 use lib.Seq.{take-at}
+use lib.Dec.{eqb}
+use borrow.Author.Tests.{eq-eqb, ne-eqb, eqb-true, eqb-false}
 use Rattle.check_value.specs.Frame.{passes}
 use Rattle.sheet_rules.specs.Rules.{sound}
 use Rattle.bank_rules.specs.Stores.{stored}
 use Rattle.bank_rules.specs.Bank.{fits, bankSound, rateOf}
 use Rattle.lists.specs.Cases.{when, firstCase}
 use Rattle.meter_rules.specs.declared.Answered.{Answered}
-use Rattle.meter_rules.specs.declared.Answered.the-variants.{Reply, Silence, SheetBreaksRule, BankMisfits, BankNotSound, SmallBuffer}
+use Rattle.meter_rules.specs.declared.Answered.the-variants.{Reply, Error, Silence, SheetBreaksRule, BankMisfits, BankNotSound, SmallBuffer}
 use Rattle.meter_rules.specs.declared.Judged.{Judged}
 use Rattle.meter_rules.specs.declared.Judged.the-variants.{FailsCheck, OtherStation, FunctionNotAllowed, WrongLength, WrongCount, WrongAddress, WrongValue, BadItem, GoodRead, GoodClear, GoodWrite}
 use Rattle.meter_rules.specs.Steps.{judgedFrame}
-use Rattle.meter_rules.specs.Reply.{replyTo, storesOf}
-use Rattle.meter_rules.specs.Answer.{Outcome, outcome, answeredWith, laid, smallBuffer, actedOn, answerOutcome}
-use Rattle.meter_rules.proofs.Staging.{judged-fits}
-use Rattle.meter_rules.proofs.Closing.{reply-length, reply-passes}
+use Rattle.meter_rules.specs.Reply.{errorCode, goodReply, replyTo, storesOf}
+use Rattle.meter_rules.specs.Answer.{Outcome, outcome, numberOf, lengthIn, answeredBy, smallBuffer, actedOn, answerOutcome}
+use Rattle.frame.specs.Reply.{errorReply, withCheck, laid}
+use Rattle.meter_rules.proofs.Closing.{readFits, judged-fits, reply-sized, reply-passes}
 
 -- ---- a refusal, or what becomes of the frame
 
@@ -53,53 +54,86 @@ outcome-cases P sheet bank frame buffer refused acted =
     go true true true true r f w = refused SmallBuffer small
     go true true true false r f w = acted r f w
 
--- ---- a reply has 5 to 99 bytes
+-- ---- silence, a reply or an error
 
-abbrev Sized : Answered → Type 0
-Sized answered = (n rate : ℕ) → answered ≡ Reply n rate → (5 ≤ n) × (n ≤ 99)
+pub answered-cases : (P : Answered → Type 0) (code n rate : ℕ) → (code ≡ 0 → n ≡ 0 → P Silence) → (code ≡ 0 → (n ≡ 0 → ⊥) → P (Reply n rate))
+    → ((code ≡ 0 → ⊥) → P (Error code rate)) → P (answeredBy code n rate)
+answered-cases P code n rate silent replied erred = go (eqb code 0) (eqb n 0) refl refl
+  where
+    go : (fine none : Bool) → eqb code 0 ≡ fine → eqb n 0 ≡ none → P (cond fine (cond none Silence (Reply n rate)) (Error code rate))
+    go true true c e = silent (eqb-true code 0 c) (eqb-true n 0 e)
+    go true false c e = replied (eqb-true code 0 c) (eqb-false n 0 e)
+    go false none c e = erred (eqb-false code 0 c)
 
-refused-silent : (answered : Answered) → Refuses answered → (n rate : ℕ) → answered ≡ Reply n rate → ⊥
-refused-silent SheetBreaksRule r n rate e = let z : _≡_ {A = ℕ} 0 1 = cc in omega arith
-refused-silent BankMisfits r n rate e = let z : _≡_ {A = ℕ} 0 1 = cc in omega arith
-refused-silent BankNotSound r n rate e = let z : _≡_ {A = ℕ} 0 1 = cc in omega arith
-refused-silent SmallBuffer r n rate e = let z : _≡_ {A = ℕ} 0 1 = cc in omega arith
-refused-silent Silence r n rate e = elim r [ ]
-refused-silent (Reply m s) r n rate e = elim r [ ]
+module _ (judged : Judged) (bank frame : List ℕ) where
+  pub good-reply : errorCode judged ≡ 0 → replyTo judged bank frame ≡ goodReply judged bank frame
+  unfolding replyTo
+  good-reply none = simp (eq-eqb (errorCode judged) 0 none)
 
-with-sized : (reply : List ℕ) (at : ℕ) → (reply ≡ []) ⊎ ((5 ≤ length reply) × (length reply ≤ 99)) → Sized (answeredWith reply at)
-with-sized [] at long n rate e = let z : _≡_ {A = ℕ} 0 1 = cc in absurd (omega arith)
-with-sized (byte ∷ bytes) at (inl none) n rate e = let z : _≡_ {A = ℕ} 0 1 = cc in absurd (omega arith)
-with-sized (byte ∷ bytes) at (inr long) n rate e =
-    let same : length (byte ∷ bytes) ≡ n = cc in
-    (omega (arith, long .0), omega (arith, long .1))
+  pub error-reply : (errorCode judged ≡ 0 → ⊥) → replyTo judged bank frame ≡ withCheck (errorReply frame (errorCode judged))
+  unfolding replyTo
+  error-reply some = simp (ne-eqb (errorCode judged) 0 some)
 
-pub answer-length : (sheet bank frame buffer : List ℕ) (n rate : ℕ)
-    → answerOutcome sheet bank frame buffer .answered ≡ Reply n rate → (5 ≤ n) × (n ≤ 99)
+  module _ (rate : ℕ) where
+    abbrev answer : Answered
+    answer = answeredBy (errorCode judged) (length (replyTo judged bank frame)) rate
+
+    -- the length that is handed back is that of the reply, and with number 0 there is one
+    pub answered-length : lengthIn answer ≡ length (replyTo judged bank frame)
+    unfolding withCheck
+    answered-length =
+        answered-cases (λ a. lengthIn a ≡ length (replyTo judged bank frame)) (errorCode judged) (length (replyTo judged bank frame)) rate
+        (λ fine none. sym none) (λ fine some. refl) (λ some. sym (ap length (error-reply some)))
+
+    pub answered-some : numberOf answer ≡ 0 → replyTo judged bank frame ≡ [] → ⊥
+    unfolding withCheck
+    answered-some =
+        answered-cases (λ a. numberOf a ≡ 0 → replyTo judged bank frame ≡ [] → ⊥) (errorCode judged) (length (replyTo judged bank frame)) rate
+        (λ fine none e. absurd (omega arith)) (λ fine some e none. some (ap length none))
+        (λ some e none. omega (arith, ap length (error-reply some), ap length none))
+
+    -- it refuses nothing
+    pub answered-takes : numberOf answer ≤ 1
+    answered-takes =
+        answered-cases (λ a. numberOf a ≤ 1) (errorCode judged) (length (replyTo judged bank frame)) rate
+        (λ fine none. omega arith) (λ fine some. omega arith) (λ some. omega arith)
+
+-- ---- a reply has 5 to 99 bytes, stands in the first bytes of the buffer, and passes the check
+
+pub record Sized (outcome : Outcome) : Type 0 where
+  pub least : 5 ≤ lengthIn (outcome .answered)
+  pub most : lengthIn (outcome .answered) ≤ 99
+  pub checked : passes (take (lengthIn (outcome .answered)) (outcome .buffer)) ≡ true
+
+refused-number : (answered : Answered) → Refuses answered → 2 ≤ numberOf answered
+refused-number SheetBreaksRule r = omega arith
+refused-number BankMisfits r = omega arith
+refused-number BankNotSound r = omega arith
+refused-number SmallBuffer r = omega arith
+refused-number Silence r = elim r [ ]
+refused-number (Reply n rate) r = elim r [ ]
+refused-number (Error code rate) r = elim r [ ]
+
+acted-sized : (judged : Judged) (sheet bank frame buffer : List ℕ) → readFits judged ≡ true
+    → numberOf (actedOn judged sheet bank frame buffer .answered) ≡ 0 → Sized (actedOn judged sheet bank frame buffer)
 unfolding actedOn
-answer-length sheet bank frame buffer =
-    outcome-cases (λ o. Sized (o .answered)) sheet bank frame buffer
-    (λ answered refused n rate e. absurd (refused-silent answered refused n rate e))
-    (λ right fitting whole. with-sized (replyTo (judgedFrame sheet bank frame) bank frame) (rateOf sheet bank)
-    (reply-length (judgedFrame sheet bank frame) bank frame (judged-fits sheet bank frame)))
+acted-sized judged sheet bank frame buffer fits e =
+    let reply : List ℕ = replyTo judged bank frame in
+    let some = answered-some judged bank frame (rateOf sheet bank) e in
+    let long = answered-length judged bank frame (rateOf sheet bank) in
+    let sized = reply-sized judged bank frame fits some in
+    record {
+      least = omega (arith, sized .0);
+      most = omega (arith, sized .1);
+      checked = ap passes (take-at reply (drop (length reply) buffer) _ (sym long)) ∙ reply-passes judged bank frame fits some;
+    }
 
--- ---- it stands in the first bytes of the buffer, and passes the check
-
-with-passes : (reply buffer : List ℕ) (at n rate : ℕ) → ((reply ≡ [] → ⊥) → passes reply ≡ true) → answeredWith reply at ≡ Reply n rate
-    → passes (take n (laid reply buffer)) ≡ true
-with-passes [] buffer at n rate checked e = let z : _≡_ {A = ℕ} 0 1 = cc in absurd (omega arith)
-with-passes (byte ∷ bytes) buffer at n rate checked e =
-    let reply : List ℕ = byte ∷ bytes in
-    let same : length reply ≡ n = cc in
-    ap passes (take-at reply (drop (length reply) buffer) n same) ∙ checked (λ none. let z : _≡_ {A = ℕ} 0 1 = cc in omega arith)
-
-pub answer-passes : (sheet bank frame buffer : List ℕ) (n rate : ℕ) → answerOutcome sheet bank frame buffer .answered ≡ Reply n rate
-    → passes (take n (answerOutcome sheet bank frame buffer .buffer)) ≡ true
-unfolding actedOn
-answer-passes sheet bank frame buffer n rate =
-    outcome-cases (λ o. o .answered ≡ Reply n rate → passes (take n (o .buffer)) ≡ true) sheet bank frame buffer
-    (λ answered refused e. absurd (refused-silent answered refused n rate e))
-    (λ right fitting whole. with-passes (replyTo (judgedFrame sheet bank frame) bank frame) buffer (rateOf sheet bank) n rate
-    (reply-passes (judgedFrame sheet bank frame) bank frame (judged-fits sheet bank frame)))
+pub answer-sized : (sheet bank frame buffer : List ℕ) → numberOf (answerOutcome sheet bank frame buffer .answered) ≡ 0
+    → Sized (answerOutcome sheet bank frame buffer)
+answer-sized sheet bank frame buffer =
+    outcome-cases (λ o. numberOf (o .answered) ≡ 0 → Sized o) sheet bank frame buffer
+    (λ answered refused e. absurd (omega (arith, refused-number answered refused)))
+    (λ right fitting whole. acted-sized (judgedFrame sheet bank frame) sheet bank frame buffer (judged-fits sheet bank frame))
 
 -- ---- what leaves the bank as it is
 
@@ -117,7 +151,7 @@ quiet (GoodRead first many) = true
 quiet GoodClear = false
 quiet (GoodWrite first many) = false
 
-quiet-stores : (judged : Judged) (sheet frame : List ℕ) → quiet judged ≡ true → storesOf judged sheet frame ≡ []
+pub quiet-stores : (judged : Judged) (sheet frame : List ℕ) → quiet judged ≡ true → storesOf judged sheet frame ≡ []
 unfolding storesOf
 quiet-stores FailsCheck sheet frame e = refl
 quiet-stores OtherStation sheet frame e = refl
@@ -148,8 +182,8 @@ pub refused-as-before : (sheet bank frame buffer : List ℕ) → Refuses (answer
 unfolding actedOn
 refused-as-before sheet bank frame buffer =
     outcome-cases (λ o. Refuses (o .answered) → (o .bank ≡ bank) × (o .buffer ≡ buffer)) sheet bank frame buffer (λ answered r again. (refl, refl))
-    (λ right fitting whole r. absurd (none (replyTo (judgedFrame sheet bank frame) bank frame) (rateOf sheet bank) r))
-  where
-    none : (reply : List ℕ) (rate : ℕ) → Refuses (answeredWith reply rate) → ⊥
-    none [] rate r = elim r [ ]
-    none (byte ∷ bytes) rate r = elim r [ ]
+    (λ right fitting whole r. absurd (omega (
+      arith,
+      refused-number _ r,
+      answered-takes (judgedFrame sheet bank frame) bank frame (rateOf sheet bank),
+    )))

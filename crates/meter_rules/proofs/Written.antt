@@ -20,7 +20,7 @@ use Rattle.bank_rules.specs.Bank.{placeIn}
 use Rattle.bank_rules.proofs.Latest.{latest, StoresInside, words-left, latest-none, latest-agreed}
 use Rattle.bank_rules.proofs.Inside.{among-map, map-among, number-among, among-number}
 use Rattle.meter_rules.specs.declared.Purpose.{Purpose}
-use Rattle.meter_rules.specs.Frame.{sent}
+use Rattle.frame.specs.Frame.{sent}
 use Rattle.meter_rules.specs.Runs.{permits, opens, allOpen}
 use Rattle.meter_rules.specs.Write.{inRun, wouldBe, runStore, runStores}
 use Rattle.meter_rules.proofs.Judging.{run-above}

@@ -10,7 +10,8 @@ use Rattle.bank_rules.specs.Bank.{stationOf}
 use Rattle.lists.specs.Cases.{Case, when, firstCase}
 use Rattle.meter_rules.specs.declared.Judged.{Judged}
 use Rattle.meter_rules.specs.declared.Judged.the-variants.{FailsCheck, OtherStation, FunctionNotAllowed, WrongLength, WrongCount, WrongAddress, WrongValue, BadItem, GoodRead, GoodClear, GoodWrite}
-use Rattle.meter_rules.specs.Frame.{reads, clears, writesMany, station, function, start, second, byteCount, isWrite, count, run, functionAllowed}
+use Rattle.frame.specs.Frame.{reads, clears, writesOne, writesMany, mostRead, station, function, start, second, byteCount, isWrite, count, run}
+use Rattle.sheet_rules.specs.Rules.{allowed, bitOf03, bitOf05, bitOf06, bitOf10}
 use Rattle.meter_rules.specs.declared.Purpose.the-variants.{Read, Write}
 use Rattle.meter_rules.specs.Runs.{allOpen}
 use Rattle.meter_rules.specs.Write.{firstPlace, someBad, stopPlace}
@@ -22,6 +23,15 @@ failsCheck frame = not (passes frame)
 -- 2. "Station byte differs from the bank's address: silence. Address 0 is compared like any other."
 abbrev pub otherStation : List ℕ → List ℕ → List ℕ → Bool
 otherStation sheet bank frame = not (eqb (station frame) (stationOf sheet bank))
+
+-- a function is one of the four, and the sheet allows it
+abbrev pub codeAllowed : List ℕ → ℕ → Bool
+codeAllowed sheet code =
+    (eqb code reads && allowed sheet bitOf03) || (eqb code clears && allowed sheet bitOf05)
+    || (eqb code writesOne && allowed sheet bitOf06) || (eqb code writesMany && allowed sheet bitOf10)
+
+abbrev pub functionAllowed : List ℕ → List ℕ → Bool
+functionAllowed sheet frame = codeAllowed sheet (function frame)
 
 -- 3. "Function not allowed: error 01."
 abbrev pub functionNotAllowed : List ℕ → List ℕ → Bool
@@ -38,10 +48,6 @@ abbrev pub wrongCount : List ℕ → Bool
 wrongCount frame =
     (eqb (function frame) reads && eqb (second frame) 0)
     || (eqb (function frame) writesMany && (eqb (second frame) 0 || not (eqb (byteCount frame) (2 * second frame))))
-
--- "03 with count over 47"
-abbrev pub mostRead : ℕ
-mostRead = 47
 
 -- 6. "An address of the run in no area, or for a write in an access 1 area, or above FFFF; 03 with count over 47; 05 at another address
 -- than the clear address: error 02." The areas of a sheet of bytes end at FFFF at the most, so an
@@ -78,10 +84,6 @@ abbrev pub goodFrame : List ℕ → List ℕ → Judged
 goodFrame sheet frame =
     cond (eqb (function frame) reads) (GoodRead (firstPlace sheet frame) (count frame))
     (cond (eqb (function frame) clears) GoodClear (GoodWrite (firstPlace sheet frame) (count frame)))
-
--- where a frame stops, or that it is good, once so many of these conditions have let it through; only private promises cite this
-unfoldable pub judgedFrom : ℕ → List ℕ → List ℕ → List ℕ → Judged
-judgedFrom passed sheet bank frame = firstCase (drop passed (steps sheet bank frame)) (goodFrame sheet frame)
 
 -- where a frame stops, or that it is good
 unfoldable pub judgedFrame : List ℕ → List ℕ → List ℕ → Judged

@@ -10,7 +10,7 @@ use Rattle.sheet_rules.specs.Rules.{isPair}
 use Rattle.sheet_rules.specs.Lookup.{liesIn}
 use Rattle.bank_rules.specs.Stores.{Store, wordOf}
 use Rattle.bank_rules.specs.Bank.{goodBy, placeIn}
-use Rattle.meter_rules.specs.Frame.{start, count, sent}
+use Rattle.frame.specs.Frame.{start, count, sent}
 
 -- the place of the run's first address; the places of a run of addresses that all lie in areas follow each other from there
 abbrev pub firstPlace : List ℕ → List ℕ → ℕ

@@ -1,11 +1,11 @@
 -- Both sides of the sheet's rules: 01's example sheet of the listing with some of its words changed, one rule at a time, as one table under
 -- one statement. Assumes nothing.
 use mathlib.Core.Path.{_≡_, refl}
-use mathlib.Core.Bool.{Bool, not, cond}
+use mathlib.Core.Bool.{Bool, true, not}
 use mathlib.Core.List.{List, [], _∷_}
-use Prim.Native.Nat.{ℕ, suc}
-use lib.ListN.{set}
-use Rattle.words.specs.Words.{wordAt, upper, lower}
+use Prim.Native.Nat.{ℕ}
+use Rattle.words.specs.Words.{wordAt, bytesOf}
+use Rattle.words.specs.Changes.{Change, at, changed}
 use Rattle.range.specs.Range.{inRange}
 use Rattle.sheet_rules.specs.Rows.{areas, items}
 use Rattle.sheet_rules.specs.Rules.{sound, headerSound, areasSound, itemsSound, settingsSound, itemPlaces, writablePlaces, placesFollow, areasAscend, lengthsSum}
@@ -21,35 +21,14 @@ example =
     ∷ 0x0001 ∷ 0x0002 ∷ 0x0000 ∷ 0xFFF6 ∷ 0x0000 ∷ 0x003C
     ∷ []
 
--- another word at an index of the sheet
-pub record Change : Type 0 where
-  pub index : ℕ
-  pub word : ℕ
-
-abbrev pub at : ℕ → ℕ → Change
-at index word = record { index = index; word = word }
-
-unfoldable pub changed : List ℕ → List Change → List ℕ
-changed words [] = words
-changed words (this ∷ behind) = changed (set words (this .index) (this .word)) behind
-
-unfoldable pub bytesOf : List ℕ → List ℕ
-bytesOf [] = []
-bytesOf (word ∷ behind) = upper word ∷ lower word ∷ bytesOf behind
-
 -- the words that are changed, and whether the sheet is sound then
 pub data Row : Type 0 where
   sound-with : List Change → Row
   broken-with : List Change → Row
 
 unfoldable pub right : Row → Bool
-right (sound-with changes) = sound (bytesOf (changed example changes))
-right (broken-with changes) = not (sound (bytesOf (changed example changes)))
-
--- the index of the first row that is not right, or the number of rows
-unfoldable pub firstWrong : List Row → ℕ
-firstWrong [] = 0
-firstWrong (row ∷ behind) = cond (right row) (suc (firstWrong behind)) 0
+right (sound-with changes) = sound (bytesOf (changed 0 example changes))
+right (broken-with changes) = not (sound (bytesOf (changed 0 example changes)))
 
 pub table : List Row
 table =
@@ -129,6 +108,6 @@ table =
     ∷ []
 
 -- every row is right
-pub both-sides : firstWrong table ≡ 56
-unfolding firstWrong table right changed bytesOf sound headerSound areasSound itemsSound settingsSound each some upFrom samePlaces itemPlaces writablePlaces placesFollow areasAscend lengthsSum areas items wordAt inRange
+pub both-sides : each right table ≡ true
+unfolding table right changed bytesOf sound headerSound areasSound itemsSound settingsSound each some upFrom samePlaces itemPlaces writablePlaces placesFollow areasAscend lengthsSum areas items wordAt inRange
 both-sides = refl

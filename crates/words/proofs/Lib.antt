@@ -1,3 +1,4 @@
 pub mod Promise
 pub mod Stores
 pub mod Determined
+pub mod Bytes

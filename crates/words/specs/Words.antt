@@ -2,7 +2,7 @@
 -- A read past the end gives 0; a store that does not fit changes nothing. Assumes nothing.
 use Prim.Native.Nat.{ℕ, _+_, _*_, _/_, _%_}
 use mathlib.Core.Bool.{cond}
-use mathlib.Core.List.{List}
+use mathlib.Core.List.{List, [], _∷_, _++_}
 use lib.Dec.{ltb}
 use lib.ListN.{length, getD, set}
 
@@ -29,3 +29,11 @@ withByte bytes at byte = set bytes at byte
 unfoldable pub withWord : List ℕ → ℕ → ℕ → List ℕ
 withWord bytes at word =
     cond (ltb (at + 1) (length bytes)) (set (set bytes at (upper word)) (at + 1) (lower word)) bytes
+
+-- a word as bytes, upper byte first, and words one after the other
+abbrev pub wordBytes : ℕ → List ℕ
+wordBytes word = upper word ∷ lower word ∷ []
+
+unfoldable pub bytesOf : List ℕ → List ℕ
+bytesOf [] = []
+bytesOf (word ∷ behind) = wordBytes word ++ bytesOf behind

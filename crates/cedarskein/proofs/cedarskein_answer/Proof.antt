@@ -37,7 +37,7 @@ returns : tie.Need-returns
 returns c =
     let d = c .before .before .before .before .before .before .before .answer in
     ap₂ (λ (number length : ℕ). handed number length (c .before .rate-of .result) (d .last .1 .0) (d .last .1 .1 .1 .0)) (c .of-answered .ensures) (c .before .before .length-of .ensures)
-    ∙ ap (λ (rate : ℕ). handed (meter.numberOf (d .result)) (meter.lengthOf (d .result)) rate (d .last .1 .0) (d .last .1 .1 .1 .0)) (c .before .rate-of .ensures)
+    ∙ ap (λ (rate : ℕ). handed (meter.numberOf (d .result)) (meter.lengthIn (d .result)) rate (d .last .1 .0) (d .last .1 .1 .1 .0)) (c .before .rate-of .ensures)
     ∙ ap handedOf (d .ensures)
 
 pub cedarskein-answer-spec : {M : Type 1} → statement M

@@ -5,9 +5,9 @@ use borrow.Author.Tests.{lt-ltb, le-ltb}
 use denote.Ref.{now}
 use lib.ListN.{length}
 use Rattle.meter_rules.specs.declared.Judged.{Judged}
-use Rattle.meter_rules.specs.Answer.{leastBuffer, readFits, actedOn}
+use Rattle.meter_rules.specs.Answer.{leastBuffer, actedOn}
 use Rattle.meter.proofs.Answering.{answered-by, answered-sized, done-sound}
-use Rattle.meter_rules.proofs.Staging.{judged-fits}
+use Rattle.meter_rules.proofs.Closing.{judged-room}
 use borrow.Author.Needs.{needs}
 use Rattle.meter.proofs.answer.Statement.{statement}
 use Rattle.meter.proofs.answer.Tie as tie
@@ -109,10 +109,8 @@ judged-requires-2 c κs =
 -- src/lib.rt:89:5
 acted-requires : tie.Need-acted-requires
 acted-requires c κs =
-    let a = c .before .before .before .before .before .before .before .before .before .before .before .before .before .args in (
-      c .before .before .before .before .if1 .left,
-      ap readFits (c .before .before .judged2 .ensures) ∙ judged-fits (now (a .sheet)) (now (a .bank)) (now (a .frame)),
-    )
+    let a = c .before .before .before .before .before .before .before .before .before .before .before .before .before .args in
+    judged-room (now (a .sheet)) (now (a .bank)) (now (a .frame)) (now (a .buffer)) (c .before .before .judged2 .ensures) (c .before .before .before .before .if1 .left)
 
 -- src/lib.rt:74:1
 same-length-7 : tie.Need-same-length-7

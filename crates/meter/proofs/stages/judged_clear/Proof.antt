@@ -6,9 +6,10 @@ use mathlib.Core.Bool.{not}
 use borrow.Author.Tests.{eq-eqb, ne-eqb}
 use denote.Ref.{now}
 use Rattle.sheet_rules.specs.Rows.{clearAddress}
-use Rattle.meter_rules.specs.declared.Parts.{Parts}
-use Rattle.meter_rules.specs.Frame.{function, start, second}
-use Rattle.meter_rules.proofs.Staging.{clear-address, clear-value, stops-address, stops-value, good-clear}
+use Rattle.frame.specs.declared.Parts.{Parts}
+use Rattle.frame.specs.Frame.{function, start, second}
+use Rattle.meter_rules.proofs.Order.{clear-address, clear-value}
+use Rattle.meter.proofs.Staging.{stops-address, stops-value, good-clear}
 use borrow.Author.Needs.{needs}
 use Rattle.meter.proofs.stages.judged_clear.Statement.{statement}
 use Rattle.meter.proofs.stages.judged_clear.Tie as tie

@@ -7,10 +7,10 @@ use mathlib.Core.Bool.{Bool, not, _||_, or-false}
 use borrow.Author.Tests.{eq-eqb, ne-eqb}
 use denote.Ref.{now}
 use lib.Dec.{eqb}
-use Rattle.meter_rules.specs.declared.Parts.{Parts}
-use Rattle.meter_rules.specs.Frame.{reads, clears, writesOne, writesMany, function, second, byteCount}
+use Rattle.frame.specs.declared.Parts.{Parts}
+use Rattle.frame.specs.Frame.{reads, clears, writesOne, writesMany, function, second, byteCount}
 use Rattle.meter_rules.proofs.Order.{asks-for, count-is, write-is, last-function}
-use Rattle.meter_rules.proofs.Staging.{stops-count, passes-count}
+use Rattle.meter.proofs.Staging.{stops-count, passes-count}
 use borrow.Author.Needs.{needs}
 use Rattle.meter.proofs.stages.judged_count.Statement.{statement}
 use Rattle.meter.proofs.stages.judged_count.Tie as tie

@@ -7,12 +7,12 @@ use mathlib.Core.Path.{_∙_, sym, ap, ap₂}
 use mathlib.Core.Bool.{Bool, not, _||_}
 use borrow.Author.Tests.{eq-eqb, ne-eqb, lt-ltb, le-ltb}
 use denote.Ref.{now}
-use Rattle.meter_rules.specs.declared.Parts.{Parts}
-use Rattle.meter_rules.specs.Frame.{function, byteCount}
+use Rattle.frame.specs.declared.Parts.{Parts}
+use Rattle.frame.specs.Frame.{function, byteCount}
 use lib.Dec.{eqb}
 use lib.ListN.{length}
 use Rattle.meter_rules.proofs.Order.{other-length, many-length}
-use Rattle.meter_rules.proofs.Staging.{stops-length, passes-length}
+use Rattle.meter.proofs.Staging.{stops-length, passes-length}
 use borrow.Author.Needs.{needs}
 use Rattle.meter.proofs.stages.judged_length.Statement.{statement}
 use Rattle.meter.proofs.stages.judged_length.Tie as tie

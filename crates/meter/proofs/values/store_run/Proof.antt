@@ -12,7 +12,7 @@ use Rattle.words.proofs.Stores.{word-length}
 use Rattle.lists.specs.Lists.{upFrom}
 use Rattle.bank_rules.specs.Stores.{stored}
 use Rattle.bank_rules.proofs.Stores.{storesFrom, stores-start, stores-go-on, stores-end}
-use Rattle.meter_rules.specs.Frame.{valuesAt}
+use Rattle.frame.specs.Frame.{valuesAt}
 use Rattle.meter_rules.specs.Write.{runStore}
 use Rattle.meter.proofs.values.store_run.Statement.{statement}
 use Rattle.meter.proofs.values.store_run.Tie as tie

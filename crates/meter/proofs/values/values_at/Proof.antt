@@ -3,7 +3,7 @@ use mathlib.Core.Path.{sym, _∙_}
 use borrow.Author.Tests.{eq-eqb, ne-eqb}
 use denote.Ref.{now}
 use borrow.Author.Needs.{needs}
-use Rattle.meter_rules.specs.Frame.{function, writesOne}
+use Rattle.frame.specs.Frame.{function, writesOne}
 use Rattle.meter.proofs.values.values_at.Statement.{statement}
 use Rattle.meter.proofs.values.values_at.Tie as tie
 

@@ -5,10 +5,10 @@ use mathlib.Core.List.{List}
 use Prim.Native.Nat.{ℕ}
 use native.Mathlib.Omega.{arith}
 use Rattle.check_value.specs.Frame.{passes}
-use Rattle.meter_rules.specs.declared.Parts.{Parts}
-use Rattle.meter_rules.specs.declared.Passed.{Passed}
-use Rattle.meter_rules.specs.declared.Passed.the-variants.{Frame, Fails}
-use Rattle.meter_rules.specs.Frame.{partsOf, passedFrame}
+use Rattle.frame.specs.declared.Parts.{Parts}
+use Rattle.frame.specs.declared.Passed.{Passed}
+use Rattle.frame.specs.declared.Passed.the-variants.{Frame, Fails}
+use Rattle.frame.specs.Frame.{partsOf, passedFrame}
 
 module _ (frame : List ℕ) {answer : Passed} (is : answer ≡ passedFrame frame) where
   pub passed-parts : {parts : Parts} → answer ≡ Frame parts → parts ≡ partsOf frame

@@ -1,14 +1,14 @@
--- `meter::taken_apart` meets its contract: a frame that passes, part by part.
+-- `frame::taken_apart` meets its contract: a frame that passes, part by part.
 -- Assumes nothing.
 use mathlib.Core.Path.{_∙_, sym}
 use borrow.Author.Tests.{not-true, not-false}
 use denote.Ref.{now}
 use lib.ListN.{length}
-use Rattle.meter_rules.specs.declared.Passed.the-variants.{Frame}
-use Rattle.meter_rules.specs.Frame.{passedFrame}
+use Rattle.frame.specs.declared.Passed.the-variants.{Frame}
+use Rattle.frame.specs.Frame.{passedFrame}
 use borrow.Author.Needs.{needs}
-use Rattle.meter.proofs.taken_apart.Statement.{statement}
-use Rattle.meter.proofs.taken_apart.Tie as tie
+use Rattle.frame.proofs.taken_apart.Statement.{statement}
+use Rattle.frame.proofs.taken_apart.Tie as tie
 
 -- src/lib.rt:59:9
 passes-requires : tie.Need-passes-requires

@@ -1,16 +1,15 @@
--- The parts of a frame that 01's order of judgement speaks of. Total: a byte past the end is 0. Assumes nothing.
+-- The parts of a frame, and what its function makes of them. Total: a byte past the end is 0. Assumes nothing.
 use Prim.Native.Nat.{ℕ, _+_, _*_}
-use mathlib.Core.Bool.{Bool, cond, _&&_, _||_}
+use mathlib.Core.Bool.{Bool, cond, _||_}
 use mathlib.Core.List.{List}
 use lib.Dec.{eqb}
 use lib.ListN.{length}
 use Rattle.words.specs.Words.{byteAt, wordAt}
 use Rattle.check_value.specs.Frame.{passes}
-use Rattle.sheet_rules.specs.Rules.{allowed, bitOf03, bitOf05, bitOf06, bitOf10}
 use Rattle.lists.specs.Lists.{upFrom}
-use Rattle.meter_rules.specs.declared.Passed.{Passed}
-use Rattle.meter_rules.specs.declared.Passed.the-variants.{Frame, Fails}
-use Rattle.meter_rules.specs.declared.Parts.{Parts}
+use Rattle.frame.specs.declared.Passed.{Passed}
+use Rattle.frame.specs.declared.Passed.the-variants.{Frame, Fails}
+use Rattle.frame.specs.declared.Parts.{Parts}
 
 -- the functions: 03 reads, 05 clears the mark, 06 writes one register, 10 writes several
 abbrev pub reads : ℕ
@@ -58,6 +57,10 @@ count frame = manyOf (function frame) (second frame)
 abbrev pub run : List ℕ → List ℕ
 run frame = upFrom (start frame) (count frame)
 
+-- "03 with count over 47": the longest frame has room for no more words behind station, function, byte count and check
+abbrev pub mostRead : ℕ
+mostRead = 47
+
 -- where the words that a write sends begin: at the value of 06, or behind the byte count of 10
 abbrev pub valuesAt : List ℕ → ℕ
 valuesAt frame = cond (eqb (function frame) writesOne) 4 7
@@ -65,15 +68,6 @@ valuesAt frame = cond (eqb (function frame) writesOne) 4 7
 -- the k-th word that a write sends
 abbrev pub sent : List ℕ → ℕ → ℕ
 sent frame k = wordAt frame (valuesAt frame + 2 * k)
-
--- a function is one of the four, and the sheet allows it
-abbrev pub codeAllowed : List ℕ → ℕ → Bool
-codeAllowed sheet code =
-    (eqb code reads && allowed sheet bitOf03) || (eqb code clears && allowed sheet bitOf05)
-    || (eqb code writesOne && allowed sheet bitOf06) || (eqb code writesMany && allowed sheet bitOf10)
-
-abbrev pub functionAllowed : List ℕ → List ℕ → Bool
-functionAllowed sheet frame = codeAllowed sheet (function frame)
 
 -- a frame, taken apart
 abbrev pub partsOf : List ℕ → Parts

@@ -1,16 +1,16 @@
 -- Laying a reply in the answer buffer, byte by byte, word by word, and then its check. Assumes nothing.
-use mathlib.Core.Path.{_≡_, refl, sym, ap, _∙_}
+use mathlib.Core.Path.{_≡_, refl, sym, ap, ap₂, _∙_}
 use mathlib.Core.List.{List, [], _∷_, _++_, append-assoc}
 use Prim.Native.Nat.{ℕ, suc, _+_, _/_, _%_, _≤_, _<_}
 use native.Mathlib.Omega.{arith}
 use lib.ListN.{length, getD, take, drop, set, length-append, length-drop, take-append-drop}
 use lib.Seq.{drop-cons, set-at, take-at, length-take-le, drop-append-add, drop-drop}
-use borrow.Author.Tests.{lt-ltb, le-leb}
-use Rattle.words.specs.Words.{withByte, withWord, upper, lower}
+use mathlib.Core.Bool.{true, _&&_, and-false}
+use borrow.Author.Tests.{lt-ltb, le-leb, lt-leb}
+use Rattle.words.specs.Words.{withByte, withWord, upper, lower, wordBytes}
 use Rattle.check_value.specs.Check.{valueOf}
-use Rattle.check_value.specs.Frame.{checkBytes, sealed}
-use Rattle.meter_rules.specs.Reply.{wordBytes, withCheck}
-use Rattle.meter_rules.specs.Answer.{laid}
+use Rattle.check_value.specs.Frame.{longest, checkBytes, sealed}
+use Rattle.frame.specs.Reply.{withCheck, laid, hasRoom, fill, layReply}
 
 pub laid-length : (bytes buffer : List ℕ) → length bytes ≤ length buffer → length (laid bytes buffer) ≡ length buffer
 laid-length bytes buffer room = simp (length-append, length-drop) (omega arith)
@@ -82,3 +82,24 @@ laid-over head more buffer =
 pub laid-first : (n : ℕ) (buffer : List ℕ) → n ≤ length buffer → buffer ≡ laid (take n buffer) buffer
 laid-first n buffer room =
     sym (ap (λ (k : ℕ). take n buffer ++ drop k buffer) (length-take-le n buffer room) ∙ take-append-drop n buffer)
+
+-- ---- a reply with room, and one without
+
+module _ (reply buffer : List ℕ) where
+  pub has-room : length reply ≤ longest → length reply ≤ length buffer → hasRoom reply buffer ≡ true
+  has-room short inside =
+      ap₂ _&&_ (le-leb (length reply) longest short) (le-leb (length reply) (length buffer) inside)
+
+  pub lays : {n : ℕ} {after : List ℕ} → length reply ≤ longest → length reply ≤ length buffer → n ≡ length reply
+      → after ≡ laid reply buffer → fill n after ≡ layReply reply buffer
+  unfolding layReply
+  lays short inside long made = simp (has-room short inside) (ap₂ fill long made)
+
+  -- it is longer than the buffer, or than a frame
+  pub lays-none : length buffer < length reply → fill 0 buffer ≡ layReply reply buffer
+  unfolding layReply
+  lays-none more = simp (lt-leb (length reply) (length buffer) more, and-false)
+
+  pub lays-no-frame : longest < length reply → fill 0 buffer ≡ layReply reply buffer
+  unfolding layReply
+  lays-no-frame more = simp (lt-leb (length reply) longest more)

@@ -1,9 +1,9 @@
--- `meter::replies::top_bit_set` meets its contract.
+-- `frame::top_bit_set` meets its contract.
 -- Assumes nothing.
 use borrow.Author.Tests.{lt-ltb, le-ltb}
 use borrow.Author.Needs.{needs}
-use Rattle.meter.proofs.replies.top_bit_set.Statement.{statement}
-use Rattle.meter.proofs.replies.top_bit_set.Tie as tie
+use Rattle.frame.proofs.top_bit_set.Statement.{statement}
+use Rattle.frame.proofs.top_bit_set.Tie as tie
 
 -- src/replies.rt:19:9
 add-result : tie.Need-add-result

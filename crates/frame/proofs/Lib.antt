@@ -1,0 +1,5 @@
+pub mod Laying
+pub mod Reading
+pub mod Closing
+pub mod Passing
+pub mod Determined

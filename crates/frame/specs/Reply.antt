@@ -1,0 +1,73 @@
+-- 01, "Replies": the bytes of each, its check behind it, and how it lies in an answer buffer. Assumes nothing.
+use Prim.Native.Nat.{ℕ, _+_, _*_, _/_, _%_}
+use mathlib.Core.Bool.{Bool, cond, _&&_}
+use mathlib.Core.List.{List, [], _∷_, _++_, map}
+use lib.Dec.{leb, ltb, eqb}
+use lib.ListN.{length, drop}
+use Rattle.lists.specs.Lists.{upFrom}
+use Rattle.words.specs.Words.{wordAt, wordBytes, bytesOf}
+use Rattle.check_value.specs.Check.{valueOf}
+use Rattle.check_value.specs.Frame.{longest}
+use Rattle.frame.specs.Frame.{reads, writesMany, station, function, start, second}
+
+-- so many words of lent bytes, from a place on
+abbrev pub wordsFrom : List ℕ → ℕ → ℕ → List ℕ
+wordsFrom source first many = map (λ place. wordAt source (2 * place)) (upFrom first many)
+
+-- "03 gives station, 03, twice the count, the words"
+abbrev pub readReply : List ℕ → List ℕ → ℕ → ℕ → List ℕ
+readReply source frame first many = station frame ∷ reads ∷ (2 * many) ∷ bytesOf (wordsFrom source first many)
+
+-- "05 and 06 echo": station, function, address, value
+abbrev pub echo : List ℕ → List ℕ
+echo frame = station frame ∷ function frame ∷ wordBytes (start frame) ++ wordBytes (second frame)
+
+-- "05 and 06 echo; 10 gives station, 10, start, count"
+abbrev pub writeReply : List ℕ → List ℕ
+writeReply frame =
+    cond (eqb (function frame) writesMany)
+    (station frame ∷ writesMany ∷ wordBytes (start frame) ++ wordBytes (second frame))
+    (echo frame)
+
+-- "an error gives station, function with its top bit set, code"
+abbrev pub topBit : ℕ
+topBit = 0x80
+
+abbrev pub topBitSet : ℕ → ℕ
+topBitSet byte = cond (ltb byte topBit) (byte + topBit) byte
+
+abbrev pub errorReply : List ℕ → ℕ → List ℕ
+errorReply frame code = station frame ∷ topBitSet (function frame) ∷ code ∷ []
+
+-- ".. each then its check", low byte first
+unfoldable pub withCheck : List ℕ → List ℕ
+withCheck bytes = bytes ++ (valueOf bytes % 256 ∷ valueOf bytes / 256 ∷ [])
+
+-- how many bytes an error and an echo have with their check
+abbrev pub errorLength : ℕ
+errorLength = 5
+
+abbrev pub echoLength : ℕ
+echoLength = 8
+
+-- ---- in the answer buffer
+
+-- "reply in the first bytes, buffer beyond as before"
+abbrev pub laid : List ℕ → List ℕ → List ℕ
+laid reply buffer = reply ++ drop (length reply) buffer
+
+-- a reply has room: it is neither longer than a frame can be nor longer than the buffer
+abbrev pub hasRoom : List ℕ → List ℕ → Bool
+hasRoom reply buffer = leb (length reply) longest && leb (length reply) (length buffer)
+
+-- how many of its first bytes a buffer was filled with, and the buffer afterwards
+pub record Filled : Type 0 where
+  pub length : ℕ
+  pub buffer : List ℕ
+
+abbrev pub fill : ℕ → List ℕ → Filled
+fill length buffer = record { length = length; buffer = buffer }
+
+-- a reply is laid in a buffer; one without room is not laid, and the buffer stays as it is
+unfoldable pub layReply : List ℕ → List ℕ → Filled
+layReply reply buffer = cond (hasRoom reply buffer) (fill (length reply) (laid reply buffer)) (fill 0 buffer)
