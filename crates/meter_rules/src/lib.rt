@@ -1,5 +1,6 @@
 // The rules by which one frame is judged and answered, with their laws: specs/ and proofs/ hold them. Here are the types that they speak
 // of; there is no code.
+use refusals::Refusal;
 
 // The parts of a frame that the order of judgement speaks of.
 pub struct Parts {
@@ -37,10 +38,7 @@ pub enum Judged {
 pub enum Answered {
     Reply { length: u32, rate: u16 },
     Silence,
-    SheetBreaksRule,
-    BankMisfits,
-    BankNotSound,
-    SmallBuffer,
+    Refused(Refusal),
 }
 
 // What a run of addresses is for.
