@@ -2,11 +2,11 @@
 use mathlib.Core.Path.{sym, _∙_}
 use denote.Ref.{now}
 use Rattle.words.proofs.Promise.{Determined}
-use Rattle.bank_rules.specs.Calls.{outcome}
+use Rattle.bank_rules.specs.Calls.{bankOutcome}
 use Rattle.bank.proofs.value_in.Kinds as value-in
 use Rattle.bank.proofs.value_in.Reads as value-in-reads
-use Rattle.bank.proofs.judged.Kinds as judged
-use Rattle.bank.proofs.judged.Reads as judged-reads
+use Rattle.bank.proofs.check.Kinds as check
+use Rattle.bank.proofs.check.Reads as check-reads
 use Rattle.bank.proofs.fresh_words.store_fresh.Kinds as store-fresh
 use Rattle.bank.proofs.fresh_words.store_fresh.Reads as store-fresh-reads
 use Rattle.bank.proofs.post_words.all_read_only.Kinds as all-read-only
@@ -23,16 +23,16 @@ use Rattle.bank.proofs.set_mark.Reads as set-mark-reads
 pub value-in-determined : Determined 1 value-in.ps value-in.r value-in-reads.Post (λ κs r s. r)
 value-in-determined κs a x y s t p q = p ∙ sym q
 
-pub judged-determined : Determined 2 judged.ps judged.r judged-reads.Post (λ κs r s. r)
-judged-determined κs a x y s t p q = p ∙ sym q
+pub check-determined : Determined 2 check.ps check.r check-reads.Post (λ κs r s. r)
+check-determined κs a x y s t p q = p ∙ sym q
 
-pub fresh-determined : Determined 2 fresh.ps fresh.r fresh-reads.Post (λ κs r s. outcome r (now (s .1 .0)))
+pub fresh-determined : Determined 2 fresh.ps fresh.r fresh-reads.Post (λ κs r s. bankOutcome r (now (s .1 .0)))
 fresh-determined κs a x y s t p q = p ∙ sym q
 
-pub post-determined : Determined 3 post.ps post.r post-reads.Post (λ κs r s. outcome r (now (s .1 .0)))
+pub post-determined : Determined 3 post.ps post.r post-reads.Post (λ κs r s. bankOutcome r (now (s .1 .0)))
 post-determined κs a x y s t p q = p ∙ sym q
 
-pub set-mark-determined : Determined 2 set-mark.ps set-mark.r set-mark-reads.Post (λ κs r s. outcome r (now (s .1 .0)))
+pub set-mark-determined : Determined 2 set-mark.ps set-mark.r set-mark-reads.Post (λ κs r s. bankOutcome r (now (s .1 .0)))
 set-mark-determined κs a x y s t p q = p ∙ sym q
 
 pub store-fresh-determined : Determined 2 store-fresh.ps store-fresh.r store-fresh-reads.Post (λ κs r s. now (s .1 .0))

@@ -3,16 +3,15 @@ ghost use mathlib.Core.Path.{_≡_};
 ghost use mathlib.Core.Bool.{true};
 ghost use Rattle.sheet_rules.specs.Rules.{sound};
 ghost use Rattle.bank_rules.specs.Stores.{wordOf};
-ghost use Rattle.bank_rules.specs.Bank.{valueBy, fits, bankSound};
-ghost use Rattle.bank_rules.specs.Calls.{checkAnswer, freshOutcome, postOutcome, markOutcome, outcome};
+ghost use Rattle.bank_rules.specs.Bank.{valueBy, bankSound};
+ghost use Rattle.bank_rules.specs.Calls.{lent, checkAnswer, freshAnswer, freshOutcome, postOutcome, markOutcome, bankOutcome};
+use refusals::Answer;
+use refusals::Refusal;
 use sheet_rules::Item;
-use sheet_rules::SheetJudged;
 
 mod fresh_words;
 mod post_words;
 mod rows;
-
-use bank_rules::Answer;
 
 // The value of an item: its word, or for a pair both, upper word first.
 pub fn value_in(bank: &[u8], item: Item) -> u32
@@ -44,59 +43,62 @@ fn sound(sheet: &[u8], bank: &[u8]) -> bool
     words::word_at(bank, 2 * (sheet::bank_words(sheet) as usize)) <= 1
 }
 
-// Whether a bank has 2B + 2 bytes.
-fn fits(sheet: &[u8], bank: &[u8]) -> bool
-    ensures { λ r. ⌜ r ≡ fits (now (sheet .entry)) (now (bank .entry)) ⌝ }
+// The refusals that all calls on a bank share: a sheet that breaks a rule, and a bank that has not 2B + 2 bytes.
+fn check_size(sheet: &[u8], bank: &[u8]) -> Answer
+    ensures { λ r. ⌜ r ≡ freshAnswer (lent (now (sheet .entry)) (now (bank .entry))) ⌝ }
 {
-    bank.len() == 2 * (sheet::bank_words(sheet) as usize) + 2
+    let checked = sheet::check(sheet);
+    let Answer::Done = checked else {
+        return checked;
+    };
+    if bank.len() != 2 * (sheet::bank_words(sheet) as usize) + 2 {
+        return Answer::Refused(Refusal::MisfittingBank);
+    }
+    Answer::Done
 }
 
-// The refusals that posting, setting the mark and answering share: a sheet that breaks a rule, a bank that does not fit it, a bank that is not sound.
-pub fn judged(sheet: &[u8], bank: &[u8]) -> Answer
-    ensures { λ r. ⌜ r ≡ checkAnswer (now (sheet .entry)) (now (bank .entry)) ⌝ }
+// The refusals that posting, setting the mark and answering share: these, and a bank that is not sound.
+pub fn check(sheet: &[u8], bank: &[u8]) -> Answer
+    ensures { λ r. ⌜ r ≡ checkAnswer (lent (now (sheet .entry)) (now (bank .entry))) ⌝ }
 {
-    let SheetJudged::Sound = sheet::judged(sheet) else {
-        return Answer::SheetBreaksRule;
+    let checked = check_size(sheet, bank);
+    let Answer::Done = checked else {
+        return checked;
     };
-    if !fits(sheet, bank) {
-        return Answer::BankMisfits;
-    }
     if !sound(sheet, bank) {
-        return Answer::BankNotSound;
+        return Answer::Refused(Refusal::UnsoundBank);
     }
     Answer::Done
 }
 
 // Makes a bank fresh.
 pub fn fresh(sheet: &[u8], bank: &mut [u8]) -> Answer
-    ensures { λ r. ⌜ outcome r (now (bank .exit)) ≡ freshOutcome (now (sheet .entry)) (now (bank .entry)) ⌝ }
+    ensures { λ r. ⌜ bankOutcome r (now (bank .exit)) ≡ freshOutcome (lent (now (sheet .entry)) (now (bank .entry))) ⌝ }
 {
-    let SheetJudged::Sound = sheet::judged(sheet) else {
-        return Answer::SheetBreaksRule;
+    let checked = check_size(sheet, bank);
+    let Answer::Done = checked else {
+        return checked;
     };
-    if !fits(sheet, bank) {
-        return Answer::BankMisfits;
-    }
     fresh_words::store_fresh(sheet, bank);
     Answer::Done
 }
 
 // Posts words from an address upward, all in access 1 areas.
 pub fn post(sheet: &[u8], bank: &mut [u8], address: u32, bytes: &[u8]) -> Answer
-    ensures { λ r. ⌜ outcome r (now (bank .exit)) ≡ postOutcome (now (sheet .entry)) (now (bank .entry)) address (now (bytes .entry)) ⌝ }
+    ensures { λ r. ⌜ bankOutcome r (now (bank .exit)) ≡ postOutcome (lent (now (sheet .entry)) (now (bank .entry))) address (now (bytes .entry)) ⌝ }
 {
-    let refusal = judged(sheet, bank);
-    let Answer::Done = refusal else {
-        return refusal;
+    let checked = check(sheet, bank);
+    let Answer::Done = checked else {
+        return checked;
     };
     if bytes.len() == 0 {
-        return Answer::BadInput;
+        return Answer::Refused(Refusal::BadInput);
     }
     if bytes.len() % 2 == 1 {
-        return Answer::BadInput;
+        return Answer::Refused(Refusal::BadInput);
     }
     if !post_words::all_read_only(sheet, address, bytes.len() / 2) {
-        return Answer::NotReadOnly;
+        return Answer::Refused(Refusal::NotReadOnly);
     }
     post_words::store_posted(sheet, bank, address, bytes);
     Answer::Done
@@ -104,14 +106,14 @@ pub fn post(sheet: &[u8], bank: &mut [u8], address: u32, bytes: &[u8]) -> Answer
 
 // Sets the alarm mark to 0 or 1.
 pub fn set_mark(sheet: &[u8], bank: &mut [u8], mark: u32) -> Answer
-    ensures { λ r. ⌜ outcome r (now (bank .exit)) ≡ markOutcome (now (sheet .entry)) (now (bank .entry)) mark ⌝ }
+    ensures { λ r. ⌜ bankOutcome r (now (bank .exit)) ≡ markOutcome (lent (now (sheet .entry)) (now (bank .entry))) mark ⌝ }
 {
-    let refusal = judged(sheet, bank);
-    let Answer::Done = refusal else {
-        return refusal;
+    let checked = check(sheet, bank);
+    let Answer::Done = checked else {
+        return checked;
     };
     if 1 < mark {
-        return Answer::BadInput;
+        return Answer::Refused(Refusal::BadInput);
     }
     words::store_word(
         bank,

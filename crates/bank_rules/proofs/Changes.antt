@@ -2,7 +2,7 @@
 -- stays; a refusal changes nothing. Assumes nothing.
 use mathlib.Core.Path.{_≡_, refl, ap, _∙_}
 use mathlib.Core.Bool.{Bool, true, false, cond}
-use mathlib.Core.List.{List, [], _∷_}
+use mathlib.Core.List.{List, [], _∷_, _++_}
 use Prim.Native.Nat.{ℕ, _+_, _*_, _/_, _<_}
 use native.Mathlib.Omega.{arith}
 use lib.Dec.{leb, eqb}
@@ -16,79 +16,78 @@ use Rattle.sheet_rules.specs.Rules.{readOnly, sound}
 use Rattle.sheet_rules.specs.Lookup.{liesIn, holds}
 use Rattle.lists.proofs.Among.{Among}
 use Rattle.sheet_rules.proofs.Addresses.{place-address, lies-below}
-use Rattle.bank_rules.specs.declared.Answer.{Answer}
-use Rattle.bank_rules.specs.declared.Answer.the-variants.{Done, SheetBreaksRule, BankMisfits, BankNotSound, NotReadOnly, BadInput}
+use Rattle.refusals.specs.declared.Answer.{Answer}
+use Rattle.refusals.specs.declared.Answer.the-variants.{Done, Refused}
+use Rattle.refusals.specs.Answers.{answerNumber}
+use Rattle.refusals.proofs.Answers.{done-none}
 use Rattle.bank_rules.specs.Stores.{Store, wordOf, stored}
 use Rattle.bank_rules.specs.Bank.{fits, bankSound, markPlace, placeIn, postedRun, allReadOnly, emptyOrOdd, postStore, postStores, markStores}
-use Rattle.lists.specs.Cases.{NoneOf}
-use Rattle.bank_rules.specs.Calls.{numberOf, brokenSheet, misfittingBank, unsoundBank, badMark, badAddress, outcomeOf, checkAnswer, freshAnswer, postAnswer, markAnswer, postOutcome, markOutcome}
-use Rattle.bank_rules.proofs.Stores.{stored-length}
+use Rattle.lists.specs.Cases.{NoneOf, conditions}
+use Rattle.bank_rules.specs.Calls.{Lent, badMark, badAddress, checkRefusals, freshRefusals, postRefusals, markRefusals, effectOf, checkAnswer, freshAnswer, postAnswer, markAnswer, postOutcome, markOutcome}
 use Rattle.bank_rules.proofs.Latest.{latest, words-left, latest-none, latest-agreed}
 use Rattle.bank_rules.proofs.Held.{held-below, read-only-unheld}
 use Rattle.bank_rules.proofs.Inside.{map-among, number-among, posted-read-only, posted-store, mark-stores-inside, post-stores-inside}
-use Rattle.bank_rules.proofs.Numbers.{check-numbers, fresh-numbers, post-numbers, mark-numbers}
 
 -- ---- any call: its stores where it is done, nothing where it refuses
 
 module _ (bank : List ℕ) (stores : List Store) where
-  pub done-stores : {answer : Answer} → answer ≡ Done → outcomeOf answer bank stores .bank ≡ stored bank stores
-  done-stores done = ap (λ (a : Answer). outcomeOf a bank stores .bank) done
+  pub done-stores : {answer : Answer} → answer ≡ Done → stored bank (effectOf answer stores) ≡ stored bank stores
+  done-stores done = ap (λ (a : Answer). stored bank (effectOf a stores)) done
 
   -- what holds of the bank before, and of the bank after the stores of a call that is done, holds afterwards
-  pub outcome-either : (P : List ℕ → Type 0) (answer : Answer) → P bank → (answer ≡ Done → P (stored bank stores)) → P (outcomeOf answer bank stores .bank)
-  outcome-either P Done before after = after refl
-  outcome-either P SheetBreaksRule before after = before
-  outcome-either P BankMisfits before after = before
-  outcome-either P BankNotSound before after = before
-  outcome-either P NotReadOnly before after = before
-  outcome-either P BadInput before after = before
+  pub effect-either : (P : List ℕ → Type 0) (answer : Answer) → P bank → (answer ≡ Done → P (stored bank stores))
+      → P (stored bank (effectOf answer stores))
+  unfolding stored
+  effect-either P Done before after = after refl
+  effect-either P (Refused refusal) before after = before
 
-  pub refused-as-before : (answer : Answer) → (numberOf answer ≡ 0 → ⊥) → outcomeOf answer bank stores .bank ≡ bank
-  refused-as-before answer refuses = outcome-either (λ b. b ≡ bank) answer refl (λ done. absurd (refuses (ap numberOf done)))
-
-  pub size-kept : (answer : Answer) → length (outcomeOf answer bank stores .bank) ≡ length bank
-  size-kept answer = outcome-either (λ b. length b ≡ length bank) answer refl (λ done. stored-length bank stores)
+  pub refused-as-before : (answer : Answer) → (answerNumber answer ≡ 0 → ⊥) → stored bank (effectOf answer stores) ≡ bank
+  refused-as-before answer refuses = effect-either (λ b. b ≡ bank) answer refl (λ done. absurd (refuses (ap answerNumber done)))
 
 -- ---- what a call that is done has found
 
-module _ (sheet bank : List ℕ) where
+module _ (given : Lent) where
   pub record Passed : Type 0 where
-    pub right : sound sheet ≡ true
-    pub fitting : fits sheet bank ≡ true
-    pub whole : bankSound sheet bank ≡ true
+    pub right : sound (given .sheet) ≡ true
+    pub fitting : fits (given .sheet) (given .bank) ≡ true
+    pub whole : bankSound (given .sheet) (given .bank) ≡ true
 
-  passed : (more : List Bool) → NoneOf (brokenSheet sheet ∷ misfittingBank sheet bank ∷ unsoundBank sheet bank ∷ more) → Passed
+  pub passed : (more : List Bool) → NoneOf (conditions (checkRefusals given) ++ more) → Passed
   passed more none =
       record {
-        right = not-false (sound sheet) (none .0);
-        fitting = not-false (fits sheet bank) (none .1 .0);
-        whole = not-false (bankSound sheet bank) (none .1 .1 .0);
+        right = not-false (sound (given .sheet)) (none .0);
+        fitting = not-false (fits (given .sheet) (given .bank)) (none .1 .0);
+        whole = not-false (bankSound (given .sheet) (given .bank)) (none .1 .1 .0);
       }
 
-  pub check-passed : checkAnswer sheet bank ≡ Done → Passed
-  check-passed done = passed [] (check-numbers sheet bank .1 .1 .1 .0 (ap numberOf done))
+  pub check-passed : checkAnswer given ≡ Done → Passed
+  unfolding checkAnswer
+  check-passed done = passed [] (done-none (checkRefusals given) done)
 
-  pub fresh-passed : freshAnswer sheet bank ≡ Done → (sound sheet ≡ true) × (fits sheet bank ≡ true)
+  pub fresh-passed : freshAnswer given ≡ Done → (sound (given .sheet) ≡ true) × (fits (given .sheet) (given .bank) ≡ true)
+  unfolding freshAnswer
   fresh-passed done =
-      let none = fresh-numbers sheet bank .1 .1 .0 (ap numberOf done) in
-      (not-false (sound sheet) (none .0), not-false (fits sheet bank) (none .1 .0))
+      let none = done-none (freshRefusals given) done in
+      (not-false (sound (given .sheet)) (none .0), not-false (fits (given .sheet) (given .bank)) (none .1 .0))
 
-  module _ (address : ℕ) (bytes : List ℕ) (done : postAnswer sheet bank address bytes ≡ Done) where
-    none-of-post : NoneOf (brokenSheet sheet ∷ misfittingBank sheet bank ∷ unsoundBank sheet bank ∷ emptyOrOdd bytes ∷ badAddress sheet address bytes ∷ [])
-    none-of-post = post-numbers sheet bank address bytes .1 .1 .1 .1 .1 .0 (ap numberOf done)
+  module _ (address : ℕ) (bytes : List ℕ) (done : postAnswer given address bytes ≡ Done) where
+    none-of-post : NoneOf (conditions (postRefusals given address bytes))
+    unfolding postAnswer
+    none-of-post = done-none (postRefusals given address bytes) done
 
     pub post-passed : Passed
-    post-passed = passed (emptyOrOdd bytes ∷ badAddress sheet address bytes ∷ []) none-of-post
+    post-passed = passed (emptyOrOdd bytes ∷ badAddress given address bytes ∷ []) none-of-post
 
     pub post-even : emptyOrOdd bytes ≡ false
     post-even = none-of-post .1 .1 .1 .0
 
-    pub post-readable : allReadOnly sheet (postedRun address bytes) ≡ true
-    post-readable = not-false (allReadOnly sheet (postedRun address bytes)) (none-of-post .1 .1 .1 .1 .0)
+    pub post-readable : allReadOnly (given .sheet) (postedRun address bytes) ≡ true
+    post-readable = not-false (allReadOnly (given .sheet) (postedRun address bytes)) (none-of-post .1 .1 .1 .1 .0)
 
-  module _ (mark : ℕ) (done : markAnswer sheet bank mark ≡ Done) where
-    none-of-mark : NoneOf (brokenSheet sheet ∷ misfittingBank sheet bank ∷ unsoundBank sheet bank ∷ badMark mark ∷ [])
-    none-of-mark = mark-numbers sheet bank mark .1 .1 .1 .1 .0 (ap numberOf done)
+  module _ (mark : ℕ) (done : markAnswer given mark ≡ Done) where
+    none-of-mark : NoneOf (conditions (markRefusals given mark))
+    unfolding markAnswer
+    none-of-mark = done-none (markRefusals given mark) done
 
     pub mark-passed : Passed
     mark-passed = passed (badMark mark ∷ []) none-of-mark
@@ -98,14 +97,20 @@ module _ (sheet bank : List ℕ) where
 
 -- ---- posting: "words from a given address upward, all in access 1 areas"
 
-module _ (sheet bank : List ℕ) (address : ℕ) (bytes : List ℕ) (done : postAnswer sheet bank address bytes ≡ Done) where
-  found : Passed sheet bank
-  found = post-passed sheet bank address bytes done
+module _ (given : Lent) (address : ℕ) (bytes : List ℕ) (done : postAnswer given address bytes ≡ Done) where
+  abbrev sheet : List ℕ
+  sheet = given .sheet
+
+  abbrev bank : List ℕ
+  bank = given .bank
+
+  found : Passed given
+  found = post-passed given address bytes done
 
   readable : allReadOnly sheet (postedRun address bytes) ≡ true
-  readable = post-readable sheet bank address bytes done
+  readable = post-readable given address bytes done
 
-  left : (place : ℕ) → wordOf (postOutcome sheet bank address bytes .bank) place ≡ latest (postStores sheet address bytes) place (wordOf bank place)
+  left : (place : ℕ) → wordOf (postOutcome given address bytes .bank) place ≡ latest (postStores sheet address bytes) place (wordOf bank place)
   unfolding postOutcome
   left place =
       ap (λ (b : List ℕ). wordOf b place) (done-stores bank (postStores sheet address bytes) done)
@@ -119,7 +124,7 @@ module _ (sheet bank : List ℕ) (address : ℕ) (bytes : List ℕ) (done : post
 
   -- and holds its word
   pub post-word : (k place access : ℕ) → k < length bytes / 2 → liesIn (areas sheet) (address + k) ≡ At place access
-      → wordOf (postOutcome sheet bank address bytes .bank) place ≡ wordAt bytes (2 * k)
+      → wordOf (postOutcome given address bytes .bank) place ≡ wordAt bytes (2 * k)
   unfolding postStores
   post-word k place access inside lies =
       left place ∙ latest-agreed place (wordAt bytes (2 * k)) among (ap placeIn lies) agree (wordOf bank place)
@@ -140,7 +145,7 @@ module _ (sheet bank : List ℕ) (address : ℕ) (bytes : List ℕ) (done : post
 
   -- every other word stays
   pub post-elsewhere : (place : ℕ) → ((k : ℕ) → k < length bytes / 2 → liesIn (areas sheet) (address + k) ≡ At place readOnly → ⊥)
-      → wordOf (postOutcome sheet bank address bytes .bank) place ≡ wordOf bank place
+      → wordOf (postOutcome given address bytes .bank) place ≡ wordOf bank place
   post-elsewhere place unposted = left place ∙ latest-none (postStores sheet address bytes) place (wordOf bank place) none
     where
       none : (store : Store) → Among store (postStores sheet address bytes) → store .place ≡ place → ⊥
@@ -149,14 +154,14 @@ module _ (sheet bank : List ℕ) (address : ℕ) (bytes : List ℕ) (done : post
           unposted (one .0) (one .1) (one .2 ∙ ap (λ (n : ℕ). At n readOnly) at)
 
   -- also the mark
-  pub post-mark : wordOf (postOutcome sheet bank address bytes .bank) (markPlace sheet) ≡ wordOf bank (markPlace sheet)
+  pub post-mark : wordOf (postOutcome given address bytes .bank) (markPlace sheet) ≡ wordOf bank (markPlace sheet)
   post-mark =
       post-elsewhere (markPlace sheet)
       (λ k inside lies. let below = lies-below sheet (found .right) (address + k) (markPlace sheet) readOnly lies in omega arith)
 
   -- and the items
   pub post-items : (item : Item) → Among item (items sheet) → (place : ℕ) → holds item place ≡ true
-      → wordOf (postOutcome sheet bank address bytes .bank) place ≡ wordOf bank place
+      → wordOf (postOutcome given address bytes .bank) place ≡ wordOf bank place
   post-items item m place held =
       post-elsewhere place (λ k inside lies. read-only-unheld sheet (found .right) (address + k) place lies m held)
 
@@ -175,23 +180,23 @@ module _ (sheet bank : List ℕ) (right : sound sheet ≡ true) (fitting : fits 
   pub mark-apart : (place : ℕ) → (markPlace sheet ≡ place → ⊥) → wordOf (stored bank (markStores sheet mark)) place ≡ wordOf bank place
   mark-apart place apart = mark-stored sheet bank right fitting mark place ∙ simp (ne-eqb (markPlace sheet) place apart)
 
-module _ (sheet bank : List ℕ) (mark : ℕ) (done : markAnswer sheet bank mark ≡ Done) where
-  marked : Passed sheet bank
-  marked = mark-passed sheet bank mark done
+module _ (given : Lent) (mark : ℕ) (done : markAnswer given mark ≡ Done) where
+  marked : Passed given
+  marked = mark-passed given mark done
 
-  mark-left : (place : ℕ) → wordOf (markOutcome sheet bank mark .bank) place ≡ wordOf (stored bank (markStores sheet mark)) place
+  mark-left : (place : ℕ) → wordOf (markOutcome given mark .bank) place ≡ wordOf (stored (given .bank) (markStores (given .sheet) mark)) place
   unfolding markOutcome
-  mark-left place = ap (λ (b : List ℕ). wordOf b place) (done-stores bank (markStores sheet mark) done)
+  mark-left place = ap (λ (b : List ℕ). wordOf b place) (done-stores (given .bank) (markStores (given .sheet) mark) done)
 
-  pub mark-word : wordOf (markOutcome sheet bank mark .bank) (markPlace sheet) ≡ mark
-  mark-word = mark-left (markPlace sheet) ∙ mark-there sheet bank (marked .right) (marked .fitting) mark
+  pub mark-word : wordOf (markOutcome given mark .bank) (markPlace (given .sheet)) ≡ mark
+  mark-word = mark-left (markPlace (given .sheet)) ∙ mark-there (given .sheet) (given .bank) (marked .right) (marked .fitting) mark
 
   -- every other word stays
-  pub mark-elsewhere : (place : ℕ) → (markPlace sheet ≡ place → ⊥) → wordOf (markOutcome sheet bank mark .bank) place ≡ wordOf bank place
-  mark-elsewhere place apart = mark-left place ∙ mark-apart sheet bank (marked .right) (marked .fitting) mark place apart
+  pub mark-elsewhere : (place : ℕ) → (markPlace (given .sheet) ≡ place → ⊥) → wordOf (markOutcome given mark .bank) place ≡ wordOf (given .bank) place
+  mark-elsewhere place apart = mark-left place ∙ mark-apart (given .sheet) (given .bank) (marked .right) (marked .fitting) mark place apart
 
   -- also the items
-  pub mark-items : (item : Item) → Among item (items sheet) → (place : ℕ) → holds item place ≡ true
-      → wordOf (markOutcome sheet bank mark .bank) place ≡ wordOf bank place
+  pub mark-items : (item : Item) → Among item (items (given .sheet)) → (place : ℕ) → holds item place ≡ true
+      → wordOf (markOutcome given mark .bank) place ≡ wordOf (given .bank) place
   mark-items item m place held =
-      mark-elsewhere place (λ same. let below = held-below sheet (marked .right) place m held in omega arith)
+      mark-elsewhere place (λ same. let below = held-below (given .sheet) (marked .right) place m held in omega arith)

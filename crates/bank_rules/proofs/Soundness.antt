@@ -4,34 +4,42 @@ use mathlib.Core.Bool.{true}
 use mathlib.Core.List.{List}
 use Prim.Native.Nat.{ℕ}
 use lib.Dec.{leb}
-use Rattle.bank_rules.specs.declared.Answer.the-variants.{Done}
+use Rattle.refusals.specs.declared.Answer.{Answer}
+use Rattle.refusals.specs.declared.Answer.the-variants.{Done}
+use Rattle.bank_rules.specs.Stores.{Store, stored}
 use Rattle.bank_rules.specs.Bank.{bankSound, freshStores, postStores, markStores}
-use Rattle.bank_rules.specs.Calls.{freshAnswer, postAnswer, markAnswer, freshOutcome, postOutcome, markOutcome}
+use Rattle.bank_rules.specs.Calls.{Lent, effectOf, freshAnswer, postAnswer, markAnswer, freshOutcome, postOutcome, markOutcome}
 use Rattle.bank_rules.proofs.FreshBank.{fresh-sound}
 use Rattle.bank_rules.proofs.Values.{sound-mark, sound-kept}
-use Rattle.bank_rules.proofs.Changes.{done-stores, outcome-either, fresh-passed, mark-small, post-items, post-mark, mark-items, mark-word}
+use Rattle.bank_rules.proofs.Changes.{done-stores, effect-either, fresh-passed, mark-small, post-items, post-mark, mark-items, mark-word}
 
-module _ (sheet bank : List ℕ) where
-  pub fresh-makes-sound : freshAnswer sheet bank ≡ Done → bankSound sheet (freshOutcome sheet bank .bank) ≡ true
+module _ (given : Lent) where
+  pub fresh-makes-sound : freshAnswer given ≡ Done → bankSound (given .sheet) (freshOutcome given .bank) ≡ true
   unfolding freshOutcome
   fresh-makes-sound done =
-      let found = fresh-passed sheet bank done in
-      ap (bankSound sheet) (done-stores bank (freshStores sheet) done) ∙ fresh-sound sheet bank (found .0) (found .1)
+      let found = fresh-passed given done in
+      ap (bankSound (given .sheet)) (done-stores (given .bank) (freshStores (given .sheet)) done)
+      ∙ fresh-sound (given .sheet) (given .bank) (found .0) (found .1)
 
-  -- whatever the call answers
-  pub post-keeps-sound : (address : ℕ) (bytes : List ℕ) → bankSound sheet bank ≡ true
-      → bankSound sheet (postOutcome sheet bank address bytes .bank) ≡ true
+  -- a call that stores nothing where it refuses, and keeps the items and a mark of 0 or 1 where it is done, whatever it answers
+  keeps-sound : (answer : Answer) (stores : List Store) → bankSound (given .sheet) (given .bank) ≡ true
+      → (answer ≡ Done → bankSound (given .sheet) (stored (given .bank) (effectOf answer stores)) ≡ true)
+      → bankSound (given .sheet) (stored (given .bank) (effectOf answer stores)) ≡ true
+  keeps-sound answer stores whole after =
+      effect-either (given .bank) stores (λ left. bankSound (given .sheet) left ≡ true) answer whole
+      (λ done. ap (bankSound (given .sheet)) (sym (done-stores (given .bank) stores done)) ∙ after done)
+
+  pub post-keeps-sound : (address : ℕ) (bytes : List ℕ) → bankSound (given .sheet) (given .bank) ≡ true
+      → bankSound (given .sheet) (postOutcome given address bytes .bank) ≡ true
   unfolding postOutcome
   post-keeps-sound address bytes whole =
-      outcome-either bank (postStores sheet address bytes) (λ after. bankSound sheet after ≡ true) (postAnswer sheet bank address bytes) whole
-      (λ done. ap (bankSound sheet) (sym (done-stores bank (postStores sheet address bytes) done))
-      ∙ sound-kept sheet bank (postOutcome sheet bank address bytes .bank) whole (post-items sheet bank address bytes done)
-      (ap (λ (n : ℕ). leb n 1) (post-mark sheet bank address bytes done) ∙ sound-mark sheet bank whole))
+      keeps-sound (postAnswer given address bytes) (postStores (given .sheet) address bytes) whole
+      (λ done. sound-kept (given .sheet) (given .bank) (postOutcome given address bytes .bank) whole (post-items given address bytes done)
+      (ap (λ (n : ℕ). leb n 1) (post-mark given address bytes done) ∙ sound-mark (given .sheet) (given .bank) whole))
 
-  pub mark-keeps-sound : (mark : ℕ) → bankSound sheet bank ≡ true → bankSound sheet (markOutcome sheet bank mark .bank) ≡ true
+  pub mark-keeps-sound : (mark : ℕ) → bankSound (given .sheet) (given .bank) ≡ true → bankSound (given .sheet) (markOutcome given mark .bank) ≡ true
   unfolding markOutcome
   mark-keeps-sound mark whole =
-      outcome-either bank (markStores sheet mark) (λ after. bankSound sheet after ≡ true) (markAnswer sheet bank mark) whole
-      (λ done. ap (bankSound sheet) (sym (done-stores bank (markStores sheet mark) done))
-      ∙ sound-kept sheet bank (markOutcome sheet bank mark .bank) whole (mark-items sheet bank mark done)
-      (ap (λ (n : ℕ). leb n 1) (mark-word sheet bank mark done) ∙ mark-small sheet bank mark done))
+      keeps-sound (markAnswer given mark) (markStores (given .sheet) mark) whole
+      (λ done. sound-kept (given .sheet) (given .bank) (markOutcome given mark .bank) whole (mark-items given mark done)
+      (ap (λ (n : ℕ). leb n 1) (mark-word given mark done) ∙ mark-small given mark done))

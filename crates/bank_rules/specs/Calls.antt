@@ -1,101 +1,104 @@
--- What each call on a bank answers and leaves: 01, "Numbers handed back to the firmware". Assumes nothing.
+-- What each call on a bank refuses, answers, stores and leaves: 01, "Numbers handed back to the firmware". Assumes nothing.
 use Prim.Native.Nat.{ℕ}
-use mathlib.Core.Bool.{Bool, true, false, not, cond}
-use mathlib.Core.List.{List, [], _∷_}
+use mathlib.Core.Bool.{Bool, not}
+use mathlib.Core.List.{List, [], _∷_, _++_}
 use lib.Dec.{leb}
-use Rattle.sheet_rules.specs.Rules.{sound}
-use Rattle.bank_rules.specs.declared.Answer.{Answer}
-use Rattle.bank_rules.specs.declared.Answer.the-variants.{Done, SheetBreaksRule, BankMisfits, BankNotSound, NotReadOnly, BadInput}
+use Rattle.lists.specs.Cases.{Case, when}
+use Rattle.refusals.specs.declared.Refusal.{Refusal}
+use Rattle.refusals.specs.declared.Refusal.the-variants.{BrokenSheet, MisfittingBank, UnsoundBank, NotReadOnly, BadInput}
+use Rattle.refusals.specs.declared.Answer.{Answer}
+use Rattle.refusals.specs.declared.Answer.the-variants.{Done, Refused}
+use Rattle.refusals.specs.Answers.{answerBy}
+use Rattle.sheet_rules.specs.Rules.{brokenSheet}
 use Rattle.bank_rules.specs.Stores.{Store, stored}
 use Rattle.bank_rules.specs.Bank.{fits, bankSound, freshStores, postedRun, allReadOnly, postStores, emptyOrOdd, markStores}
-use Rattle.lists.specs.Cases.{when, firstCase}
 
--- 01's number for each answer
-abbrev pub numberOf : Answer → ℕ
-numberOf Done = 0
-numberOf SheetBreaksRule = 2
-numberOf BankMisfits = 3
-numberOf BankNotSound = 4
-numberOf NotReadOnly = 6
-numberOf BadInput = 7
+-- what a call is lent
+pub record Lent : Type 0 where
+  pub sheet : List ℕ
+  pub bank : List ℕ
 
--- 2 "sheet breaks a rule"
-abbrev pub brokenSheet : List ℕ → Bool
-brokenSheet sheet = not (sound sheet)
+abbrev pub lent : List ℕ → List ℕ → Lent
+lent sheet bank = record { sheet = sheet; bank = bank }
+
+-- ---- what is refused; 2 "sheet breaks a rule" is `brokenSheet`
 
 -- 3 "bank not 2B + 2 bytes"
-abbrev pub misfittingBank : List ℕ → List ℕ → Bool
-misfittingBank sheet bank = not (fits sheet bank)
+abbrev pub misfittingBank : Lent → Bool
+misfittingBank given = not (fits (given .sheet) (given .bank))
 
 -- 4 "bank not sound"
-abbrev pub unsoundBank : List ℕ → List ℕ → Bool
-unsoundBank sheet bank = not (bankSound sheet bank)
+abbrev pub unsoundBank : Lent → Bool
+unsoundBank given = not (bankSound (given .sheet) (given .bank))
 
 -- 7 "posted bytes empty or odd" is `emptyOrOdd`; 7 "mark not 0 or 1"
 abbrev pub badMark : ℕ → Bool
 badMark mark = not (leb mark 1)
 
 -- 6 "posted address not all in access 1 areas"
-abbrev pub badAddress : List ℕ → ℕ → List ℕ → Bool
-badAddress sheet address bytes = not (allReadOnly sheet (postedRun address bytes))
+abbrev pub badAddress : Lent → ℕ → List ℕ → Bool
+badAddress given address bytes = not (allReadOnly (given .sheet) (postedRun address bytes))
 
 -- "Checked in the order 2, 3, 4, 5, 7, 6, so far as the call has that part; a fresh bank does not test 4."
-unfoldable pub checkAnswer : List ℕ → List ℕ → Answer
-unfolding firstCase
-checkAnswer sheet bank =
-    firstCase
-    (when (brokenSheet sheet) SheetBreaksRule ∷ when (misfittingBank sheet bank) BankMisfits
-    ∷ when (unsoundBank sheet bank) BankNotSound ∷ [])
-    Done
+abbrev pub freshRefusals : Lent → List (Case Refusal)
+freshRefusals given = when (brokenSheet (given .sheet)) BrokenSheet ∷ when (misfittingBank given) MisfittingBank ∷ []
 
-unfoldable pub freshAnswer : List ℕ → List ℕ → Answer
-unfolding firstCase
-freshAnswer sheet bank =
-    firstCase (when (brokenSheet sheet) SheetBreaksRule ∷ when (misfittingBank sheet bank) BankMisfits ∷ []) Done
+abbrev pub checkRefusals : Lent → List (Case Refusal)
+checkRefusals given = freshRefusals given ++ (when (unsoundBank given) UnsoundBank ∷ [])
 
-unfoldable pub postAnswer : List ℕ → List ℕ → ℕ → List ℕ → Answer
-unfolding firstCase
-postAnswer sheet bank address bytes =
-    firstCase
-    (when (brokenSheet sheet) SheetBreaksRule ∷ when (misfittingBank sheet bank) BankMisfits
-    ∷ when (unsoundBank sheet bank) BankNotSound ∷ when (emptyOrOdd bytes) BadInput
-    ∷ when (badAddress sheet address bytes) NotReadOnly ∷ [])
-    Done
+abbrev pub postRefusals : Lent → ℕ → List ℕ → List (Case Refusal)
+postRefusals given address bytes =
+    checkRefusals given
+    ++ (when (emptyOrOdd bytes) BadInput
+    ∷ when (badAddress given address bytes) NotReadOnly
+    ∷ [])
 
-unfoldable pub markAnswer : List ℕ → List ℕ → ℕ → Answer
-unfolding firstCase
-markAnswer sheet bank mark =
-    firstCase
-    (when (brokenSheet sheet) SheetBreaksRule ∷ when (misfittingBank sheet bank) BankMisfits
-    ∷ when (unsoundBank sheet bank) BankNotSound ∷ when (badMark mark) BadInput ∷ [])
-    Done
+abbrev pub markRefusals : Lent → ℕ → List (Case Refusal)
+markRefusals given mark = checkRefusals given ++ (when (badMark mark) BadInput ∷ [])
 
--- what a call answers, and the bank as it leaves it
-pub record Outcome : Type 0 where
+-- ---- what is answered
+
+unfoldable pub checkAnswer : Lent → Answer
+checkAnswer given = answerBy (checkRefusals given)
+
+unfoldable pub freshAnswer : Lent → Answer
+freshAnswer given = answerBy (freshRefusals given)
+
+unfoldable pub postAnswer : Lent → ℕ → List ℕ → Answer
+postAnswer given address bytes = answerBy (postRefusals given address bytes)
+
+unfoldable pub markAnswer : Lent → ℕ → Answer
+markAnswer given mark = answerBy (markRefusals given mark)
+
+-- ---- what is stored: a call that is done makes its stores, one that is refused makes none
+
+abbrev pub effectOf : Answer → List Store → List Store
+effectOf Done stores = stores
+effectOf (Refused refusal) stores = []
+
+abbrev pub freshEffect : Lent → List Store
+freshEffect given = effectOf (freshAnswer given) (freshStores (given .sheet))
+
+abbrev pub postEffect : Lent → ℕ → List ℕ → List Store
+postEffect given address bytes = effectOf (postAnswer given address bytes) (postStores (given .sheet) address bytes)
+
+abbrev pub markEffect : Lent → ℕ → List Store
+markEffect given mark = effectOf (markAnswer given mark) (markStores (given .sheet) mark)
+
+-- ---- what a call answers, and the bank as it leaves it
+
+pub record BankOutcome : Type 0 where
   pub answer : Answer
   pub bank : List ℕ
 
-abbrev pub outcome : Answer → List ℕ → Outcome
-outcome answer bank = record { answer = answer; bank = bank }
+abbrev pub bankOutcome : Answer → List ℕ → BankOutcome
+bankOutcome answer bank = record { answer = answer; bank = bank }
 
-abbrev pub isDone : Answer → Bool
-isDone Done = true
-isDone SheetBreaksRule = false
-isDone BankMisfits = false
-isDone BankNotSound = false
-isDone NotReadOnly = false
-isDone BadInput = false
+unfoldable pub freshOutcome : Lent → BankOutcome
+freshOutcome given = bankOutcome (freshAnswer given) (stored (given .bank) (freshEffect given))
 
--- a call that is done makes its stores; a refusal writes nothing
-abbrev pub outcomeOf : Answer → List ℕ → List Store → Outcome
-outcomeOf answer bank stores = outcome answer (cond (isDone answer) (stored bank stores) bank)
+unfoldable pub postOutcome : Lent → ℕ → List ℕ → BankOutcome
+postOutcome given address bytes = bankOutcome (postAnswer given address bytes) (stored (given .bank) (postEffect given address bytes))
 
-unfoldable pub freshOutcome : List ℕ → List ℕ → Outcome
-freshOutcome sheet bank = outcomeOf (freshAnswer sheet bank) bank (freshStores sheet)
-
-unfoldable pub postOutcome : List ℕ → List ℕ → ℕ → List ℕ → Outcome
-postOutcome sheet bank address bytes =
-    outcomeOf (postAnswer sheet bank address bytes) bank (postStores sheet address bytes)
-
-unfoldable pub markOutcome : List ℕ → List ℕ → ℕ → Outcome
-markOutcome sheet bank mark = outcomeOf (markAnswer sheet bank mark) bank (markStores sheet mark)
+unfoldable pub markOutcome : Lent → ℕ → BankOutcome
+markOutcome given mark = bankOutcome (markAnswer given mark) (stored (given .bank) (markEffect given mark))

@@ -1,6 +1,7 @@
 // A row: a frame run through the real function, what is expected, what was got, and whether they agree.
 use libc::STDOUT_FILENO;
 use meter_rules::Answered;
+use refusals::Refusal;
 
 // What every byte of an answer buffer holds before the call.
 const FILL: u8 = 0xAA;
@@ -97,6 +98,18 @@ fn front_passes(buffer: &[u8], n: usize) -> bool {
     false
 }
 
+// 01's number of a refusal.
+fn number_of(refusal: Refusal) -> u16 {
+    match refusal {
+        Refusal::BrokenSheet => 2,
+        Refusal::MisfittingBank => 3,
+        Refusal::UnsoundBank => 4,
+        Refusal::SmallBuffer => 5,
+        Refusal::NotReadOnly => 6,
+        Refusal::BadInput => 7,
+    }
+}
+
 // What a call handed back, in numbers.
 fn numbers_of(answered: Answered) -> Got {
     match answered {
@@ -110,23 +123,8 @@ fn numbers_of(answered: Answered) -> Got {
             length: 0,
             rate: 0,
         },
-        Answered::SheetBreaksRule => Got {
-            number: 2,
-            length: 0,
-            rate: 0,
-        },
-        Answered::BankMisfits => Got {
-            number: 3,
-            length: 0,
-            rate: 0,
-        },
-        Answered::BankNotSound => Got {
-            number: 4,
-            length: 0,
-            rate: 0,
-        },
-        Answered::SmallBuffer => Got {
-            number: 5,
+        Answered::Refused(refusal) => Got {
+            number: number_of(refusal),
             length: 0,
             rate: 0,
         },

@@ -2,8 +2,9 @@
 -- Assumes nothing.
 use Prim.Native.Nat.{ℕ}
 use mathlib.Core.List.{List}
-use Rattle.bank_rules.specs.Calls as bank
-use Rattle.meter_rules.specs.Answer as meter
+use Rattle.refusals.specs.Answers.{answerNumber}
+use Rattle.bank_rules.specs.Calls.{BankOutcome}
+use Rattle.meter_rules.specs.Answer.{Outcome, answeredNumber, lengthIn, rateIn}
 
 -- the number of a call on a bank, and the bank afterwards
 pub record Told : Type 0 where
@@ -13,8 +14,8 @@ pub record Told : Type 0 where
 abbrev pub told : ℕ → List ℕ → Told
 told number bank = record { number = number; bank = bank }
 
-abbrev pub toldOf : bank.Outcome → Told
-toldOf outcome = told (bank.numberOf (outcome .answer)) (outcome .bank)
+abbrev pub toldOf : BankOutcome → Told
+toldOf outcome = told (answerNumber (outcome .answer)) (outcome .bank)
 
 -- the number, the length and the rate of a call with one frame, and the bank and the answer buffer afterwards
 pub record Handed : Type 0 where
@@ -27,7 +28,7 @@ pub record Handed : Type 0 where
 abbrev pub handed : ℕ → ℕ → ℕ → List ℕ → List ℕ → Handed
 handed number length rate bank buffer = record { number = number; length = length; rate = rate; bank = bank; buffer = buffer }
 
-abbrev pub handedOf : meter.Outcome → Handed
+abbrev pub handedOf : Outcome → Handed
 handedOf outcome =
-    handed (meter.numberOf (outcome .answered)) (meter.lengthIn (outcome .answered)) (meter.rateIn (outcome .answered)) (outcome .bank)
+    handed (answeredNumber (outcome .answered)) (lengthIn (outcome .answered)) (rateIn (outcome .answered)) (outcome .bank)
     (outcome .buffer)

@@ -1,8 +1,9 @@
 // The door for the board's firmware: the library's calls over byte slices (a pointer and a length) and numbers, as C has them.
 ghost use mathlib.Core.Path.{_≡_};
 ghost use Rattle.check_value.specs.Check.{startState, taken, valueOf};
-ghost use Rattle.sheet_rules.specs.Rules.{judgedSheet, sheetNumber};
-ghost use Rattle.bank_rules.specs.Calls.{numberOf, checkAnswer, freshOutcome, postOutcome, markOutcome};
+ghost use Rattle.refusals.specs.Answers.{answerNumber};
+ghost use Rattle.sheet_rules.specs.Rules.{sheetAnswer};
+ghost use Rattle.bank_rules.specs.Calls.{lent, checkAnswer, freshOutcome, postOutcome, markOutcome};
 ghost use Rattle.meter_rules.specs.Answer.{answerOutcome};
 ghost use Rattle.cedarskein.specs.Door.{told, toldOf, handed, handedOf};
 
@@ -38,23 +39,23 @@ pub extern "C" fn cedarskein_check_value(bytes: &[u8]) -> u16
 // 0, or 2 where the sheet breaks a rule.
 #[no_mangle]
 pub extern "C" fn cedarskein_sheet_check(sheet: &[u8]) -> u32
-    ensures { λ r. ⌜ r ≡ sheetNumber (judgedSheet (now (sheet .entry))) ⌝ }
+    ensures { λ r. ⌜ r ≡ answerNumber (sheetAnswer (now (sheet .entry))) ⌝ }
 {
-    numbers::of_sheet(sheet::judged(sheet))
+    numbers::of_answer(sheet::check(sheet))
 }
 
 // 0, or 2, 3, 4 in this order.
 #[no_mangle]
 pub extern "C" fn cedarskein_bank_check(sheet: &[u8], bank: &[u8]) -> u32
-    ensures { λ r. ⌜ r ≡ numberOf (checkAnswer (now (sheet .entry)) (now (bank .entry))) ⌝ }
+    ensures { λ r. ⌜ r ≡ answerNumber (checkAnswer (lent (now (sheet .entry)) (now (bank .entry)))) ⌝ }
 {
-    numbers::of_answer(bank::judged(sheet, bank))
+    numbers::of_answer(bank::check(sheet, bank))
 }
 
 // Makes a bank fresh: 0, or 2, 3 in this order.
 #[no_mangle]
 pub extern "C" fn cedarskein_bank_fresh(sheet: &[u8], bank: &mut [u8]) -> u32
-    ensures { λ r. ⌜ told r (now (bank .exit)) ≡ toldOf (freshOutcome (now (sheet .entry)) (now (bank .entry))) ⌝ }
+    ensures { λ r. ⌜ told r (now (bank .exit)) ≡ toldOf (freshOutcome (lent (now (sheet .entry)) (now (bank .entry)))) ⌝ }
 {
     numbers::of_answer(bank::fresh(sheet, bank))
 }
@@ -62,7 +63,7 @@ pub extern "C" fn cedarskein_bank_fresh(sheet: &[u8], bank: &mut [u8]) -> u32
 // Posts words from an address upward: 0, or 2, 3, 4, 7, 6 in this order.
 #[no_mangle]
 pub extern "C" fn cedarskein_post(sheet: &[u8], bank: &mut [u8], address: u32, words: &[u8]) -> u32
-    ensures { λ r. ⌜ told r (now (bank .exit)) ≡ toldOf (postOutcome (now (sheet .entry)) (now (bank .entry)) address (now (words .entry))) ⌝ }
+    ensures { λ r. ⌜ told r (now (bank .exit)) ≡ toldOf (postOutcome (lent (now (sheet .entry)) (now (bank .entry))) address (now (words .entry))) ⌝ }
 {
     numbers::of_answer(bank::post(sheet, bank, address, words))
 }
@@ -70,7 +71,7 @@ pub extern "C" fn cedarskein_post(sheet: &[u8], bank: &mut [u8], address: u32, w
 // Sets the alarm mark: 0, or 2, 3, 4, 7 in this order.
 #[no_mangle]
 pub extern "C" fn cedarskein_set_mark(sheet: &[u8], bank: &mut [u8], mark: u32) -> u32
-    ensures { λ r. ⌜ told r (now (bank .exit)) ≡ toldOf (markOutcome (now (sheet .entry)) (now (bank .entry)) mark) ⌝ }
+    ensures { λ r. ⌜ told r (now (bank .exit)) ≡ toldOf (markOutcome (lent (now (sheet .entry)) (now (bank .entry))) mark) ⌝ }
 {
     numbers::of_answer(bank::set_mark(sheet, bank, mark))
 }
@@ -86,7 +87,7 @@ pub extern "C" fn cedarskein_answer(
     length: &mut u32,
     rate: &mut u32,
 ) -> u32
-    ensures { λ r. ⌜ handed r (now (length .exit)) (now (rate .exit)) (now (bank .exit)) (now (out .exit)) ≡ handedOf (answerOutcome (now (sheet .entry)) (now (bank .entry)) (now (frame .entry)) (now (out .entry))) ⌝ }
+    ensures { λ r. ⌜ handed r (now (length .exit)) (now (rate .exit)) (now (bank .exit)) (now (out .exit)) ≡ handedOf (answerOutcome (lent (now (sheet .entry)) (now (bank .entry))) (now (frame .entry)) (now (out .entry))) ⌝ }
 {
     let answered = meter::answer(sheet, bank, frame, out);
     *length = numbers::length_of(answered);

@@ -9,8 +9,9 @@ use contract.Lifetimes.{Lfts}
 use denote.Ref.{RefT, now}
 use denote.Triple.Clauses.{AtExit}
 use borrow.Fn.Kinds.{PK, RK, In, Out, Dens, endedOf, resT}
-use Rattle.sheet_rules.specs.Rules.{judgedSheet, sheetNumber}
-use Rattle.bank_rules.specs.Calls.{numberOf, checkAnswer, freshOutcome, postOutcome, markOutcome}
+use Rattle.refusals.specs.Answers.{answerNumber}
+use Rattle.sheet_rules.specs.Rules.{sheetAnswer}
+use Rattle.bank_rules.specs.Calls.{Lent, lent, checkAnswer, freshOutcome, postOutcome, markOutcome}
 use Rattle.meter_rules.specs.Answer.{answerOutcome}
 use Rattle.cedarskein.specs.Door.{Told, Handed, told, toldOf, handed, handedOf}
 use Rattle.cedarskein.proofs.cedarskein_sheet_check.Kinds as sheet-check
@@ -38,62 +39,62 @@ pub record Allowed (n : ℕ) (ps : List (PK n)) (r : RK n) (Post : Out n ps r) :
 pub data ChecksSheet : List ℕ → ℕ → Type 0 where
   checks-sheet : (call : Allowed 1 sheet-check.ps sheet-check.r sheet-check-reads.Post) → ChecksSheet (now (call .lent .0)) (call .result)
 
--- the bank check: the sheet, the bank, and the number
-pub data ChecksBank : List ℕ → List ℕ → ℕ → Type 0 where
+-- the bank check: the sheet and the bank, and the number
+pub data ChecksBank : Lent → ℕ → Type 0 where
   checks-bank : (call : Allowed 2 bank-check.ps bank-check.r bank-check-reads.Post)
-      → ChecksBank (now (call .lent .0)) (now (call .lent .1 .0)) (call .result)
+      → ChecksBank (lent (now (call .lent .0)) (now (call .lent .1 .0))) (call .result)
 
--- a fresh bank: the sheet, the bank; the number and the bank afterwards
-pub data Freshens : List ℕ → List ℕ → Told → Type 0 where
+-- a fresh bank: the sheet and the bank; the number and the bank afterwards
+pub data Freshens : Lent → Told → Type 0 where
   freshens : (call : Allowed 2 bank-fresh.ps bank-fresh.r bank-fresh-reads.Post)
-      → Freshens (now (call .lent .0)) (now (call .lent .1 .0)) (told (call .result) (now (call .exit .1 .0)))
+      → Freshens (lent (now (call .lent .0)) (now (call .lent .1 .0))) (told (call .result) (now (call .exit .1 .0)))
 
--- posting: the sheet, the bank, the address, the words; the number and the bank afterwards
-pub data Posts : List ℕ → List ℕ → ℕ → List ℕ → Told → Type 0 where
+-- posting: the sheet and the bank, the address, the words; the number and the bank afterwards
+pub data Posts : Lent → ℕ → List ℕ → Told → Type 0 where
   posts : (call : Allowed 3 post.ps post.r post-reads.Post)
-      → Posts (now (call .lent .0)) (now (call .lent .1 .0)) (call .lent .1 .1 .0) (now (call .lent .1 .1 .1 .0))
+      → Posts (lent (now (call .lent .0)) (now (call .lent .1 .0))) (call .lent .1 .1 .0) (now (call .lent .1 .1 .1 .0))
       (told (call .result) (now (call .exit .1 .0)))
 
--- the mark: the sheet, the bank, the mark; the number and the bank afterwards
-pub data Marks : List ℕ → List ℕ → ℕ → Told → Type 0 where
+-- the mark: the sheet and the bank, the mark; the number and the bank afterwards
+pub data Marks : Lent → ℕ → Told → Type 0 where
   marks : (call : Allowed 2 set-mark.ps set-mark.r set-mark-reads.Post)
-      → Marks (now (call .lent .0)) (now (call .lent .1 .0)) (call .lent .1 .1 .0) (told (call .result) (now (call .exit .1 .0)))
+      → Marks (lent (now (call .lent .0)) (now (call .lent .1 .0))) (call .lent .1 .1 .0) (told (call .result) (now (call .exit .1 .0)))
 
--- a frame: the sheet, the bank, the frame, the answer buffer; the number, length and rate, and bank and buffer afterwards
-pub data Answers : List ℕ → List ℕ → List ℕ → List ℕ → Handed → Type 0 where
+-- a frame: the sheet and the bank, the frame, the answer buffer; the number, length and rate, and bank and buffer afterwards
+pub data Answers : Lent → List ℕ → List ℕ → Handed → Type 0 where
   answers : (call : Allowed 6 answer.ps answer.r answer-reads.Post)
-      → Answers (now (call .lent .0)) (now (call .lent .1 .0)) (now (call .lent .1 .1 .0)) (now (call .lent .1 .1 .1 .0))
+      → Answers (lent (now (call .lent .0)) (now (call .lent .1 .0))) (now (call .lent .1 .1 .0)) (now (call .lent .1 .1 .1 .0))
       (handed (call .result) (now (call .exit .1 .1 .1 .1 .0)) (now (call .exit .1 .1 .1 .1 .1 .0)) (now (call .exit .1 .0)) (now (call .exit .1 .1 .1 .0)))
 
 -- ---- what each call hands back and leaves
 
-pub checks-sheet-is : {sheet : List ℕ} {number : ℕ} → ChecksSheet sheet number → number ≡ sheetNumber (judgedSheet sheet)
+pub checks-sheet-is : {sheet : List ℕ} {number : ℕ} → ChecksSheet sheet number → number ≡ answerNumber (sheetAnswer sheet)
 checks-sheet-is (checks-sheet call) = call .post
 
-pub checks-bank-is : {sheet bank : List ℕ} {number : ℕ} → ChecksBank sheet bank number → number ≡ numberOf (checkAnswer sheet bank)
+pub checks-bank-is : {given : Lent} {number : ℕ} → ChecksBank given number → number ≡ answerNumber (checkAnswer given)
 checks-bank-is (checks-bank call) = call .post
 
-pub freshens-is : {sheet bank : List ℕ} {left : Told} → Freshens sheet bank left → left ≡ toldOf (freshOutcome sheet bank)
+pub freshens-is : {given : Lent} {left : Told} → Freshens given left → left ≡ toldOf (freshOutcome given)
 freshens-is (freshens call) = call .post
 
-pub posts-is : {sheet bank words : List ℕ} {address : ℕ} {left : Told} → Posts sheet bank address words left
-    → left ≡ toldOf (postOutcome sheet bank address words)
+pub posts-is : {given : Lent} {address : ℕ} {words : List ℕ} {left : Told} → Posts given address words left
+    → left ≡ toldOf (postOutcome given address words)
 posts-is (posts call) = call .post
 
-pub marks-is : {sheet bank : List ℕ} {mark : ℕ} {left : Told} → Marks sheet bank mark left → left ≡ toldOf (markOutcome sheet bank mark)
+pub marks-is : {given : Lent} {mark : ℕ} {left : Told} → Marks given mark left → left ≡ toldOf (markOutcome given mark)
 marks-is (marks call) = call .post
 
-pub answers-is : {sheet bank frame buffer : List ℕ} {left : Handed} → Answers sheet bank frame buffer left
-    → left ≡ handedOf (answerOutcome sheet bank frame buffer)
+pub answers-is : {given : Lent} {frame buffer : List ℕ} {left : Handed} → Answers given frame buffer left
+    → left ≡ handedOf (answerOutcome given frame buffer)
 answers-is (answers call) = call .post
 
 -- ---- demand 2, the whole: what the contract of cedarskein_answer allows is exactly the outcome of the definition
 
-pub answer-exactly : (κs : Lfts 6) (lent : Dens κs answer.ps) (result : resT answer.r κs .Denot) (exit : AtExit (endedOf 6 answer.ps answer.r) κs)
-    → answer-reads.Post κs lent result exit
+pub answer-exactly : (κs : Lfts 6) (passed : Dens κs answer.ps) (result : resT answer.r κs .Denot) (exit : AtExit (endedOf 6 answer.ps answer.r) κs)
+    → answer-reads.Post κs passed result exit
     ↔ (handed result (now (exit .1 .1 .1 .1 .0)) (now (exit .1 .1 .1 .1 .1 .0)) (now (exit .1 .0)) (now (exit .1 .1 .1 .0))
-    ≡ handedOf (answerOutcome (now (lent .0)) (now (lent .1 .0)) (now (lent .1 .1 .0)) (now (lent .1 .1 .1 .0))))
-answer-exactly κs lent result exit = (λ p. p, λ p. p)
+    ≡ handedOf (answerOutcome (lent (now (passed .0)) (now (passed .1 .0))) (now (passed .1 .1 .0)) (now (passed .1 .1 .1 .0))))
+answer-exactly κs passed result exit = (λ p. p, λ p. p)
 
 -- ---- demand 1, "Any sheet, bank, frame and answer buffer is taken": no contract asks anything of what is lent ..
 
@@ -123,72 +124,72 @@ answer-takes κs lent = tt
 abbrev ref : {X : Type 0} → X → RefT X
 ref x = record { ptr = (0, 0); name = 0; now = x }
 
-pub some-sheet-check : (sheet : List ℕ) → ChecksSheet sheet (sheetNumber (judgedSheet sheet))
+pub some-sheet-check : (sheet : List ℕ) → ChecksSheet sheet (answerNumber (sheetAnswer sheet))
 some-sheet-check sheet =
     checks-sheet
     record {
       lifetimes = ([], tt);
       lent = (ref sheet, tt);
-      result = sheetNumber (judgedSheet sheet);
+      result = answerNumber (sheetAnswer sheet);
       exit = (ref sheet, tt);
       post = refl;
     }
 
-pub some-bank-check : (sheet bank : List ℕ) → ChecksBank sheet bank (numberOf (checkAnswer sheet bank))
-some-bank-check sheet bank =
+pub some-bank-check : (given : Lent) → ChecksBank given (answerNumber (checkAnswer given))
+some-bank-check given =
     checks-bank
     record {
       lifetimes = ([], ([], tt));
-      lent = (ref sheet, (ref bank, tt));
-      result = numberOf (checkAnswer sheet bank);
-      exit = (ref sheet, (ref bank, tt));
+      lent = (ref (given .sheet), (ref (given .bank), tt));
+      result = answerNumber (checkAnswer given);
+      exit = (ref (given .sheet), (ref (given .bank), tt));
       post = refl;
     }
 
-pub some-fresh : (sheet bank : List ℕ) → Freshens sheet bank (toldOf (freshOutcome sheet bank))
-some-fresh sheet bank =
-    let left : Told = toldOf (freshOutcome sheet bank) in
+pub some-fresh : (given : Lent) → Freshens given (toldOf (freshOutcome given))
+some-fresh given =
+    let left : Told = toldOf (freshOutcome given) in
     freshens
     record {
       lifetimes = ([], ([], tt));
-      lent = (ref sheet, (ref bank, tt));
+      lent = (ref (given .sheet), (ref (given .bank), tt));
       result = left .number;
-      exit = (ref sheet, (ref (left .bank), tt));
+      exit = (ref (given .sheet), (ref (left .bank), tt));
       post = refl;
     }
 
-pub some-post : (sheet bank : List ℕ) (address : ℕ) (words : List ℕ) → Posts sheet bank address words (toldOf (postOutcome sheet bank address words))
-some-post sheet bank address words =
-    let left : Told = toldOf (postOutcome sheet bank address words) in
+pub some-post : (given : Lent) (address : ℕ) (words : List ℕ) → Posts given address words (toldOf (postOutcome given address words))
+some-post given address words =
+    let left : Told = toldOf (postOutcome given address words) in
     posts
     record {
       lifetimes = ([], ([], ([], tt)));
-      lent = (ref sheet, (ref bank, (address, (ref words, tt))));
+      lent = (ref (given .sheet), (ref (given .bank), (address, (ref words, tt))));
       result = left .number;
-      exit = (ref sheet, (ref (left .bank), (address, (ref words, tt))));
+      exit = (ref (given .sheet), (ref (left .bank), (address, (ref words, tt))));
       post = refl;
     }
 
-pub some-mark : (sheet bank : List ℕ) (mark : ℕ) → Marks sheet bank mark (toldOf (markOutcome sheet bank mark))
-some-mark sheet bank mark =
-    let left : Told = toldOf (markOutcome sheet bank mark) in
+pub some-mark : (given : Lent) (mark : ℕ) → Marks given mark (toldOf (markOutcome given mark))
+some-mark given mark =
+    let left : Told = toldOf (markOutcome given mark) in
     marks
     record {
       lifetimes = ([], ([], tt));
-      lent = (ref sheet, (ref bank, (mark, tt)));
+      lent = (ref (given .sheet), (ref (given .bank), (mark, tt)));
       result = left .number;
-      exit = (ref sheet, (ref (left .bank), (mark, tt)));
+      exit = (ref (given .sheet), (ref (left .bank), (mark, tt)));
       post = refl;
     }
 
-pub some-answer : (sheet bank frame buffer : List ℕ) → Answers sheet bank frame buffer (handedOf (answerOutcome sheet bank frame buffer))
-some-answer sheet bank frame buffer =
-    let left : Handed = handedOf (answerOutcome sheet bank frame buffer) in
+pub some-answer : (given : Lent) (frame buffer : List ℕ) → Answers given frame buffer (handedOf (answerOutcome given frame buffer))
+some-answer given frame buffer =
+    let left : Handed = handedOf (answerOutcome given frame buffer) in
     answers
     record {
       lifetimes = ([], ([], ([], ([], ([], ([], tt))))));
-      lent = (ref sheet, (ref bank, (ref frame, (ref buffer, (ref 0, (ref 0, tt))))));
+      lent = (ref (given .sheet), (ref (given .bank), (ref frame, (ref buffer, (ref 0, (ref 0, tt))))));
       result = left .number;
-      exit = (ref sheet, (ref (left .bank), (ref frame, (ref (left .buffer), (ref (left .length), (ref (left .rate), tt))))));
+      exit = (ref (given .sheet), (ref (left .bank), (ref frame, (ref (left .buffer), (ref (left .length), (ref (left .rate), tt))))));
       post = refl;
     }

@@ -27,22 +27,23 @@ use Rattle.meter_rules.specs.Write.{firstPlace}
 use Rattle.meter_rules.specs.Steps as meter
 use Rattle.meter_rules.specs.Reply.{bankRun, replyTo, storesOf}
 use Rattle.frame.specs.Reply.{echo, writeReply, errorReply, topBitSet, withCheck, laid}
-use Rattle.meter_rules.specs.Answer.{numberOf, leastBuffer, outcome, answeredWith, actedOn, answerOutcome}
+use Rattle.meter_rules.specs.Answer.{answeredNumber, leastBuffer, outcome, frameCheck, frameEffect, actedOn, answerOutcome}
 use Rattle.meter_rules.proofs.Closing.{judged-fits, reply-length, reply-passes}
-use Rattle.meter_rules.proofs.Outcomes.{quiet, quiet-changes-nothing, outcome-cases}
+use Rattle.meter_rules.proofs.Outcomes.{quiet, quiet-changes-nothing, answer-stored}
 use Rattle.meter_rules.proofs.Soundness.{writes}
+use Rattle.bank_rules.specs.Calls.{lent}
 use Rattle.cedarskein.specs.Door.{Handed, handed, handedOf}
-use Rattle.demands.specs.Verdict.{Accepted, Silent, IsError, IsGood, Verdict, silence, error, good, steps, verdict, earlierSteps}
+use Rattle.demands.specs.Verdict.{Accepted, Silent, IsError, IsGood, Verdict, silence, error, good, verdictSteps, verdict, earlierSteps}
 use Rattle.demands.proofs.Calls.{Answers, answers-is}
 
 -- where nothing is refused, the frame is acted on
 not-refused : (sheet bank frame buffer : List ℕ) → Accepted sheet bank buffer
-    → answerOutcome sheet bank frame buffer ≡ actedOn (meter.judgedFrame sheet bank frame) sheet bank frame buffer
-unfolding answerOutcome firstCase
+    → answerOutcome (lent sheet bank) frame buffer ≡ actedOn (meter.judgedFrame sheet bank frame) sheet bank frame buffer
+unfolding answerOutcome frameCheck firstCase
 not-refused sheet bank frame buffer accepted =
     simp (accepted .sheetSound, accepted .bankFits, accepted .bankWhole, le-ltb (length buffer) leastBuffer (accepted .bufferLong))
 
-pub acted : (sheet bank frame buffer : List ℕ) {left : Handed} → Accepted sheet bank buffer → Answers sheet bank frame buffer left
+pub acted : (sheet bank frame buffer : List ℕ) {left : Handed} → Accepted sheet bank buffer → Answers (lent sheet bank) frame buffer left
     → left ≡ handedOf (actedOn (meter.judgedFrame sheet bank frame) sheet bank frame buffer)
 acted sheet bank frame buffer accepted call = answers-is call ∙ ap handedOf (not-refused sheet bank frame buffer accepted)
 
@@ -65,7 +66,7 @@ seen-verdict : (sheet bank frame : List ℕ) → seen (meter.judgedFrame sheet b
 unfolding meter.judgedFrame verdict seen
 seen-verdict sheet bank frame =
     mapped-first seen (meter.steps sheet bank frame) (meter.goodFrame sheet frame)
-    ∙ ap (firstCase (steps sheet bank frame)) (go (eqb (function frame) reads) (eqb (function frame) clears))
+    ∙ ap (firstCase (verdictSteps sheet bank frame)) (go (eqb (function frame) reads) (eqb (function frame) clears))
   where
     go : (read clear : Bool)
         → seen (cond read (GoodRead (firstPlace sheet frame) (count frame)) (cond clear GoodClear (GoodWrite (firstPlace sheet frame) (count frame)))) ≡ good
@@ -81,20 +82,20 @@ isGood (error code) = false
 isGood good = true
 
 module _ (sheet bank frame : List ℕ) where
-  no-step : isGood (verdict sheet bank frame) ≡ true → NoneOf (conditions (steps sheet bank frame))
+  no-step : isGood (verdict sheet bank frame) ≡ true → NoneOf (conditions (verdictSteps sheet bank frame))
   unfolding verdict isGood each
-  no-step e = none-holds isGood (steps sheet bank frame) good refl e
+  no-step e = none-holds isGood (verdictSteps sheet bank frame) good refl e
 
-  pub good-none : verdict sheet bank frame ≡ good → NoneOf (conditions (steps sheet bank frame))
+  pub good-none : verdict sheet bank frame ≡ good → NoneOf (conditions (verdictSteps sheet bank frame))
   unfolding isGood
   good-none e = no-step (ap isGood e)
 
   -- it is judged good, and its function is allowed
-  pub judged-good : NoneOf (conditions (steps sheet bank frame)) → meter.judgedFrame sheet bank frame ≡ meter.goodFrame sheet frame
+  pub judged-good : NoneOf (conditions (verdictSteps sheet bank frame)) → meter.judgedFrame sheet bank frame ≡ meter.goodFrame sheet frame
   unfolding meter.judgedFrame
   judged-good none = first-none (meter.steps sheet bank frame) (meter.goodFrame sheet frame) none
 
-  pub good-allowed : NoneOf (conditions (steps sheet bank frame)) → functionAllowed sheet frame ≡ true
+  pub good-allowed : NoneOf (conditions (verdictSteps sheet bank frame)) → functionAllowed sheet frame ≡ true
   good-allowed none = not-false (functionAllowed sheet frame) (none .1 .1 .0)
 
   -- a good frame reads, clears or writes
@@ -193,7 +194,7 @@ module _ (sheet bank frame buffer : List ℕ) where
           (stopped-shown (meter.judgedFrame sheet bank frame) (ap isGood (seen-verdict sheet bank frame) ∙ e))
       go true e =
           let none = no-step sheet bank frame e in
-          subst (λ (v : Verdict). Shown v (becomes (meter.judgedFrame sheet bank frame))) (sym (first-none (steps sheet bank frame) good none))
+          subst (λ (v : Verdict). Shown v (becomes (meter.judgedFrame sheet bank frame))) (sym (first-none (verdictSteps sheet bank frame) good none))
           (subst (λ (judged : Judged). IsGood (becomes judged)) (sym (judged-good sheet bank frame none)) (good-shown (good-allowed sheet bank frame none)))
 
   -- ---- and only that is seen
@@ -237,7 +238,7 @@ pub record Exactly (sheet bank frame buffer : List ℕ) (left : Handed) : Type 0
   pub byError : (code : ℕ) → IsError sheet bank frame buffer code left ↔ (verdict sheet bank frame ≡ error code)
   pub byReply : IsGood left ↔ (verdict sheet bank frame ≡ good)
 
-pub frame-answered : (sheet bank frame buffer : List ℕ) {left : Handed} → Accepted sheet bank buffer → Answers sheet bank frame buffer left
+pub frame-answered : (sheet bank frame buffer : List ℕ) {left : Handed} → Accepted sheet bank buffer → Answers (lent sheet bank) frame buffer left
     → Exactly sheet bank frame buffer left
 unfolding Shown
 frame-answered sheet bank frame buffer {left} accepted call =
@@ -263,7 +264,7 @@ pub record Replied (sheet bank buffer : List ℕ) (left : Handed) : Type 0 where
   pub rateBefore : left .rate ≡ rateOf sheet bank
 
 reply-has : (sheet bank buffer reply after : List ℕ) → (reply ≡ []) ⊎ ((5 ≤ length reply) × (length reply ≤ 99))
-    → ((reply ≡ [] → ⊥) → passes reply ≡ true) → numberOf (answeredWith reply (rateOf sheet bank)) ≡ 0
+    → ((reply ≡ [] → ⊥) → passes reply ≡ true) → answeredNumber (answeredWith reply (rateOf sheet bank)) ≡ 0
     → Replied sheet bank buffer (handedOf (outcome (answeredWith reply (rateOf sheet bank)) after (laid reply buffer)))
 reply-has sheet bank buffer [] after long right e = absurd (omega (arith, e))
 reply-has sheet bank buffer (byte ∷ bytes) after (inl none) right e = absurd (some none)
@@ -280,7 +281,7 @@ reply-has sheet bank buffer (byte ∷ bytes) after (inr long) right e =
       rateBefore = refl;
     }
 
-pub reply-sent : (sheet bank frame buffer : List ℕ) {left : Handed} → Accepted sheet bank buffer → Answers sheet bank frame buffer left
+pub reply-sent : (sheet bank frame buffer : List ℕ) {left : Handed} → Accepted sheet bank buffer → Answers (lent sheet bank) frame buffer left
     → left .number ≡ 0 → Replied sheet bank buffer left
 unfolding actedOn
 reply-sent sheet bank frame buffer {left} accepted call replied =
@@ -293,7 +294,7 @@ reply-sent sheet bank frame buffer {left} accepted call replied =
 
 -- ---- a step in front of the judgement of items leaves the bank: an error by it, like silence, stores nothing
 
-pub stopped-early : (sheet bank frame buffer : List ℕ) {left : Handed} → Accepted sheet bank buffer → Answers sheet bank frame buffer left
+pub stopped-early : (sheet bank frame buffer : List ℕ) {left : Handed} → Accepted sheet bank buffer → Answers (lent sheet bank) frame buffer left
     → (NoneOf (conditions (earlierSteps sheet bank frame)) → ⊥) → left .bank ≡ bank
 unfolding meter.judgedFrame each
 stopped-early sheet bank frame buffer accepted call stopped =
@@ -303,7 +304,7 @@ stopped-early sheet bank frame buffer accepted call stopped =
 
 -- ---- with any number but 0 nothing is written, and length and rate are 0
 
-pub unless-replied : (sheet bank frame buffer : List ℕ) {left : Handed} → Accepted sheet bank buffer → Answers sheet bank frame buffer left
+pub unless-replied : (sheet bank frame buffer : List ℕ) {left : Handed} → Accepted sheet bank buffer → Answers (lent sheet bank) frame buffer left
     → (left .number ≡ 0 → ⊥) → Silent bank buffer left
 unfolding Shown
 unless-replied sheet bank frame buffer {left} accepted call unreplied = go (verdict sheet bank frame) is
@@ -318,9 +319,7 @@ unless-replied sheet bank frame buffer {left} accepted call unreplied = go (verd
 
 -- ---- the bank keeps its size, whatever the call answers
 
-pub size-kept : (sheet bank frame buffer : List ℕ) {left : Handed} → Answers sheet bank frame buffer left → length (left .bank) ≡ length bank
-unfolding actedOn
+pub size-kept : (sheet bank frame buffer : List ℕ) {left : Handed} → Answers (lent sheet bank) frame buffer left → length (left .bank) ≡ length bank
 size-kept sheet bank frame buffer call =
     ap (λ (h : Handed). length (h .bank)) (answers-is call)
-    ∙ outcome-cases (λ o. length (o .bank) ≡ length bank) sheet bank frame buffer (λ answered refused. refl)
-    (λ right fitting whole. stored-length bank (storesOf (meter.judgedFrame sheet bank frame) sheet frame))
+    ∙ ap length (answer-stored (lent sheet bank) frame buffer) ∙ stored-length bank (frameEffect (lent sheet bank) frame buffer)

@@ -2,29 +2,33 @@
 -- written, and every call ends." For any call that a contract of the door allows: one of 01's numbers is handed back; each refusal's number
 -- exactly if its condition holds and none does that comes before it in 01's order; and with a refusal nothing is written. That every call
 -- ends is no statement of a contract: only a function that is shown to end is proved at all. Assumes nothing.
-use mathlib.Core.Path.{_≡_, refl, sym, subst, _∙_}
-use mathlib.Core.Bool.{Bool, true, false, not}
+use mathlib.Core.Path.{_≡_, refl, sym, subst}
+use mathlib.Core.Bool.{true}
 use mathlib.Core.List.{List, [], _∷_}
 use mathlib.Core.Logic.{_↔_}
-use Prim.Native.Nat.{ℕ, _≤_}
+use Prim.Native.Nat.{ℕ, _≤_, _<_}
 use native.Mathlib.Omega.{arith}
-use Rattle.sheet_rules.specs.Rules.{sound, soundOrBroken, sheetNumber}
-use Rattle.lists.proofs.Among.{Among, here, there}
-use Rattle.bank_rules.specs.declared.Answer.{Answer}
-use Rattle.bank_rules.specs.Stores.{Store}
+use Rattle.lists.specs.Cases.{Case, when, mapped, FirstAfter, InOrder, numbersOf}
+use Rattle.lists.specs.Lists.{each, upFrom}
+use Rattle.lists.proofs.Among.{Among, each-among}
+use Rattle.bank_rules.proofs.Inside.{number-among}
+use lib.Dec.{ltb}
+use borrow.Author.Tests.{ltb-true}
+use Rattle.lists.proofs.Cases.{told-among, differ}
+use Rattle.refusals.specs.declared.Answer.{Answer}
+use Rattle.refusals.specs.declared.Answer.the-variants.{Done, Refused}
+use Rattle.refusals.specs.Answers.{refusalNumber, answerNumber}
+use Rattle.refusals.proofs.Answers.{numbers-in-order}
+use Rattle.sheet_rules.specs.Rules.{brokenSheet, sheetRefusals}
+use Rattle.bank_rules.specs.Stores.{Store, stored}
 use Rattle.bank_rules.specs.Bank.{emptyOrOdd, freshStores, postStores, markStores, rateOf}
-use Rattle.lists.specs.Cases.{Case, when, firstCase, FirstAfter, InOrder, numbersOf}
-use Rattle.bank_rules.specs.Calls.{numberOf, brokenSheet, misfittingBank, unsoundBank, badMark, badAddress, freshAnswer, postAnswer, markAnswer, outcomeOf, freshOutcome, postOutcome, markOutcome}
-use Rattle.lists.proofs.Cases.{told-among, told-in-order, differ}
+use Rattle.bank_rules.specs.Calls.{Lent, misfittingBank, unsoundBank, badMark, badAddress, freshAnswer, postAnswer, markAnswer, effectOf, bankOutcome, freshOutcome, postOutcome, markOutcome}
 use Rattle.bank_rules.proofs.Numbers.{check-numbers, fresh-numbers, post-numbers, mark-numbers}
 use Rattle.bank_rules.proofs.Changes.{refused-as-before}
-use Rattle.meter_rules.specs.declared.Answered.{Answered}
-use Rattle.meter_rules.specs.declared.Answered.the-variants.{Reply, Silence, SheetBreaksRule, BankMisfits, BankNotSound, SmallBuffer}
 use Rattle.meter_rules.specs.Steps.{judgedFrame}
 use Rattle.meter_rules.specs.Reply.{replyTo}
-use Rattle.meter_rules.specs.Answer as meter
-use Rattle.meter_rules.proofs.Outcomes as outcomes
-use Rattle.meter_rules.proofs.Outcomes.{outcome-cases}
+use Rattle.meter_rules.specs.Answer.{Outcome, answeredNumber, answeredWith, smallBuffer, frameRefusals, frameCheck, unlessRefused, actedOn, answerOutcome}
+use Rattle.meter_rules.proofs.Outcomes.{outcome-cases, frame-numbers}
 use Rattle.cedarskein.specs.Door.{Told, Handed, told, toldOf, handed, handedOf}
 use Rattle.demands.proofs.Calls.{ChecksSheet, ChecksBank, Freshens, Posts, Marks, Answers, checks-sheet-is, checks-bank-is, freshens-is, posts-is, marks-is, answers-is}
 
@@ -46,144 +50,110 @@ by-number cases {number} {other} same exactly =
 
 -- the law for all calls on a bank
 refuses : (cases : List (Case ℕ)) (answer : Answer) (bank : List ℕ) (stores : List Store) {left : Told}
-    → left ≡ toldOf (outcomeOf answer bank stores) → InOrder (numberOf answer) [] cases → Refuses bank cases left
+    → left ≡ toldOf (bankOutcome answer (stored bank (effectOf answer stores))) → InOrder (answerNumber answer) [] cases → Refuses bank cases left
 refuses cases answer bank stores same exactly =
     subst (Refuses bank cases) (sym same)
     record { byNumber = by-number cases refl exactly; nothingWritten = refused-as-before bank stores answer }
 
-module _ (sheet : List ℕ) where
-  pub sheet-check-refuses : {number : ℕ} → ChecksSheet sheet number → ByNumber (when (brokenSheet sheet) 2 ∷ []) number
-  unfolding firstCase differ
-  sheet-check-refuses call =
-      by-number (when (brokenSheet sheet) 2 ∷ []) (checks-sheet-is call ∙ as-case (sound sheet))
-      (told-in-order (λ n. n) (when (brokenSheet sheet) 2 ∷ []) 0 refl refl)
-    where
-      as-case : (right : Bool) → sheetNumber (soundOrBroken right) ≡ firstCase (when (not right) 2 ∷ []) 0
-      as-case true = refl
-      as-case false = refl
+pub sheet-check-refuses : (sheet : List ℕ) {number : ℕ} → ChecksSheet sheet number → ByNumber (when (brokenSheet sheet) 2 ∷ []) number
+unfolding differ
+sheet-check-refuses sheet call = by-number _ (checks-sheet-is call) (numbers-in-order (sheetRefusals sheet) refl)
 
-  module _ (bank : List ℕ) where
-    pub bank-check-refuses : {number : ℕ} → ChecksBank sheet bank number
-        → ByNumber (when (brokenSheet sheet) 2 ∷ when (misfittingBank sheet bank) 3 ∷ when (unsoundBank sheet bank) 4 ∷ []) number
-    bank-check-refuses call = by-number _ (checks-bank-is call) (check-numbers sheet bank)
+module _ (given : Lent) where
+  pub bank-check-refuses : {number : ℕ} → ChecksBank given number
+      → ByNumber (when (brokenSheet (given .sheet)) 2 ∷ when (misfittingBank given) 3 ∷ when (unsoundBank given) 4 ∷ []) number
+  bank-check-refuses call = by-number _ (checks-bank-is call) (check-numbers given)
 
-    pub fresh-refuses : {left : Told} → Freshens sheet bank left
-        → Refuses bank (when (brokenSheet sheet) 2 ∷ when (misfittingBank sheet bank) 3 ∷ []) left
-    unfolding freshOutcome
-    fresh-refuses call = refuses _ (freshAnswer sheet bank) bank (freshStores sheet) (freshens-is call) (fresh-numbers sheet bank)
+  pub fresh-refuses : {left : Told} → Freshens given left
+      → Refuses (given .bank) (when (brokenSheet (given .sheet)) 2 ∷ when (misfittingBank given) 3 ∷ []) left
+  unfolding freshOutcome
+  fresh-refuses call = refuses _ (freshAnswer given) (given .bank) (freshStores (given .sheet)) (freshens-is call) (fresh-numbers given)
 
-    pub post-refuses : (address : ℕ) (words : List ℕ) {left : Told} → Posts sheet bank address words left
-        → Refuses bank
-        (when (brokenSheet sheet) 2 ∷ when (misfittingBank sheet bank) 3 ∷ when (unsoundBank sheet bank) 4
-        ∷ when (emptyOrOdd words) 7 ∷ when (badAddress sheet address words) 6 ∷ []) left
-    unfolding postOutcome
-    post-refuses address words call =
-        refuses _ (postAnswer sheet bank address words) bank (postStores sheet address words) (posts-is call)
-        (post-numbers sheet bank address words)
+  pub post-refuses : (address : ℕ) (words : List ℕ) {left : Told} → Posts given address words left
+      → Refuses (given .bank)
+      (when (brokenSheet (given .sheet)) 2 ∷ when (misfittingBank given) 3 ∷ when (unsoundBank given) 4
+      ∷ when (emptyOrOdd words) 7 ∷ when (badAddress given address words) 6 ∷ []) left
+  unfolding postOutcome
+  post-refuses address words call =
+      refuses _ (postAnswer given address words) (given .bank) (postStores (given .sheet) address words) (posts-is call)
+      (post-numbers given address words)
 
-    pub mark-refuses : (mark : ℕ) {left : Told} → Marks sheet bank mark left
-        → Refuses bank
-        (when (brokenSheet sheet) 2 ∷ when (misfittingBank sheet bank) 3 ∷ when (unsoundBank sheet bank) 4 ∷ when (badMark mark) 7 ∷ []) left
-    unfolding markOutcome
-    mark-refuses mark call =
-        refuses _ (markAnswer sheet bank mark) bank (markStores sheet mark) (marks-is call) (mark-numbers sheet bank mark)
+  pub mark-refuses : (mark : ℕ) {left : Told} → Marks given mark left
+      → Refuses (given .bank)
+      (when (brokenSheet (given .sheet)) 2 ∷ when (misfittingBank given) 3 ∷ when (unsoundBank given) 4 ∷ when (badMark mark) 7 ∷ []) left
+  unfolding markOutcome
+  mark-refuses mark call =
+      refuses _ (markAnswer given mark) (given .bank) (markStores (given .sheet) mark) (marks-is call) (mark-numbers given mark)
 
 -- ---- a frame
 
--- 01's refusals of a frame, in their order
-abbrev pub frameRefusals : List ℕ → List ℕ → List ℕ → List (Case ℕ)
-frameRefusals sheet bank buffer =
-    when (brokenSheet sheet) 2 ∷ when (misfittingBank sheet bank) 3 ∷ when (unsoundBank sheet bank) 4 ∷ when (meter.smallBuffer buffer) 5 ∷ []
-
 -- each refusal's number exactly if its condition holds and none does that comes before it; length and rate are then 0, and bank and buffer
 -- are as they were
-pub record RefusesFrame (sheet bank buffer : List ℕ) (left : Handed) : Type 0 where
+pub record RefusesFrame (given : Lent) (buffer : List ℕ) (left : Handed) : Type 0 where
   pub oneOf : Among (left .number) (0 ∷ 1 ∷ 2 ∷ 3 ∷ 4 ∷ 5 ∷ [])
-  pub two : (left .number ≡ 2) ↔ (brokenSheet sheet ≡ true)
-  pub three : (left .number ≡ 3) ↔ FirstAfter (brokenSheet sheet ∷ []) (misfittingBank sheet bank)
-  pub four : (left .number ≡ 4) ↔ FirstAfter (brokenSheet sheet ∷ misfittingBank sheet bank ∷ []) (unsoundBank sheet bank)
+  pub two : (left .number ≡ 2) ↔ (brokenSheet (given .sheet) ≡ true)
+  pub three : (left .number ≡ 3) ↔ FirstAfter (brokenSheet (given .sheet) ∷ []) (misfittingBank given)
+  pub four : (left .number ≡ 4) ↔ FirstAfter (brokenSheet (given .sheet) ∷ misfittingBank given ∷ []) (unsoundBank given)
   pub five : (left .number ≡ 5)
-      ↔ FirstAfter (brokenSheet sheet ∷ misfittingBank sheet bank ∷ unsoundBank sheet bank ∷ []) (meter.smallBuffer buffer)
-  pub nothingWritten : 2 ≤ left .number → left ≡ handed (left .number) 0 0 bank buffer
+      ↔ FirstAfter (brokenSheet (given .sheet) ∷ misfittingBank given ∷ unsoundBank given ∷ []) (smallBuffer buffer)
+  pub nothingWritten : 2 ≤ left .number → left ≡ handed (left .number) 0 0 (given .bank) buffer
 
--- the number of an answer, as far as it refuses
-refusal : Answered → ℕ
-refusal (Reply length rate) = 0
-refusal Silence = 0
-refusal SheetBreaksRule = 2
-refusal BankMisfits = 3
-refusal BankNotSound = 4
-refusal SmallBuffer = 5
+module _ (given : Lent) (frame buffer : List ℕ) where
+  abbrev result : Outcome
+  result = answerOutcome given frame buffer
 
-refusal-is : (answered : Answered) (k : ℕ) → 2 ≤ k → (meter.numberOf answered ≡ k) ↔ (refusal answered ≡ k)
-unfolding refusal
-refusal-is (Reply length rate) k some = (λ e. e, λ e. e)
-refusal-is Silence k some = (λ e. absurd (omega arith), λ e. absurd (omega arith))
-refusal-is SheetBreaksRule k some = (λ e. e, λ e. e)
-refusal-is BankMisfits k some = (λ e. e, λ e. e)
-refusal-is BankNotSound k some = (λ e. e, λ e. e)
-refusal-is SmallBuffer k some = (λ e. e, λ e. e)
+  abbrev acted : Outcome
+  acted = actedOn (judgedFrame (given .sheet) (given .bank) frame) (given .sheet) (given .bank) frame buffer
 
-one-of : (answered : Answered) → Among (meter.numberOf answered) (0 ∷ 1 ∷ 2 ∷ 3 ∷ 4 ∷ 5 ∷ [])
-one-of (Reply length rate) = here
-one-of Silence = there here
-one-of SheetBreaksRule = there (there here)
-one-of BankMisfits = there (there (there here))
-one-of BankNotSound = there (there (there (there here)))
-one-of SmallBuffer = there (there (there (there (there here))))
-
-module _ (sheet bank frame buffer : List ℕ) where
-  abbrev result : meter.Outcome
-  result = meter.answerOutcome sheet bank frame buffer
-
-  in-order : InOrder (refusal (result .answered)) [] (frameRefusals sheet bank buffer)
-  unfolding meter.answerOutcome meter.actedOn differ refusal
-  in-order =
-      told-in-order (λ (o : meter.Outcome). refusal (o .answered))
-      (when (brokenSheet sheet) (meter.outcome SheetBreaksRule bank buffer)
-      ∷ when (misfittingBank sheet bank) (meter.outcome BankMisfits bank buffer)
-      ∷ when (unsoundBank sheet bank) (meter.outcome BankNotSound bank buffer)
-      ∷ when (meter.smallBuffer buffer) (meter.outcome SmallBuffer bank buffer) ∷ [])
-      (meter.actedOn (judgedFrame sheet bank frame) sheet bank frame buffer)
-      (none (replyTo (judgedFrame sheet bank frame) bank frame)) refl
+  -- a frame that is acted on has the number 0 or 1
+  acted-number : answeredNumber (acted .answered) ≤ 1
+  unfolding actedOn
+  acted-number = go (replyTo (judgedFrame (given .sheet) (given .bank) frame) (given .bank) frame)
     where
-      none : (reply : List ℕ) → refusal (meter.answeredWith reply (rateOf sheet bank)) ≡ 0
-      none [] = refl
-      none (byte ∷ bytes) = refl
+      go : (reply : List ℕ) → answeredNumber (answeredWith reply (rateOf (given .sheet) (given .bank))) ≤ 1
+      go [] = omega arith
+      go (byte ∷ bytes) = omega arith
 
-  exactly : {condition : Type 0} (k : ℕ) → 2 ≤ k → (refusal (result .answered) ≡ k) ↔ condition → (meter.numberOf (result .answered) ≡ k) ↔ condition
-  exactly k some told =
-      let same = refusal-is (result .answered) k some in
-      (λ e. told .0 (same .0 e), λ holds. same .1 (told .1 holds))
+  one-of : Among (answeredNumber (result .answered)) (0 ∷ 1 ∷ 2 ∷ 3 ∷ 4 ∷ 5 ∷ [])
+  unfolding answerOutcome each upFrom
+  one-of =
+      number-among 6
+      (go (frameCheck given buffer) (told-among (answerNumber (frameCheck given buffer)) [] (mapped refusalNumber (frameRefusals given buffer)) tt (frame-numbers given buffer)))
+    where
+      go : (answer : Answer) → Among (answerNumber answer) (2 ∷ 3 ∷ 4 ∷ 5 ∷ 0 ∷ [])
+          → answeredNumber (unlessRefused answer given buffer acted .answered) < 6
+      go Done m = omega (arith, acted-number)
+      go (Refused refusal) m = ltb-true (refusalNumber refusal) 6 (each-among (λ n. ltb n 6) m refl)
 
-  nothing-written : 2 ≤ meter.numberOf (result .answered) → handedOf result ≡ handed (meter.numberOf (result .answered)) 0 0 bank buffer
-  unfolding meter.actedOn
+  -- a number from 2 on is that of the refusal
+  exactly : {condition : Type 0} (k : ℕ) → 2 ≤ k → (answerNumber (frameCheck given buffer) ≡ k) ↔ condition
+      → (answeredNumber (result .answered) ≡ k) ↔ condition
+  unfolding answerOutcome
+  exactly {condition} k some = go (frameCheck given buffer)
+    where
+      go : (answer : Answer) → (answerNumber answer ≡ k) ↔ condition
+          → (answeredNumber (unlessRefused answer given buffer acted .answered) ≡ k) ↔ condition
+      go Done told = (
+        λ e. absurd (omega (arith, acted-number, e)),
+        λ holds. absurd (let z : _≡_ 0 k = told .1 holds in omega arith),
+      )
+      go (Refused refusal) told = told
+
+  nothing-written : 2 ≤ answeredNumber (result .answered) → handedOf result ≡ handed (answeredNumber (result .answered)) 0 0 (given .bank) buffer
   nothing-written =
-      outcome-cases
-      (λ o. 2 ≤ meter.numberOf (o .answered) → handedOf o ≡ handed (meter.numberOf (o .answered)) 0 0 bank buffer)
-      sheet bank frame buffer refused (λ right fitting whole some. absurd (taken (replyTo (judgedFrame sheet bank frame) bank frame) some))
-    where
-      refused : (answered : Answered) → outcomes.Refuses answered → 2 ≤ meter.numberOf answered
-          → handedOf (meter.outcome answered bank buffer) ≡ handed (meter.numberOf answered) 0 0 bank buffer
-      refused SheetBreaksRule refuses some = refl
-      refused BankMisfits refuses some = refl
-      refused BankNotSound refuses some = refl
-      refused SmallBuffer refuses some = refl
-      refused Silence refuses some = absurd (omega arith)
-      refused (Reply length rate) refuses some = absurd (omega arith)
+      outcome-cases given frame buffer
+      (λ o. 2 ≤ answeredNumber (o .answered) → handedOf o ≡ handed (answeredNumber (o .answered)) 0 0 (given .bank) buffer)
+      (λ refusal some. refl) (λ found some. absurd (omega (arith, acted-number, some)))
 
-      taken : (reply : List ℕ) → 2 ≤ meter.numberOf (meter.answeredWith reply (rateOf sheet bank)) → ⊥
-      taken [] some = omega arith
-      taken (byte ∷ bytes) some = omega arith
-
-  pub frame-refuses : {left : Handed} → Answers sheet bank frame buffer left → RefusesFrame sheet bank buffer left
+  pub frame-refuses : {left : Handed} → Answers given frame buffer left → RefusesFrame given buffer left
   frame-refuses call =
-      subst (RefusesFrame sheet bank buffer) (sym (answers-is call))
+      let told = frame-numbers given buffer in
+      subst (RefusesFrame given buffer) (sym (answers-is call))
       record {
-        oneOf = one-of (result .answered);
-        two = exactly 2 (omega arith) (λ e. in-order .0 .0 e .1, λ broken. in-order .0 .1 (tt, broken));
-        three = exactly 3 (omega arith) (in-order .1 .0);
-        four = exactly 4 (omega arith) (in-order .1 .1 .0);
-        five = exactly 5 (omega arith) (in-order .1 .1 .1 .0);
+        oneOf = one-of;
+        two = exactly 2 (omega arith) (λ e. told .0 .0 e .1, λ broken. told .0 .1 (tt, broken));
+        three = exactly 3 (omega arith) (told .1 .0);
+        four = exactly 4 (omega arith) (told .1 .1 .0);
+        five = exactly 5 (omega arith) (told .1 .1 .1 .0);
         nothingWritten = nothing-written;
       }

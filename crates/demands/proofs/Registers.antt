@@ -39,8 +39,9 @@ use Rattle.meter_rules.proofs.Judging.{run-test, run-above}
 use Rattle.meter_rules.proofs.Stopping.{run-below, stop-some}
 use Rattle.meter_rules.proofs.Soundness.{OpenWrite, open-write, stops-at-end}
 use Rattle.meter_rules.proofs.Keeping as keeping
+use Rattle.bank_rules.specs.Calls.{lent}
 use Rattle.cedarskein.specs.Door.{Handed, handedOf}
-use Rattle.demands.specs.Verdict.{Accepted, IsError, error, good, steps, verdict, earlierSteps}
+use Rattle.demands.specs.Verdict.{Accepted, IsError, error, good, verdictSteps, verdict, earlierSteps}
 use Rattle.demands.proofs.Calls.{Answers}
 use Rattle.demands.proofs.Frames.{acted, good-none, judged-good, write-echo, frame-answered}
 
@@ -127,7 +128,7 @@ module _ (sheet bank frame buffer : List ℕ) where
   abbrev readLeft : Handed
   readLeft = handedOf (actedOn (GoodRead (firstPlace sheet frame) (count frame)) sheet bank frame buffer)
 
-  pub good-read-sends : {left : Handed} → Accepted sheet bank buffer → Answers sheet bank frame buffer left
+  pub good-read-sends : {left : Handed} → Accepted sheet bank buffer → Answers (lent sheet bank) frame buffer left
       → verdict sheet bank frame ≡ good → function frame ≡ reads → ReadSent sheet bank frame left
   unfolding actedOn replyTo storesOf stored withCheck
   good-read-sends {left} accepted call fine read =
@@ -154,7 +155,7 @@ module _ (sheet bank frame buffer : List ℕ) where
       many : ℕ
       many = count frame
 
-      none : NoneOf (conditions (steps sheet bank frame))
+      none : NoneOf (conditions (verdictSteps sheet bank frame))
       none = good-none sheet bank frame fine
 
       is : left ≡ readLeft
@@ -246,7 +247,7 @@ echoes sheet bank frame buffer after same =
     (sym same) record { replied = refl; eight = refl; sent = refl }
 
 module _ (sheet bank frame buffer : List ℕ) {left : Handed} (accepted : Accepted sheet bank buffer)
-    (call : Answers sheet bank frame buffer left) where
+    (call : Answers (lent sheet bank) frame buffer left) where
   pub good-write-stores : verdict sheet bank frame ≡ good → isWrite frame ≡ true → WriteStored sheet bank frame buffer left
   unfolding actedOn storesOf replyTo
   good-write-stores fine write =
@@ -262,7 +263,7 @@ module _ (sheet bank frame buffer : List ℕ) {left : Handed} (accepted : Accept
             ∙ keeping.mark-kept sheet bank frame (accepted .sheetSound) (accepted .bankFits) (accepted .bankWhole) (opened .all);
       }
     where
-      none : NoneOf (conditions (steps sheet bank frame))
+      none : NoneOf (conditions (verdictSteps sheet bank frame))
       none = good-none sheet bank frame fine
 
       opened : OpenWrite sheet frame
@@ -331,7 +332,7 @@ stops-at sheet bank frame some-bad = go (keeping.stop-at (firstPlace sheet frame
     go (inr found) = record { item = found .0; among = found .1; bad = found .2; there = found .3 }
 
 module _ (sheet bank frame buffer : List ℕ) {left : Handed} (accepted : Accepted sheet bank buffer)
-    (call : Answers sheet bank frame buffer left) where
+    (call : Answers (lent sheet bank) frame buffer left) where
   pub bad-item-stops : FirstAfter (conditions (earlierSteps sheet bank frame)) (meter.badWrite sheet bank frame) → WriteStopped sheet bank frame buffer left
   unfolding actedOn storesOf verdict meter.judgedFrame badItem
   bad-item-stops first =
@@ -393,7 +394,7 @@ pub record MarkCleared (sheet bank frame buffer : List ℕ) (left : Handed) : Ty
   pub othersBefore : (place : ℕ) → (markPlace sheet ≡ place → ⊥) → wordOf (left .bank) place ≡ wordOf bank place
 
 module _ (sheet bank frame buffer : List ℕ) {left : Handed} (accepted : Accepted sheet bank buffer)
-    (call : Answers sheet bank frame buffer left) where
+    (call : Answers (lent sheet bank) frame buffer left) where
   pub good-clear-clears : verdict sheet bank frame ≡ good → function frame ≡ clears → MarkCleared sheet bank frame buffer left
   unfolding actedOn storesOf replyTo
   good-clear-clears fine clear =

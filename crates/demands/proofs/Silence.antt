@@ -10,6 +10,7 @@ use Rattle.check_value.proofs.Damage.{damage-caught}
 use Rattle.lists.specs.Cases.{when}
 use Rattle.meter_rules.specs.Steps.{failsCheck}
 use Rattle.meter_rules.proofs.Order.{step-stops}
+use Rattle.bank_rules.specs.Calls.{lent}
 use Rattle.cedarskein.specs.Door.{Handed, handed}
 use Rattle.demands.specs.Verdict.{Accepted, silence, good, verdict}
 use Rattle.demands.proofs.Calls.{Answers}
@@ -21,7 +22,7 @@ unfolding verdict
 failing-silent sheet bank frame fails = step-stops (when (failsCheck frame) silence) _ good fails
 
 pub damaged-silent : (sheet bank sent received buffer : List ℕ) {left : Handed} → Accepted sheet bank buffer → passes sent ≡ true
-    → Damaged sent received → Answers sheet bank received buffer left → left ≡ handed 1 0 0 bank buffer
+    → Damaged sent received → Answers (lent sheet bank) received buffer left → left ≡ handed 1 0 0 bank buffer
 damaged-silent sheet bank sent received buffer accepted right damaged call =
     frame-answered sheet bank received buffer accepted call .bySilence .1
     (failing-silent sheet bank received (ap not (damage-caught sent received right damaged)))

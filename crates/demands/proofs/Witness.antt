@@ -13,7 +13,7 @@ use Rattle.check_value.specs.Frame.{passes}
 use Rattle.check_value.proofs.Witness.{frameSent, framesReceived, AllDamaged, sent-passes, received-damaged}
 use Rattle.range.specs.Range.{inRange}
 use Rattle.sheet_rules.specs.Rows.{areas, items}
-use Rattle.sheet_rules.specs.Rules.{sound, headerSound, areasSound, itemsSound, settingsSound, itemPlaces, writablePlaces, placesFollow, areasAscend, lengthsSum, judgedSheet, sheetNumber}
+use Rattle.sheet_rules.specs.Rules.{sound, headerSound, areasSound, itemsSound, settingsSound, itemPlaces, writablePlaces, placesFollow, areasAscend, lengthsSum, sheetAnswer}
 use Rattle.lists.specs.Lists.{each, some, upFrom, samePlaces}
 use Rattle.sheet_rules.specs.Lookup.{liesIn}
 use Rattle.makers.specs.Maps.{ux}
@@ -21,14 +21,15 @@ use Rattle.makers.specs.Sheets.{sheetOf}
 use Rattle.bank_rules.specs.Stores.{stored}
 use Rattle.bank_rules.specs.Bank.{bankSound, goodBy, lowStores, freshStores, postStores, allReadOnly}
 use Rattle.lists.specs.Cases.{firstCase}
-use Rattle.bank_rules.specs.Calls.{numberOf, checkAnswer, freshAnswer, postAnswer, markAnswer, freshOutcome, postOutcome, markOutcome}
+use Rattle.refusals.specs.Answers.{answerNumber}
+use Rattle.bank_rules.specs.Calls.{lent, checkAnswer, freshAnswer, postAnswer, markAnswer, freshOutcome, postOutcome, markOutcome}
 use Rattle.meter_rules.specs.declared.Judged.the-variants.{FailsCheck, OtherStation, FunctionNotAllowed, WrongLength, WrongCount, WrongAddress, WrongValue, BadItem, GoodRead, GoodClear, GoodWrite}
 use Rattle.meter_rules.specs.Runs.{allOpen}
 use Rattle.meter_rules.specs.Write.{badItem, someBad, stopIn, stopPlace, runStores}
 use Rattle.meter_rules.specs.Steps.{judgedFrame}
 use Rattle.meter_rules.specs.Reply.{bankRun, replyTo, storesOf}
 use Rattle.frame.specs.Reply.{withCheck}
-use Rattle.meter_rules.specs.Answer.{actedOn, answerOutcome}
+use Rattle.meter_rules.specs.Answer.{frameCheck, actedOn, answerOutcome}
 use Rattle.meter_rules.proofs.CaseSet.{uxMeter}
 use Rattle.cedarskein.specs.Door.{Handed, handed, handedOf, toldOf}
 use Rattle.demands.specs.Verdict.{Accepted}
@@ -44,7 +45,7 @@ abbrev answerBuffer : List ℕ
 answerBuffer = replicate 100 0xA5
 
 -- it is what the call for a fresh bank makes of 70 bytes, here of FF
-pub fresh-bank-made : toldOf (freshOutcome uxSheet (replicate 70 0xFF)) .bank ≡ freshBank
+pub fresh-bank-made : toldOf (freshOutcome (lent uxSheet (replicate 70 0xFF))) .bank ≡ freshBank
 unfolding freshOutcome freshAnswer freshStores lowStores stored bytesOf firstCase bankSound goodBy sound headerSound areasSound itemsSound settingsSound each some upFrom samePlaces itemPlaces writablePlaces placesFollow areasAscend lengthsSum areas items wordAt withWord inRange sheetOf
 fresh-bank-made = refl
 
@@ -62,14 +63,14 @@ undamaged-passes = sent-passes
 
 -- what the meter answers
 abbrev answerTo : List ℕ → Handed
-answerTo frame = handedOf (answerOutcome uxSheet freshBank frame answerBuffer)
+answerTo frame = handedOf (answerOutcome (lent uxSheet freshBank) frame answerBuffer)
 
 pub damaged-answers : map answerTo framesReceived ≡ map (λ frame. handed 1 0 0 freshBank answerBuffer) framesReceived
-unfolding allOpen answerOutcome actedOn judgedFrame replyTo storesOf bankRun withCheck runStores stopPlace stopIn badItem someBad stored passes valueOf liesIn bytesOf firstCase bankSound goodBy sound headerSound areasSound itemsSound settingsSound each some upFrom samePlaces itemPlaces writablePlaces placesFollow areasAscend lengthsSum areas items wordAt withWord inRange sheetOf
+unfolding allOpen answerOutcome frameCheck actedOn judgedFrame replyTo storesOf bankRun withCheck runStores stopPlace stopIn badItem someBad stored passes valueOf liesIn bytesOf firstCase bankSound goodBy sound headerSound areasSound itemsSound settingsSound each some upFrom samePlaces itemPlaces writablePlaces placesFollow areasAscend lengthsSum areas items wordAt withWord inRange sheetOf
 damaged-answers = refl
 
 pub undamaged-answer : answerTo frameSent ≡ handed 0 9 1 freshBank ((0x01 ∷ 0x03 ∷ 0x04 ∷ 0x00 ∷ 0x00 ∷ 0x00 ∷ 0x00 ∷ 0xFA ∷ 0x33 ∷ []) ++ drop 9 answerBuffer)
-unfolding allOpen answerOutcome actedOn judgedFrame replyTo storesOf bankRun withCheck runStores stopPlace stopIn badItem someBad stored passes valueOf liesIn bytesOf firstCase bankSound goodBy sound headerSound areasSound itemsSound settingsSound each some upFrom samePlaces itemPlaces writablePlaces placesFollow areasAscend lengthsSum areas items wordAt withWord inRange sheetOf
+unfolding allOpen answerOutcome frameCheck actedOn judgedFrame replyTo storesOf bankRun withCheck runStores stopPlace stopIn badItem someBad stored passes valueOf liesIn bytesOf firstCase bankSound goodBy sound headerSound areasSound itemsSound settingsSound each some upFrom samePlaces itemPlaces writablePlaces placesFollow areasAscend lengthsSum areas items wordAt withWord inRange sheetOf
 undamaged-answer = refl
 
 -- ---- demand 2: a frame for each step, and good ones
@@ -116,7 +117,7 @@ pub steps-met : map (judgedFrame uxSheet freshBank) judgedFrames
     ∷ GoodWrite 14 1
     ∷ GoodClear
     ∷ []
-unfolding allOpen answerOutcome actedOn judgedFrame replyTo storesOf bankRun withCheck runStores stopPlace stopIn badItem someBad stored passes valueOf liesIn bytesOf firstCase bankSound goodBy sound headerSound areasSound itemsSound settingsSound each some upFrom samePlaces itemPlaces writablePlaces placesFollow areasAscend lengthsSum areas items wordAt withWord inRange sheetOf
+unfolding allOpen answerOutcome frameCheck actedOn judgedFrame replyTo storesOf bankRun withCheck runStores stopPlace stopIn badItem someBad stored passes valueOf liesIn bytesOf firstCase bankSound goodBy sound headerSound areasSound itemsSound settingsSound each some upFrom samePlaces itemPlaces writablePlaces placesFollow areasAscend lengthsSum areas items wordAt withWord inRange sheetOf
 steps-met = refl
 
 -- ---- demand 1: an input for each refusal of each call, and one that is not refused
@@ -132,14 +133,14 @@ shortBank = take 69 freshBank
 abbrev unsoundBank : List ℕ
 unsoundBank = withWord freshBank 68 2
 
-pub sheet-check-numbers : map (λ sheet. sheetNumber (judgedSheet sheet)) ([] ∷ otherVersion ∷ take 255 uxSheet ∷ uxSheet ∷ []) ≡ 2 ∷ 2 ∷ 2 ∷ 0 ∷ []
+pub sheet-check-numbers : map (λ sheet. answerNumber (sheetAnswer sheet)) ([] ∷ otherVersion ∷ take 255 uxSheet ∷ uxSheet ∷ []) ≡ 2 ∷ 2 ∷ 2 ∷ 0 ∷ []
 unfolding bytesOf firstCase bankSound goodBy sound headerSound areasSound itemsSound settingsSound each some upFrom samePlaces itemPlaces writablePlaces placesFollow areasAscend lengthsSum areas items wordAt withWord inRange sheetOf
 sheet-check-numbers = refl
 
 abbrev bankChecks : List ℕ
 bankChecks =
-    numberOf (checkAnswer otherVersion freshBank) ∷ numberOf (checkAnswer uxSheet shortBank) ∷ numberOf (checkAnswer uxSheet unsoundBank)
-    ∷ numberOf (checkAnswer uxSheet freshBank) ∷ []
+    answerNumber (checkAnswer (lent otherVersion freshBank)) ∷ answerNumber (checkAnswer (lent uxSheet shortBank)) ∷ answerNumber (checkAnswer (lent uxSheet unsoundBank))
+    ∷ answerNumber (checkAnswer (lent uxSheet freshBank)) ∷ []
 
 pub bank-check-numbers : bankChecks ≡ 2 ∷ 3 ∷ 4 ∷ 0 ∷ []
 unfolding checkAnswer bytesOf firstCase bankSound goodBy sound headerSound areasSound itemsSound settingsSound each some upFrom samePlaces itemPlaces writablePlaces placesFollow areasAscend lengthsSum areas items wordAt withWord inRange sheetOf
@@ -147,7 +148,7 @@ bank-check-numbers = refl
 
 abbrev freshCalls : List ℕ
 freshCalls =
-    toldOf (freshOutcome otherVersion freshBank) .number ∷ toldOf (freshOutcome uxSheet shortBank) .number ∷ toldOf (freshOutcome uxSheet unsoundBank) .number ∷ []
+    toldOf (freshOutcome (lent otherVersion freshBank)) .number ∷ toldOf (freshOutcome (lent uxSheet shortBank)) .number ∷ toldOf (freshOutcome (lent uxSheet unsoundBank)) .number ∷ []
 
 pub fresh-numbers : freshCalls ≡ 2 ∷ 3 ∷ 0 ∷ []
 unfolding freshOutcome freshAnswer freshStores lowStores stored bytesOf firstCase bankSound goodBy sound headerSound areasSound itemsSound settingsSound each some upFrom samePlaces itemPlaces writablePlaces placesFollow areasAscend lengthsSum areas items wordAt withWord inRange sheetOf
@@ -155,13 +156,13 @@ fresh-numbers = refl
 
 abbrev postCalls : List ℕ
 postCalls =
-    toldOf (postOutcome otherVersion freshBank 0x0200 (0 ∷ 1 ∷ [])) .number
-    ∷ toldOf (postOutcome uxSheet shortBank 0x0200 (0 ∷ 1 ∷ [])) .number
-    ∷ toldOf (postOutcome uxSheet unsoundBank 0x0200 (0 ∷ 1 ∷ [])) .number
-    ∷ toldOf (postOutcome uxSheet freshBank 0x0200 []) .number
-    ∷ toldOf (postOutcome uxSheet freshBank 0x0100 (0 ∷ [])) .number
-    ∷ toldOf (postOutcome uxSheet freshBank 0x0100 (0 ∷ 1 ∷ [])) .number
-    ∷ toldOf (postOutcome uxSheet freshBank 0x0200 (0 ∷ 1 ∷ [])) .number ∷ []
+    toldOf (postOutcome (lent otherVersion freshBank) 0x0200 (0 ∷ 1 ∷ [])) .number
+    ∷ toldOf (postOutcome (lent uxSheet shortBank) 0x0200 (0 ∷ 1 ∷ [])) .number
+    ∷ toldOf (postOutcome (lent uxSheet unsoundBank) 0x0200 (0 ∷ 1 ∷ [])) .number
+    ∷ toldOf (postOutcome (lent uxSheet freshBank) 0x0200 []) .number
+    ∷ toldOf (postOutcome (lent uxSheet freshBank) 0x0100 (0 ∷ [])) .number
+    ∷ toldOf (postOutcome (lent uxSheet freshBank) 0x0100 (0 ∷ 1 ∷ [])) .number
+    ∷ toldOf (postOutcome (lent uxSheet freshBank) 0x0200 (0 ∷ 1 ∷ [])) .number ∷ []
 
 pub post-numbers : postCalls ≡ 2 ∷ 3 ∷ 4 ∷ 7 ∷ 7 ∷ 6 ∷ 0 ∷ []
 unfolding postOutcome postAnswer postStores allReadOnly liesIn bytesOf firstCase bankSound goodBy sound headerSound areasSound itemsSound settingsSound each some upFrom samePlaces itemPlaces writablePlaces placesFollow areasAscend lengthsSum areas items wordAt withWord inRange sheetOf
@@ -169,9 +170,9 @@ post-numbers = refl
 
 abbrev markCalls : List ℕ
 markCalls =
-    toldOf (markOutcome otherVersion freshBank 1) .number ∷ toldOf (markOutcome uxSheet shortBank 1) .number
-    ∷ toldOf (markOutcome uxSheet unsoundBank 1) .number ∷ toldOf (markOutcome uxSheet freshBank 2) .number
-    ∷ toldOf (markOutcome uxSheet freshBank 1) .number ∷ []
+    toldOf (markOutcome (lent otherVersion freshBank) 1) .number ∷ toldOf (markOutcome (lent uxSheet shortBank) 1) .number
+    ∷ toldOf (markOutcome (lent uxSheet unsoundBank) 1) .number ∷ toldOf (markOutcome (lent uxSheet freshBank) 2) .number
+    ∷ toldOf (markOutcome (lent uxSheet freshBank) 1) .number ∷ []
 
 pub mark-numbers : markCalls ≡ 2 ∷ 3 ∷ 4 ∷ 7 ∷ 0 ∷ []
 unfolding markOutcome markAnswer bytesOf firstCase bankSound goodBy sound headerSound areasSound itemsSound settingsSound each some upFrom samePlaces itemPlaces writablePlaces placesFollow areasAscend lengthsSum areas items wordAt withWord inRange sheetOf
@@ -179,13 +180,13 @@ mark-numbers = refl
 
 abbrev frameCalls : List ℕ
 frameCalls =
-    handedOf (answerOutcome otherVersion freshBank frameSent answerBuffer) .number
-    ∷ handedOf (answerOutcome uxSheet shortBank frameSent answerBuffer) .number
-    ∷ handedOf (answerOutcome uxSheet unsoundBank frameSent answerBuffer) .number
-    ∷ handedOf (answerOutcome uxSheet freshBank frameSent (replicate 99 0)) .number
-    ∷ handedOf (answerOutcome uxSheet freshBank [] answerBuffer) .number
-    ∷ handedOf (answerOutcome uxSheet freshBank frameSent answerBuffer) .number ∷ []
+    handedOf (answerOutcome (lent otherVersion freshBank) frameSent answerBuffer) .number
+    ∷ handedOf (answerOutcome (lent uxSheet shortBank) frameSent answerBuffer) .number
+    ∷ handedOf (answerOutcome (lent uxSheet unsoundBank) frameSent answerBuffer) .number
+    ∷ handedOf (answerOutcome (lent uxSheet freshBank) frameSent (replicate 99 0)) .number
+    ∷ handedOf (answerOutcome (lent uxSheet freshBank) [] answerBuffer) .number
+    ∷ handedOf (answerOutcome (lent uxSheet freshBank) frameSent answerBuffer) .number ∷ []
 
 pub frame-numbers : frameCalls ≡ 2 ∷ 3 ∷ 4 ∷ 5 ∷ 1 ∷ 0 ∷ []
-unfolding allOpen answerOutcome actedOn judgedFrame replyTo storesOf bankRun withCheck runStores stopPlace stopIn badItem someBad stored passes valueOf liesIn bytesOf firstCase bankSound goodBy sound headerSound areasSound itemsSound settingsSound each some upFrom samePlaces itemPlaces writablePlaces placesFollow areasAscend lengthsSum areas items wordAt withWord inRange sheetOf
+unfolding allOpen answerOutcome frameCheck actedOn judgedFrame replyTo storesOf bankRun withCheck runStores stopPlace stopIn badItem someBad stored passes valueOf liesIn bytesOf firstCase bankSound goodBy sound headerSound areasSound itemsSound settingsSound each some upFrom samePlaces itemPlaces writablePlaces placesFollow areasAscend lengthsSum areas items wordAt withWord inRange sheetOf
 frame-numbers = refl

@@ -58,9 +58,9 @@ earlierSteps sheet bank frame =
     ∷ []
 
 -- .. and that judgement
-abbrev pub steps : List ℕ → List ℕ → List ℕ → List (Case Verdict)
-steps sheet bank frame = earlierSteps sheet bank frame ++ (when (badWrite sheet bank frame) (error 3) ∷ [])
+abbrev pub verdictSteps : List ℕ → List ℕ → List ℕ → List (Case Verdict)
+verdictSteps sheet bank frame = earlierSteps sheet bank frame ++ (when (badWrite sheet bank frame) (error 3) ∷ [])
 
 -- the first step whose condition holds decides
 unfoldable pub verdict : List ℕ → List ℕ → List ℕ → Verdict
-verdict sheet bank frame = firstCase (steps sheet bank frame) good
+verdict sheet bank frame = firstCase (verdictSteps sheet bank frame) good

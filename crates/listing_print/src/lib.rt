@@ -1,9 +1,9 @@
 // A sheet's listing on standard output.
 use libc::STDOUT_FILENO;
 use listing::Line;
-use sheet_rules::SheetJudged;
+use refusals::Answer;
 ghost use mathlib.Core.Path.{_≡_};
-ghost use Rattle.sheet_rules.specs.Rules.{judgedSheet};
+ghost use Rattle.sheet_rules.specs.Rules.{sheetAnswer};
 
 // So many bytes from the front.
 fn print_front(bytes: &[u8], n: usize) {
@@ -28,19 +28,19 @@ fn print_items(sheet: &[u8]) {
     }
 }
 
-// Prints the listing of a sheet, or that it is refused, and answers how the sheet was judged. No promise can say what is written.
-pub fn print(sheet: &[u8]) -> SheetJudged
-    ensures { λ r. ⌜ r ≡ judgedSheet (now (sheet .entry)) ⌝ }
+// Prints the listing of a sheet, or that it is refused, and answers what its check did. No promise can say what is written.
+pub fn print(sheet: &[u8]) -> Answer
+    ensures { λ r. ⌜ r ≡ sheetAnswer (now (sheet .entry)) ⌝ }
 {
-    let judged = sheet::judged(sheet);
-    match judged {
-        SheetJudged::Sound => {
+    let checked = sheet::check(sheet);
+    match checked {
+        Answer::Done => {
             print_line(listing::summary(sheet));
             print_items(sheet);
         }
-        SheetJudged::BreaksRule => {
+        Answer::Refused(_) => {
             io::write_all(STDOUT_FILENO, b"sheet refused\n");
         }
     }
-    judged
+    checked
 }

@@ -1,12 +1,12 @@
 -- Cases in an order: each one's outcome comes exactly if its condition holds and none does that comes before it. Assumes nothing.
 use mathlib.Core.Path.{_≡_, refl, sym, ap, _∙_}
 use mathlib.Core.Bool.{Bool, true, false, not, _&&_, cond, true≢false}
-use mathlib.Core.List.{List, [], _∷_, _++_, map}
+use mathlib.Core.List.{List, [], _∷_, _++_}
 use Prim.Native.Nat.{ℕ}
 use lib.Dec.{eqb}
 use borrow.Author.Tests.{eqb-false, not-true}
 use Rattle.lists.specs.Lists.{each}
-use Rattle.lists.specs.Cases.{Case, when, firstCase, conditions, NoneOf, FirstAfter, InOrder, numbersOf}
+use Rattle.lists.specs.Cases.{Case, firstCase, mapped, conditions, NoneOf, FirstAfter, InOrder, numbersOf}
 use Rattle.lists.proofs.Tests.{first-of, second-of}
 use Rattle.lists.proofs.Among.{Among, there, among-same}
 
@@ -177,16 +177,13 @@ module _ {A : Type 0} where
 
 -- cases with their outcomes seen in another way: the first that holds is the same
 module _ {A B : Type 0} (seen : A → B) where
-  abbrev pub mapped : List (Case A) → List (Case B)
-  mapped cases = map (λ this. when (this .holds) (seen (this .outcome))) cases
-
-  pub mapped-first : (cases : List (Case A)) (otherwise : A) → seen (firstCase cases otherwise) ≡ firstCase (mapped cases) (seen otherwise)
+  pub mapped-first : (cases : List (Case A)) (otherwise : A) → seen (firstCase cases otherwise) ≡ firstCase (mapped seen cases) (seen otherwise)
   unfolding firstCase
   mapped-first [] otherwise = refl
   mapped-first (this ∷ behind) otherwise = go (this .holds) (mapped-first behind otherwise)
     where
-      go : (holds : Bool) → seen (firstCase behind otherwise) ≡ firstCase (mapped behind) (seen otherwise)
-          → seen (cond holds (this .outcome) (firstCase behind otherwise)) ≡ cond holds (seen (this .outcome)) (firstCase (mapped behind) (seen otherwise))
+      go : (holds : Bool) → seen (firstCase behind otherwise) ≡ firstCase (mapped seen behind) (seen otherwise)
+          → seen (cond holds (this .outcome) (firstCase behind otherwise)) ≡ cond holds (seen (this .outcome)) (firstCase (mapped seen behind) (seen otherwise))
       go true rest = refl
       go false rest = rest
 

@@ -18,6 +18,10 @@ unfoldable pub firstCase : {A : Type 0} → List (Case A) → A → A
 firstCase [] otherwise = otherwise
 firstCase (this ∷ behind) otherwise = cond (this .holds) (this .outcome) (firstCase behind otherwise)
 
+-- cases with their outcomes seen in another way
+abbrev pub mapped : {A B : Type 0} → (A → B) → List (Case A) → List (Case B)
+mapped seen cases = map (λ this. when (this .holds) (seen (this .outcome))) cases
+
 -- ---- what is said of cases
 
 -- the conditions of cases

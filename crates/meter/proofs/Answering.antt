@@ -1,69 +1,41 @@
--- The outcome of a call, from what the check of the bank answers. Assumes nothing.
-use mathlib.Core.Path.{_≡_, refl, sym, ap, _∙_}
-use mathlib.Core.Bool.{Bool, true, false, not, cond}
+-- The outcome of a call, from what the check of the bank answers and from the size of the buffer. Assumes nothing.
+use mathlib.Core.Path.{_≡_, sym, ap, _∙_}
+use mathlib.Core.Bool.{true, false}
 use mathlib.Core.List.{List, [], _∷_}
 use Prim.Native.Nat.{ℕ}
-use native.Mathlib.Omega.{arith}
-use Rattle.sheet_rules.specs.Rules.{sound}
-use Rattle.bank_rules.specs.declared.Answer.{Answer}
-use Rattle.bank_rules.specs.declared.Answer.the-variants.{Done, SheetBreaksRule, BankMisfits, BankNotSound, NotReadOnly, BadInput}
-use Rattle.bank_rules.specs.Bank.{fits, bankSound}
-use Rattle.lists.specs.Cases.{when, firstCase}
-use Rattle.bank_rules.specs.Calls.{checkAnswer}
-use Rattle.bank.proofs.Refusals.{reasons, answerOf}
-use Rattle.meter_rules.specs.declared.Answered.the-variants as answered
+use Rattle.lists.specs.Cases.{Case, when, firstCase}
+use Rattle.refusals.specs.declared.Refusal.{Refusal}
+use Rattle.refusals.specs.declared.Refusal.the-variants.{SmallBuffer}
+use Rattle.refusals.specs.declared.Answer.{Answer}
+use Rattle.refusals.specs.declared.Answer.the-variants as answer
+use Rattle.refusals.specs.declared.Answer.the-variants.{Done}
+use Rattle.refusals.proofs.Answers.{front-refuses, front-passes, refused-here, passed-here}
+use Rattle.bank_rules.specs.Calls.{Lent, checkRefusals, checkAnswer}
+use Rattle.meter_rules.specs.declared.Answered.the-variants.{Refused}
 use Rattle.meter_rules.specs.Steps.{judgedFrame}
-use Rattle.meter_rules.specs.Answer.{Outcome, outcome, smallBuffer, actedOn, answerOutcome}
+use Rattle.meter_rules.specs.Answer.{Outcome, outcome, smallBuffer, frameCheck, unlessRefused, actedOn, answerOutcome}
 
--- what a call comes to after the check: a refusal as it is, and else 5 or what becomes of the frame
-abbrev pub afterCheck : Answer → Bool → List ℕ → List ℕ → Outcome → Outcome
-afterCheck Done small bank buffer acted = cond small (outcome answered.SmallBuffer bank buffer) acted
-afterCheck SheetBreaksRule small bank buffer acted = outcome answered.SheetBreaksRule bank buffer
-afterCheck BankMisfits small bank buffer acted = outcome answered.BankMisfits bank buffer
-afterCheck BankNotSound small bank buffer acted = outcome answered.BankNotSound bank buffer
-afterCheck NotReadOnly small bank buffer acted = outcome answered.SheetBreaksRule bank buffer
-afterCheck BadInput small bank buffer acted = outcome answered.SheetBreaksRule bank buffer
+module _ (given : Lent) (frame buffer : List ℕ) {checked : Answer} (is : checked ≡ checkAnswer given) where
+  abbrev acted : Outcome
+  acted = actedOn (judgedFrame (given .sheet) (given .bank) frame) (given .sheet) (given .bank) frame buffer
 
-in-order : (right fitting whole small : Bool) (bank buffer : List ℕ) (acted : Outcome)
-    → firstCase (when (not right) (outcome answered.SheetBreaksRule bank buffer) ∷ when (not fitting) (outcome answered.BankMisfits bank buffer)
-    ∷ when (not whole) (outcome answered.BankNotSound bank buffer) ∷ when small (outcome answered.SmallBuffer bank buffer) ∷ []) acted
-    ≡ afterCheck (answerOf (reasons right fitting whole [])) small bank buffer acted
-unfolding firstCase
-in-order false fitting whole small bank buffer acted = refl
-in-order true false whole small bank buffer acted = refl
-in-order true true false small bank buffer acted = refl
-in-order true true true small bank buffer acted = refl
+  -- the refusal behind the bank's own check
+  abbrev small : Case Refusal
+  small = when (smallBuffer buffer) SmallBuffer
 
-module _ (sheet bank frame buffer : List ℕ) {checked : Answer} (is : checked ≡ checkAnswer sheet bank) where
-  pub answer-after : answerOutcome sheet bank frame buffer
-      ≡ afterCheck checked (smallBuffer buffer) bank buffer (actedOn (judgedFrame sheet bank frame) sheet bank frame buffer)
-  unfolding answerOutcome checkAnswer
-  answer-after =
-      in-order (sound sheet) (fits sheet bank) (bankSound sheet bank) (smallBuffer buffer) bank buffer
-      (actedOn (judgedFrame sheet bank frame) sheet bank frame buffer)
-      ∙ ap (λ (k : Answer). afterCheck k (smallBuffer buffer) bank buffer (actedOn (judgedFrame sheet bank frame) sheet bank frame buffer)) (sym is)
+  by : {told : Answer} → frameCheck given buffer ≡ told → unlessRefused told given buffer acted ≡ answerOutcome given frame buffer
+  unfolding answerOutcome
+  by e = ap (λ (a : Answer). unlessRefused a given buffer acted) (sym e)
 
-  -- .. where the check is known to be one of its cases
-  pub answered-by : {told : Answer} → checked ≡ told
-      → afterCheck told (smallBuffer buffer) bank buffer (actedOn (judgedFrame sheet bank frame) sheet bank frame buffer)
-      ≡ answerOutcome sheet bank frame buffer
-  answered-by e =
-      sym (answer-after
-      ∙ ap (λ (k : Answer). afterCheck k (smallBuffer buffer) bank buffer (actedOn (judgedFrame sheet bank frame) sheet bank frame buffer)) e)
+  pub answer-refused : {refusal : Refusal} → checked ≡ answer.Refused refusal
+      → outcome (Refused refusal) (given .bank) buffer ≡ answerOutcome given frame buffer
+  unfolding frameCheck checkAnswer
+  answer-refused told = by (front-refuses (checkRefusals given) (small ∷ []) is told)
 
-  -- .. and then whether the buffer is small
-  pub answered-sized : {small : Bool} → checked ≡ Done → smallBuffer buffer ≡ small
-      → cond small (outcome answered.SmallBuffer bank buffer) (actedOn (judgedFrame sheet bank frame) sheet bank frame buffer)
-      ≡ answerOutcome sheet bank frame buffer
-  answered-sized done e =
-      ap (λ (small : Bool). cond small (outcome answered.SmallBuffer bank buffer) (actedOn (judgedFrame sheet bank frame) sheet bank frame buffer)) (sym e)
-      ∙ answered-by done
+  pub answer-small : checked ≡ Done → smallBuffer buffer ≡ true → outcome (Refused SmallBuffer) (given .bank) buffer ≡ answerOutcome given frame buffer
+  unfolding frameCheck checkAnswer
+  answer-small told few = by (front-passes (checkRefusals given) (small ∷ []) is told ∙ refused-here small [] few)
 
--- a check that refuses nothing was made of a sound sheet
-pub done-sound : (sheet bank : List ℕ) (checked : Answer) → checked ≡ checkAnswer sheet bank → checked ≡ Done → sound sheet ≡ true
-unfolding checkAnswer firstCase
-done-sound sheet bank checked is done = go (sound sheet) (sym is ∙ done)
-  where
-    go : (right : Bool) → answerOf (reasons right (fits sheet bank) (bankSound sheet bank) []) ≡ Done → right ≡ true
-    go true e = refl
-    go false e = let z : _≡_ {A = ℕ} 0 1 = cc in absurd (omega arith)
+  pub answer-acted : checked ≡ Done → smallBuffer buffer ≡ false → acted ≡ answerOutcome given frame buffer
+  unfolding frameCheck checkAnswer firstCase
+  answer-acted told enough = by (front-passes (checkRefusals given) (small ∷ []) is told ∙ passed-here small [] enough)

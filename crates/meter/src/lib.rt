@@ -1,5 +1,6 @@
 // The answer of a meter to one frame: a frame is judged, and what the judgement says is acted on.
 ghost use mathlib.Core.Path.{_≡_};
+ghost use Rattle.bank_rules.specs.Calls.{lent};
 ghost use Rattle.meter_rules.specs.Answer.{outcome, answerOutcome};
 
 mod replies;
@@ -7,27 +8,23 @@ mod runs;
 mod stages;
 mod values;
 
-use bank_rules::Answer;
 use meter_rules::Answered;
+use refusals::Answer;
+use refusals::Refusal;
 
 // The least answer buffer: it has room for every reply.
 pub const LEAST_BUFFER: usize = 100;
 
-// Answers one frame: the refusals 2, 3, 4 and 5 in this order, then silence or a reply. (The check of a bank answers neither of the
-// last two cases.)
+// Answers one frame: the refusals 2, 3, 4 and 5 in this order, then silence or a reply.
 pub fn answer(sheet: &[u8], bank: &mut [u8], frame: &[u8], buffer: &mut [u8]) -> Answered
-    ensures { λ r. ⌜ outcome r (now (bank .exit)) (now (buffer .exit)) ≡ answerOutcome (now (sheet .entry)) (now (bank .entry)) (now (frame .entry)) (now (buffer .entry)) ⌝ }
+    ensures { λ r. ⌜ outcome r (now (bank .exit)) (now (buffer .exit)) ≡ answerOutcome (lent (now (sheet .entry)) (now (bank .entry))) (now (frame .entry)) (now (buffer .entry)) ⌝ }
 {
-    match bank::judged(sheet, bank) {
+    match bank::check(sheet, bank) {
         Answer::Done => {}
-        Answer::SheetBreaksRule => return Answered::SheetBreaksRule,
-        Answer::BankMisfits => return Answered::BankMisfits,
-        Answer::BankNotSound => return Answered::BankNotSound,
-        Answer::NotReadOnly => return Answered::SheetBreaksRule,
-        Answer::BadInput => return Answered::SheetBreaksRule,
+        Answer::Refused(refusal) => return Answered::Refused(refusal),
     }
     if buffer.len() < LEAST_BUFFER {
-        return Answered::SmallBuffer;
+        return Answered::Refused(Refusal::SmallBuffer);
     }
     let judged = stages::judged(sheet, bank, frame);
     replies::acted(judged, sheet, bank, frame, buffer)

@@ -25,7 +25,8 @@ use Rattle.meter_rules.specs.Write.{badItem, someBad, stopIn, stopPlace,
 use Rattle.meter_rules.specs.Steps.{judgedFrame}
 use Rattle.meter_rules.specs.Reply.{replyTo, storesOf}
 use Rattle.frame.specs.Reply.{withCheck}
-use Rattle.meter_rules.specs.Answer.{Outcome, numberOf, lengthIn, rateIn, actedOn, answerOutcome}
+use Rattle.meter_rules.specs.Answer.{Outcome, answeredNumber, lengthIn, rateIn, frameCheck, actedOn, answerOutcome}
+use Rattle.bank_rules.specs.Calls.{lent}
 
 -- ---- the two meters of the table
 
@@ -66,13 +67,13 @@ buffer = replicate 101 0xA5
 -- an outcome is a reply, at the rate before the frame, with the bank as it should be
 abbrev pub isReply : Outcome → List ℕ → List ℕ → Bool
 isReply outcome reply bank =
-    eqb (numberOf (outcome .answered)) 0 && eqb (lengthIn (outcome .answered)) (length reply) && eqb (rateIn (outcome .answered)) 1
+    eqb (answeredNumber (outcome .answered)) 0 && eqb (lengthIn (outcome .answered)) (length reply) && eqb (rateIn (outcome .answered)) 1
     && samePlaces (outcome .buffer) (reply ++ drop (length reply) buffer) && samePlaces (outcome .bank) bank
 
 unfoldable pub right : Row → Bool
 right (asked meter before frame reply after) =
     isReply
-    (answerOutcome (meter .sheet) (bytesOf (changed (meter .origin) (meter .fresh) before)) frame buffer)
+    (answerOutcome (lent (meter .sheet) (bytesOf (changed (meter .origin) (meter .fresh) before))) frame buffer)
     reply
     (bytesOf (changed (meter .origin) (changed (meter .origin) (meter .fresh) before) after))
 right (valued bytes value) = eqb (valueOf bytes) value
@@ -127,5 +128,5 @@ table =
 
 -- every row is right
 pub case-set-P : each right table ≡ true
-unfolding allOpen table right changed bytesOf answerOutcome actedOn judgedFrame firstCase replyTo storesOf withCheck runStores stopPlace stopIn badItem someBad goodBy bankSound stored passes valueOf sound headerSound areasSound itemsSound settingsSound each some upFrom samePlaces itemPlaces writablePlaces placesFollow areasAscend lengthsSum areas items liesIn wordAt withWord inRange sheetOf
+unfolding allOpen table right changed bytesOf answerOutcome frameCheck actedOn judgedFrame firstCase replyTo storesOf withCheck runStores stopPlace stopIn badItem someBad goodBy bankSound stored passes valueOf sound headerSound areasSound itemsSound settingsSound each some upFrom samePlaces itemPlaces writablePlaces placesFollow areasAscend lengthsSum areas items liesIn wordAt withWord inRange sheetOf
 case-set-P = refl

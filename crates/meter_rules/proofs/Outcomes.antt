@@ -1,7 +1,7 @@
 -- What a call with one frame comes to: a refusal leaves the bank, and else the frame is acted on; a reply has 5 to 99 bytes and
 -- passes the check; only a good clear, a good write and a write with a bad item change the bank. Assumes nothing.
 use mathlib.Core.Path.{_≡_, refl, sym, ap, _∙_}
-use mathlib.Core.Bool.{Bool, true, false, not, cond, false≢true}
+use mathlib.Core.Bool.{Bool, true, false, cond, false≢true}
 use mathlib.Core.List.{List, [], _∷_}
 use Prim.Native.Nat.{ℕ, _≤_}
 use native.Mathlib.Omega.{arith}
@@ -10,49 +10,69 @@ use lib.Seq.{take-at}
 use lib.Dec.{eqb}
 use borrow.Author.Tests.{eq-eqb, ne-eqb, eqb-true, eqb-false}
 use Rattle.check_value.specs.Frame.{passes}
-use Rattle.sheet_rules.specs.Rules.{sound}
+use Rattle.frame.specs.Reply.{errorReply, withCheck, laid}
+use Rattle.refusals.specs.declared.Refusal.{Refusal}
+use Rattle.refusals.specs.declared.Refusal.the-variants.{BrokenSheet, MisfittingBank, UnsoundBank, SmallBuffer, NotReadOnly, BadInput}
+use Rattle.refusals.specs.declared.Answer.{Answer}
+use Rattle.refusals.specs.declared.Answer.the-variants as answer
+use Rattle.refusals.specs.declared.Answer.the-variants.{Done}
+use Rattle.refusals.specs.Answers.{answerNumber}
+use Rattle.refusals.proofs.Answers.{done-none, numbers-in-order}
+use Rattle.lists.specs.Cases.{when, InOrder}
+use Rattle.lists.proofs.Cases.{differ}
+use Rattle.sheet_rules.specs.Rules.{brokenSheet}
 use Rattle.bank_rules.specs.Stores.{stored}
-use Rattle.bank_rules.specs.Bank.{fits, bankSound, rateOf}
-use Rattle.lists.specs.Cases.{when, firstCase}
+use Rattle.bank_rules.specs.Bank.{rateOf}
+use Rattle.bank_rules.specs.Calls.{Lent, misfittingBank, unsoundBank, effectOf}
+use Rattle.bank_rules.proofs.Changes.{Passed, passed}
 use Rattle.meter_rules.specs.declared.Answered.{Answered}
-use Rattle.meter_rules.specs.declared.Answered.the-variants.{Reply, Error, Silence, SheetBreaksRule, BankMisfits, BankNotSound, SmallBuffer}
+use Rattle.meter_rules.specs.declared.Answered.the-variants.{Reply, Error, Silence, Refused}
 use Rattle.meter_rules.specs.declared.Judged.{Judged}
 use Rattle.meter_rules.specs.declared.Judged.the-variants.{FailsCheck, OtherStation, FunctionNotAllowed, WrongLength, WrongCount, WrongAddress, WrongValue, BadItem, GoodRead, GoodClear, GoodWrite}
 use Rattle.meter_rules.specs.Steps.{judgedFrame}
 use Rattle.meter_rules.specs.Reply.{errorCode, goodReply, replyTo, storesOf}
-use Rattle.meter_rules.specs.Answer.{Outcome, outcome, numberOf, lengthIn, answeredBy, smallBuffer, actedOn, answerOutcome}
-use Rattle.frame.specs.Reply.{errorReply, withCheck, laid}
+use Rattle.meter_rules.specs.Answer.{Outcome, outcome, answeredNumber, lengthIn, answeredBy, smallBuffer, frameRefusals, frameCheck, frameEffect, unlessRefused, actedOn, answerOutcome}
 use Rattle.meter_rules.proofs.Closing.{readFits, judged-fits, reply-sized, reply-passes}
 
 -- ---- a refusal, or what becomes of the frame
 
--- an answer that refuses: 2, 3, 4 or 5
-pub data Refuses : Answered → Type 0 where
-  broken : Refuses SheetBreaksRule
-  misfitting : Refuses BankMisfits
-  unsound : Refuses BankNotSound
-  small : Refuses SmallBuffer
+module _ (given : Lent) (frame buffer : List ℕ) where
+  abbrev judged : Judged
+  judged = judgedFrame (given .sheet) (given .bank) frame
 
--- what holds of every refusal, which leaves the bank and the buffer, and of what becomes of the frame over a sound sheet and a bank that
--- fits it and is sound, holds of the call
-pub outcome-cases : (P : Outcome → Type 0) (sheet bank frame buffer : List ℕ)
-    → ((answered : Answered) → Refuses answered → P (outcome answered bank buffer))
-    → (sound sheet ≡ true → fits sheet bank ≡ true → bankSound sheet bank ≡ true
-    → P (actedOn (judgedFrame sheet bank frame) sheet bank frame buffer))
-    → P (answerOutcome sheet bank frame buffer)
-unfolding answerOutcome firstCase
-outcome-cases P sheet bank frame buffer refused acted =
-    go (sound sheet) (fits sheet bank) (bankSound sheet bank) (smallBuffer buffer) refl refl refl
-  where
-    go : (right fitting whole few : Bool) → sound sheet ≡ right → fits sheet bank ≡ fitting → bankSound sheet bank ≡ whole
-        → P (firstCase (when (not right) (outcome SheetBreaksRule bank buffer) ∷ when (not fitting) (outcome BankMisfits bank buffer)
-        ∷ when (not whole) (outcome BankNotSound bank buffer) ∷ when few (outcome SmallBuffer bank buffer) ∷ [])
-        (actedOn (judgedFrame sheet bank frame) sheet bank frame buffer))
-    go false fitting whole few r f w = refused SheetBreaksRule broken
-    go true false whole few r f w = refused BankMisfits misfitting
-    go true true false few r f w = refused BankNotSound unsound
-    go true true true true r f w = refused SmallBuffer small
-    go true true true false r f w = acted r f w
+  abbrev acted : Outcome
+  acted = actedOn judged (given .sheet) (given .bank) frame buffer
+
+  -- a call that is not refused: its sheet is sound, and its bank fits it and is sound
+  pub frame-passed : frameCheck given buffer ≡ Done → Passed given
+  unfolding frameCheck
+  frame-passed done = passed given (smallBuffer buffer ∷ []) (done-none (frameRefusals given buffer) done)
+
+  -- what holds of every refusal, which leaves the bank and the buffer, and of what becomes of the frame over a sound sheet and a bank that
+  -- fits it and is sound, holds of the call
+  pub outcome-cases : (P : Outcome → Type 0) → ((refusal : Refusal) → P (outcome (Refused refusal) (given .bank) buffer))
+      → (Passed given → P acted) → P (answerOutcome given frame buffer)
+  unfolding answerOutcome
+  outcome-cases P refused passes-on = go (frameCheck given buffer) refl
+    where
+      go : (answer : Answer) → frameCheck given buffer ≡ answer → P (unlessRefused answer given buffer acted)
+      go Done e = passes-on (frame-passed e)
+      go (answer.Refused refusal) e = refused refusal
+
+  -- the bank afterwards is the bank with the effect of the call
+  pub answer-stored : answerOutcome given frame buffer .bank ≡ stored (given .bank) (frameEffect given frame buffer)
+  unfolding answerOutcome actedOn stored
+  answer-stored = go (frameCheck given buffer)
+    where
+      go : (answer : Answer) → unlessRefused answer given buffer acted .bank ≡ stored (given .bank) (effectOf answer (storesOf judged (given .sheet) frame))
+      go Done = refl
+      go (answer.Refused refusal) = refl
+
+-- each number of a refusal is handed back exactly if its condition holds and none does that comes before it
+pub frame-numbers : (given : Lent) (buffer : List ℕ) → InOrder (answerNumber (frameCheck given buffer)) []
+    (when (brokenSheet (given .sheet)) 2 ∷ when (misfittingBank given) 3 ∷ when (unsoundBank given) 4 ∷ when (smallBuffer buffer) 5 ∷ [])
+unfolding frameCheck differ
+frame-numbers given buffer = numbers-in-order (frameRefusals given buffer) refl
 
 -- ---- silence, a reply or an error
 
@@ -75,27 +95,27 @@ module _ (judged : Judged) (bank frame : List ℕ) where
   error-reply some = simp (ne-eqb (errorCode judged) 0 some)
 
   module _ (rate : ℕ) where
-    abbrev answer : Answered
-    answer = answeredBy (errorCode judged) (length (replyTo judged bank frame)) rate
+    abbrev answers : Answered
+    answers = answeredBy (errorCode judged) (length (replyTo judged bank frame)) rate
 
     -- the length that is handed back is that of the reply, and with number 0 there is one
-    pub answered-length : lengthIn answer ≡ length (replyTo judged bank frame)
+    pub answered-length : lengthIn answers ≡ length (replyTo judged bank frame)
     unfolding withCheck
     answered-length =
         answered-cases (λ a. lengthIn a ≡ length (replyTo judged bank frame)) (errorCode judged) (length (replyTo judged bank frame)) rate
         (λ fine none. sym none) (λ fine some. refl) (λ some. sym (ap length (error-reply some)))
 
-    pub answered-some : numberOf answer ≡ 0 → replyTo judged bank frame ≡ [] → ⊥
+    pub answered-some : answeredNumber answers ≡ 0 → replyTo judged bank frame ≡ [] → ⊥
     unfolding withCheck
     answered-some =
-        answered-cases (λ a. numberOf a ≡ 0 → replyTo judged bank frame ≡ [] → ⊥) (errorCode judged) (length (replyTo judged bank frame)) rate
+        answered-cases (λ a. answeredNumber a ≡ 0 → replyTo judged bank frame ≡ [] → ⊥) (errorCode judged) (length (replyTo judged bank frame)) rate
         (λ fine none e. absurd (omega arith)) (λ fine some e none. some (ap length none))
         (λ some e none. omega (arith, ap length (error-reply some), ap length none))
 
     -- it refuses nothing
-    pub answered-takes : numberOf answer ≤ 1
+    pub answered-takes : answeredNumber answers ≤ 1
     answered-takes =
-        answered-cases (λ a. numberOf a ≤ 1) (errorCode judged) (length (replyTo judged bank frame)) rate
+        answered-cases (λ a. answeredNumber a ≤ 1) (errorCode judged) (length (replyTo judged bank frame)) rate
         (λ fine none. omega arith) (λ fine some. omega arith) (λ some. omega arith)
 
 -- ---- a reply has 5 to 99 bytes, stands in the first bytes of the buffer, and passes the check
@@ -105,17 +125,16 @@ pub record Sized (outcome : Outcome) : Type 0 where
   pub most : lengthIn (outcome .answered) ≤ 99
   pub checked : passes (take (lengthIn (outcome .answered)) (outcome .buffer)) ≡ true
 
-refused-number : (answered : Answered) → Refuses answered → 2 ≤ numberOf answered
-refused-number SheetBreaksRule r = omega arith
-refused-number BankMisfits r = omega arith
-refused-number BankNotSound r = omega arith
-refused-number SmallBuffer r = omega arith
-refused-number Silence r = elim r [ ]
-refused-number (Reply n rate) r = elim r [ ]
-refused-number (Error code rate) r = elim r [ ]
+refused-number : (refusal : Refusal) → 2 ≤ answeredNumber (Refused refusal)
+refused-number BrokenSheet = omega arith
+refused-number MisfittingBank = omega arith
+refused-number UnsoundBank = omega arith
+refused-number SmallBuffer = omega arith
+refused-number NotReadOnly = omega arith
+refused-number BadInput = omega arith
 
 acted-sized : (judged : Judged) (sheet bank frame buffer : List ℕ) → readFits judged ≡ true
-    → numberOf (actedOn judged sheet bank frame buffer .answered) ≡ 0 → Sized (actedOn judged sheet bank frame buffer)
+    → answeredNumber (actedOn judged sheet bank frame buffer .answered) ≡ 0 → Sized (actedOn judged sheet bank frame buffer)
 unfolding actedOn
 acted-sized judged sheet bank frame buffer fits e =
     let reply : List ℕ = replyTo judged bank frame in
@@ -128,12 +147,12 @@ acted-sized judged sheet bank frame buffer fits e =
       checked = ap passes (take-at reply (drop (length reply) buffer) _ (sym long)) ∙ reply-passes judged bank frame fits some;
     }
 
-pub answer-sized : (sheet bank frame buffer : List ℕ) → numberOf (answerOutcome sheet bank frame buffer .answered) ≡ 0
-    → Sized (answerOutcome sheet bank frame buffer)
-answer-sized sheet bank frame buffer =
-    outcome-cases (λ o. numberOf (o .answered) ≡ 0 → Sized o) sheet bank frame buffer
-    (λ answered refused e. absurd (omega (arith, refused-number answered refused)))
-    (λ right fitting whole. acted-sized (judgedFrame sheet bank frame) sheet bank frame buffer (judged-fits sheet bank frame))
+pub answer-sized : (given : Lent) (frame buffer : List ℕ) → answeredNumber (answerOutcome given frame buffer .answered) ≡ 0
+    → Sized (answerOutcome given frame buffer)
+answer-sized given frame buffer =
+    outcome-cases given frame buffer (λ o. answeredNumber (o .answered) ≡ 0 → Sized o)
+    (λ refusal e. absurd (omega (arith, refused-number refusal)))
+    (λ found. acted-sized (judged given frame buffer) (given .sheet) (given .bank) frame buffer (judged-fits (given .sheet) (given .bank) frame))
 
 -- ---- what leaves the bank as it is
 
@@ -170,20 +189,22 @@ pub quiet-changes-nothing : (judged : Judged) (sheet bank frame buffer : List �
 unfolding actedOn stored
 quiet-changes-nothing judged sheet bank frame buffer e = ap (stored bank) (quiet-stores judged sheet frame e)
 
-pub quiet-answer : (sheet bank frame buffer : List ℕ) → quiet (judgedFrame sheet bank frame) ≡ true
-    → answerOutcome sheet bank frame buffer .bank ≡ bank
-quiet-answer sheet bank frame buffer e =
-    outcome-cases (λ o. o .bank ≡ bank) sheet bank frame buffer (λ answered r. refl)
-    (λ right fitting whole. quiet-changes-nothing (judgedFrame sheet bank frame) sheet bank frame buffer e)
+pub quiet-answer : (given : Lent) (frame buffer : List ℕ) → quiet (judgedFrame (given .sheet) (given .bank) frame) ≡ true
+    → answerOutcome given frame buffer .bank ≡ given .bank
+quiet-answer given frame buffer e =
+    outcome-cases given frame buffer (λ o. o .bank ≡ given .bank) (λ refusal. refl)
+    (λ found. quiet-changes-nothing (judged given frame buffer) (given .sheet) (given .bank) frame buffer e)
 
 -- a refusal leaves the bank and the buffer
-pub refused-as-before : (sheet bank frame buffer : List ℕ) → Refuses (answerOutcome sheet bank frame buffer .answered)
-    → (answerOutcome sheet bank frame buffer .bank ≡ bank) × (answerOutcome sheet bank frame buffer .buffer ≡ buffer)
+pub refused-as-before : (given : Lent) (frame buffer : List ℕ) (refusal : Refusal) → answerOutcome given frame buffer .answered ≡ Refused refusal
+    → (answerOutcome given frame buffer .bank ≡ given .bank) × (answerOutcome given frame buffer .buffer ≡ buffer)
 unfolding actedOn
-refused-as-before sheet bank frame buffer =
-    outcome-cases (λ o. Refuses (o .answered) → (o .bank ≡ bank) × (o .buffer ≡ buffer)) sheet bank frame buffer (λ answered r again. (refl, refl))
-    (λ right fitting whole r. absurd (omega (
+refused-as-before given frame buffer refusal =
+    outcome-cases given frame buffer (λ o. o .answered ≡ Refused refusal → (o .bank ≡ given .bank) × (o .buffer ≡ buffer))
+    (λ other e. (refl, refl))
+    (λ found e. absurd (omega (
       arith,
-      refused-number _ r,
-      answered-takes (judgedFrame sheet bank frame) bank frame (rateOf sheet bank),
+      refused-number refusal,
+      ap answeredNumber e,
+      answered-takes (judged given frame buffer) (given .bank) frame (rateOf (given .sheet) (given .bank)),
     )))

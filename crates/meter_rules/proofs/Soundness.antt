@@ -11,6 +11,7 @@ use Rattle.sheet_rules.specs.Rules.{sound}
 use Rattle.lists.proofs.Tests.{first-of}
 use Rattle.bank_rules.specs.Stores.{stored}
 use Rattle.bank_rules.specs.Bank.{fits, bankSound}
+use Rattle.bank_rules.specs.Calls.{Lent}
 use Rattle.lists.specs.Cases.{when, firstCase}
 use Rattle.meter_rules.specs.declared.Judged.{Judged}
 use Rattle.meter_rules.specs.declared.Judged.the-variants.{FailsCheck, OtherStation, FunctionNotAllowed, WrongLength, WrongCount, WrongAddress, WrongValue, BadItem, GoodRead, GoodClear, GoodWrite}
@@ -118,8 +119,8 @@ acted-sound sheet bank frame buffer keeps fitting whole =
     (λ opened none. ap (λ (stop : ℕ). bankSound sheet (stored bank (runStores frame (firstPlace sheet frame) stop))) (sym (stops-at-end sheet bank frame none))
     ∙ write-sound sheet bank frame keeps fitting whole (opened .all))
 
-pub stays-sound : (sheet bank frame buffer : List ℕ) → bankSound sheet bank ≡ true
-    → bankSound sheet (answerOutcome sheet bank frame buffer .bank) ≡ true
-stays-sound sheet bank frame buffer whole =
-    outcome-cases (λ o. bankSound sheet (o .bank) ≡ true) sheet bank frame buffer (λ answered refused. whole)
-    (λ keeps fitting sounds. acted-sound sheet bank frame buffer keeps fitting sounds)
+pub stays-sound : (given : Lent) (frame buffer : List ℕ) → bankSound (given .sheet) (given .bank) ≡ true
+    → bankSound (given .sheet) (answerOutcome given frame buffer .bank) ≡ true
+stays-sound given frame buffer whole =
+    outcome-cases given frame buffer (λ o. bankSound (given .sheet) (o .bank) ≡ true) (λ refusal. whole)
+    (λ found. acted-sound (given .sheet) (given .bank) frame buffer (found .right) (found .fitting) (found .whole))

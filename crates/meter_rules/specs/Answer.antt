@@ -1,50 +1,45 @@
 -- The whole outcome of a call with one frame: what is handed back, the bank afterwards and the answer buffer afterwards. Assumes nothing.
 use Prim.Native.Nat.{ℕ}
 use mathlib.Core.Bool.{Bool, cond}
-use mathlib.Core.List.{List, [], _∷_}
+use mathlib.Core.List.{List, [], _∷_, _++_}
 use lib.Dec.{ltb, eqb}
 use lib.ListN.{length}
-use Rattle.bank_rules.specs.Stores.{stored}
+use Rattle.bank_rules.specs.Stores.{Store, stored}
 use Rattle.bank_rules.specs.Bank.{rateOf}
-use Rattle.lists.specs.Cases.{when, firstCase}
-use Rattle.bank_rules.specs.Calls.{brokenSheet, misfittingBank, unsoundBank}
+use Rattle.lists.specs.Cases.{Case, when}
+use Rattle.refusals.specs.declared.Refusal.{Refusal}
+use Rattle.refusals.specs.declared.Refusal.the-variants.{SmallBuffer}
+use Rattle.refusals.specs.declared.Answer.{Answer}
+use Rattle.refusals.specs.declared.Answer.the-variants as answer
+use Rattle.refusals.specs.declared.Answer.the-variants.{Done}
+use Rattle.refusals.specs.Answers.{refusalNumber, answerBy}
+use Rattle.bank_rules.specs.Calls.{Lent, checkRefusals, effectOf}
 use Rattle.meter_rules.specs.declared.Answered.{Answered}
-use Rattle.meter_rules.specs.declared.Answered.the-variants.{Reply, Error, Silence, SheetBreaksRule, BankMisfits, BankNotSound, SmallBuffer}
+use Rattle.meter_rules.specs.declared.Answered.the-variants.{Reply, Error, Silence, Refused}
 use Rattle.meter_rules.specs.declared.Judged.{Judged}
-use Rattle.meter_rules.specs.declared.Judged.the-variants.{FailsCheck, OtherStation, FunctionNotAllowed, WrongLength, WrongCount, WrongAddress, WrongValue, BadItem, GoodRead, GoodClear, GoodWrite}
 use Rattle.meter_rules.specs.Steps.{judgedFrame}
-use Rattle.frame.specs.Frame.{mostRead}
 use Rattle.meter_rules.specs.Reply.{errorCode, replyTo, storesOf}
 use Rattle.frame.specs.Reply.{errorLength, laid}
 
 -- 01, "Numbers handed back to the firmware": the number of each answer
-abbrev pub numberOf : Answered → ℕ
-numberOf (Reply length rate) = 0
-numberOf (Error code rate) = 0
-numberOf Silence = 1
-numberOf SheetBreaksRule = 2
-numberOf BankMisfits = 3
-numberOf BankNotSound = 4
-numberOf SmallBuffer = 5
+abbrev pub answeredNumber : Answered → ℕ
+answeredNumber (Reply length rate) = 0
+answeredNumber (Error code rate) = 0
+answeredNumber Silence = 1
+answeredNumber (Refused refusal) = refusalNumber refusal
 
 -- ".. for a frame: length and rate"; with silence and refusals both are 0
 abbrev pub lengthIn : Answered → ℕ
 lengthIn (Reply length rate) = length
 lengthIn (Error code rate) = errorLength
 lengthIn Silence = 0
-lengthIn SheetBreaksRule = 0
-lengthIn BankMisfits = 0
-lengthIn BankNotSound = 0
-lengthIn SmallBuffer = 0
+lengthIn (Refused refusal) = 0
 
 abbrev pub rateIn : Answered → ℕ
 rateIn (Reply length rate) = rate
 rateIn (Error code rate) = rate
 rateIn Silence = 0
-rateIn SheetBreaksRule = 0
-rateIn BankMisfits = 0
-rateIn BankNotSound = 0
-rateIn SmallBuffer = 0
+rateIn (Refused refusal) = 0
 
 -- 5 "answer buffer under 100 bytes"
 abbrev pub leastBuffer : ℕ
@@ -73,12 +68,25 @@ actedOn judged sheet bank frame buffer =
     (stored bank (storesOf judged sheet frame))
     (laid (replyTo judged bank frame) buffer)
 
--- "Checked in the order 2, 3, 4, 5"; a refusal writes nothing; else the frame is judged, and acted on
-unfoldable pub answerOutcome : List ℕ → List ℕ → List ℕ → List ℕ → Outcome
-answerOutcome sheet bank frame buffer =
-    firstCase
-    (when (brokenSheet sheet) (outcome SheetBreaksRule bank buffer)
-    ∷ when (misfittingBank sheet bank) (outcome BankMisfits bank buffer)
-    ∷ when (unsoundBank sheet bank) (outcome BankNotSound bank buffer)
-    ∷ when (smallBuffer buffer) (outcome SmallBuffer bank buffer) ∷ [])
-    (actedOn (judgedFrame sheet bank frame) sheet bank frame buffer)
+-- "Checked in the order 2, 3, 4, 5": whether the call is refused
+abbrev pub frameRefusals : Lent → List ℕ → List (Case Refusal)
+frameRefusals given buffer = checkRefusals given ++ (when (smallBuffer buffer) SmallBuffer ∷ [])
+
+unfoldable pub frameCheck : Lent → List ℕ → Answer
+frameCheck given buffer = answerBy (frameRefusals given buffer)
+
+-- the effect of a call with one frame: what the judged frame stores, none where the call is refused
+abbrev pub frameEffect : Lent → List ℕ → List ℕ → List Store
+frameEffect given frame buffer =
+    effectOf (frameCheck given buffer) (storesOf (judgedFrame (given .sheet) (given .bank) frame) (given .sheet) frame)
+
+-- a refusal writes nothing
+abbrev pub unlessRefused : Answer → Lent → List ℕ → Outcome → Outcome
+unlessRefused Done given buffer acted = acted
+unlessRefused (answer.Refused refusal) given buffer acted = outcome (Refused refusal) (given .bank) buffer
+
+-- unless the call is refused the frame is judged, and acted on
+unfoldable pub answerOutcome : Lent → List ℕ → List ℕ → Outcome
+answerOutcome given frame buffer =
+    unlessRefused (frameCheck given buffer) given buffer
+    (actedOn (judgedFrame (given .sheet) (given .bank) frame) (given .sheet) (given .bank) frame buffer)

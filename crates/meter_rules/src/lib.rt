@@ -1,5 +1,6 @@
 // The rules by which one frame is judged and answered, with their laws: specs/ and proofs/ hold them. Here are the types that they speak
 // of; there is no code.
+use refusals::Refusal;
 
 // Where a frame stops in the order of judgement, or that it is good. `first` is the place of its first address, `stop` the place of
 // the first bad item, `many` the number of registers.
@@ -22,10 +23,7 @@ pub enum Answered {
     Reply { length: u32, rate: u16 },
     Error { code: u8, rate: u16 },
     Silence,
-    SheetBreaksRule,
-    BankMisfits,
-    BankNotSound,
-    SmallBuffer,
+    Refused(Refusal),
 }
 
 // What a run of addresses is for.

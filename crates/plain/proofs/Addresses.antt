@@ -17,7 +17,7 @@ use Rattle.bank_rules.specs.Bank.{placeIn}
 use Rattle.meter_rules.specs.declared.Purpose.{Purpose}
 use Rattle.meter_rules.specs.declared.Purpose.the-variants.{Read, Write}
 use Rattle.meter_rules.specs.Runs.{permits, opens, allOpen}
-use Rattle.meter_rules.specs.Frame.{function, start, second, isWrite, count, run}
+use Rattle.frame.specs.Frame.{function, start, second, isWrite, count, run}
 use Rattle.meter_rules.specs.Steps.{wrongAddress}
 use Rattle.meter_rules.proofs.Written.{each-open}
 use Rattle.plain.specs.Numbers.{Bytes, byte, word}

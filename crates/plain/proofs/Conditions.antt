@@ -14,8 +14,8 @@ use Rattle.check_value.specs.Frame.{passes, held, covered}
 use Rattle.sheet_rules.specs.Rows.{functions, clearAddress}
 use Rattle.sheet_rules.specs.Rules.{allowed, bitOf03, bitOf05, bitOf06, bitOf10}
 use Rattle.bank_rules.specs.Bank.{stationOf}
-use Rattle.meter_rules.specs.Frame.{station, function, start, second, byteCount, functionAllowed}
-use Rattle.meter_rules.specs.Steps.{failsCheck, otherStation, functionNotAllowed, wrongLength, wrongCount}
+use Rattle.frame.specs.Frame.{station, function, start, second, byteCount}
+use Rattle.meter_rules.specs.Steps.{functionAllowed, failsCheck, otherStation, functionNotAllowed, wrongLength, wrongCount}
 use Rattle.lists.proofs.Tests.{first-of, second-of}
 use Rattle.plain.specs.Numbers.{byte, word}
 use Rattle.plain.specs.Frame.{Whole, OurStation, Set, Allowed, RightLength, RightCount}

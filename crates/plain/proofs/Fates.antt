@@ -9,7 +9,7 @@ use Rattle.sheet_rules.specs.Rules.{sound}
 use Rattle.lists.specs.Cases.{when, firstCase}
 use Rattle.meter_rules.specs.declared.Purpose.the-variants.{Write}
 use Rattle.meter_rules.specs.Runs.{allOpen}
-use Rattle.meter_rules.specs.Frame.{isWrite, run}
+use Rattle.frame.specs.Frame.{isWrite, run}
 use Rattle.meter_rules.specs.Steps.{failsCheck, otherStation, functionNotAllowed, wrongLength, wrongCount, wrongAddress, wrongValue, badWrite}
 use Rattle.meter_rules.proofs.Soundness.{open-write}
 use Rattle.plain.specs.Numbers.{Bytes}

@@ -14,7 +14,7 @@ use Rattle.check_value.specs.Check.{valueOf}
 use Rattle.sheet_rules.specs.Rules.{sound}
 use Rattle.meter_rules.specs.declared.Purpose.the-variants.{Write}
 use Rattle.meter_rules.specs.Runs.{allOpen}
-use Rattle.meter_rules.specs.Frame.{run}
+use Rattle.frame.specs.Frame.{run}
 use Rattle.meter_rules.proofs.Soundness.{open-write}
 use Rattle.plain.specs.Numbers.{byte, word, Bytes}
 use Rattle.plain.specs.Sheet.{LiesAt}

@@ -21,7 +21,7 @@ use Rattle.bank_rules.specs.Bank.{valueBy}
 use Rattle.bank_rules.proofs.Held.{holds-first, holds-second, holder-alone}
 use Rattle.meter_rules.specs.declared.Purpose.the-variants.{Write}
 use Rattle.meter_rules.specs.Runs.{allOpen}
-use Rattle.meter_rules.specs.Frame.{count, run}
+use Rattle.frame.specs.Frame.{count, run}
 use Rattle.meter_rules.specs.Write.{firstPlace, wouldBe}
 use Rattle.meter_rules.proofs.Soundness.{open-write}
 use Rattle.plain.specs.Numbers.{byte, word, Bytes}

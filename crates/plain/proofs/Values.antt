@@ -24,7 +24,7 @@ use Rattle.bank_rules.specs.Stores.{wordOf}
 use Rattle.bank_rules.specs.Bank.{placeIn, valueBy, goodBy}
 use Rattle.meter_rules.specs.declared.Purpose.the-variants.{Write}
 use Rattle.meter_rules.specs.Runs.{allOpen}
-use Rattle.meter_rules.specs.Frame.{function, start, second, isWrite, count, run, sent}
+use Rattle.frame.specs.Frame.{function, start, second, isWrite, count, run, sent}
 use Rattle.meter_rules.specs.Write.{firstPlace, inRun, wouldBe, touched, badItem, someBad}
 use Rattle.meter_rules.specs.Steps.{wrongValue, badWrite}
 use Rattle.meter_rules.proofs.Written.{each-open, run-place}

@@ -18,11 +18,11 @@ use Rattle.bank_rules.specs.Bank.{fits, bankSound, valueBy, goodBy, markPlace, 
 use Rattle.bank_rules.proofs.Changes.{mark-there, mark-apart}
 use Rattle.meter_rules.specs.declared.Purpose.the-variants.{Write}
 use Rattle.meter_rules.specs.Runs.{allOpen}
-use Rattle.meter_rules.specs.Frame.{function, second, isWrite, count, run, sent, functionAllowed}
+use Rattle.frame.specs.Frame.{function, second, isWrite, count, run, sent}
+use Rattle.meter_rules.specs.Steps.{functionAllowed, failsCheck, otherStation, functionNotAllowed, wrongLength, wrongCount, wrongAddress, wrongValue, badWrite, goodFrame, judgedFrame}
 use Rattle.lists.specs.Cases.{when, firstCase}
 use Rattle.meter_rules.specs.declared.Judged.{Judged}
 use Rattle.meter_rules.specs.declared.Judged.the-variants.{FailsCheck, OtherStation, FunctionNotAllowed, WrongLength, WrongCount, WrongAddress, WrongValue, BadItem, GoodRead, GoodClear, GoodWrite}
-use Rattle.meter_rules.specs.Steps.{failsCheck, otherStation, functionNotAllowed, wrongLength, wrongCount, wrongAddress, wrongValue, badWrite, goodFrame, judgedFrame}
 use Rattle.meter_rules.specs.Reply.{storesOf}
 use Rattle.meter_rules.specs.Write.{firstPlace, inRun, wouldBe, touched, badItem, someBad, stopIn, stopPlace, runStores}
 use Rattle.meter_rules.proofs.Judging.{run-test, run-above}

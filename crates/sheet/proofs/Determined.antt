@@ -19,8 +19,8 @@ use Rattle.sheet.proofs.area_at.Kinds as area-at
 use Rattle.sheet.proofs.area_at.Reads as area-at-reads
 use Rattle.sheet.proofs.item_at.Kinds as item-at
 use Rattle.sheet.proofs.item_at.Reads as item-at-reads
-use Rattle.sheet.proofs.judged.Kinds as judged
-use Rattle.sheet.proofs.judged.Reads as judged-reads
+use Rattle.sheet.proofs.check.Kinds as check
+use Rattle.sheet.proofs.check.Reads as check-reads
 use Rattle.sheet.proofs.lies_at.Kinds as lies-at
 use Rattle.sheet.proofs.lies_at.Reads as lies-at-reads
 
@@ -51,8 +51,8 @@ area-at-determined κs a x y s t p q = p ∙ sym q
 pub item-at-determined : Determined 1 item-at.ps item-at.r item-at-reads.Post (λ κs r s. r)
 item-at-determined κs a x y s t p q = p ∙ sym q
 
-pub judged-determined : Determined 1 judged.ps judged.r judged-reads.Post (λ κs r s. r)
-judged-determined κs a x y s t p q = p ∙ sym q
+pub check-determined : Determined 1 check.ps check.r check-reads.Post (λ κs r s. r)
+check-determined κs a x y s t p q = p ∙ sym q
 
 pub lies-at-determined : Determined 1 lies-at.ps lies-at.r lies-at-reads.Post (λ κs r s. r)
 lies-at-determined κs a x y s t p q = p ∙ sym q

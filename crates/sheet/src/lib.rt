@@ -4,17 +4,18 @@ ghost use Prim.Native.Nat.{_+_, _*_, _≤_};
 ghost use lib.ListN.{length};
 ghost use Rattle.words.specs.Words.{wordAt};
 ghost use Rattle.sheet_rules.specs.Rows.{areaRows, word, areaCount, itemCount, bankWords, functions, addressPlace, ratePlace, clearAddress, areaAt, itemAt, areas};
-ghost use Rattle.sheet_rules.specs.Rules.{judgedSheet, inArea};
+ghost use Rattle.sheet_rules.specs.Rules.{sheetAnswer, inArea};
 ghost use Rattle.sheet_rules.specs.Lookup.{liesIn};
 
 mod area_rows;
 mod header;
 mod item_rows;
 
+use refusals::Answer;
+use refusals::Refusal;
 use sheet_rules::Area;
 use sheet_rules::Item;
 use sheet_rules::Lies;
-use sheet_rules::SheetJudged;
 
 // A word of the sheet, counted from 0; 0 past the end.
 fn word(sheet: &[u8], n: u32) -> u16
@@ -190,19 +191,19 @@ pub fn item_at(sheet: &[u8], k: u16) -> Item
 }
 
 // Whether a sheet breaks a rule of 01.
-pub fn judged(sheet: &[u8]) -> SheetJudged
-    ensures { λ r. ⌜ r ≡ judgedSheet (now (sheet .entry)) ⌝ }
+pub fn check(sheet: &[u8]) -> Answer
+    ensures { λ r. ⌜ r ≡ sheetAnswer (now (sheet .entry)) ⌝ }
 {
     if !header::header_sound(sheet) {
-        return SheetJudged::BreaksRule;
+        return Answer::Refused(Refusal::BrokenSheet);
     }
     if !area_rows::areas_sound(sheet) {
-        return SheetJudged::BreaksRule;
+        return Answer::Refused(Refusal::BrokenSheet);
     }
     if !item_rows::items_and_settings_sound(sheet) {
-        return SheetJudged::BreaksRule;
+        return Answer::Refused(Refusal::BrokenSheet);
     }
-    SheetJudged::Sound
+    Answer::Done
 }
 
 // Whether an address lies in an area.

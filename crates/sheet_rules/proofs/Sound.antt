@@ -1,16 +1,21 @@
 -- What the rules of a sound sheet say one by one. Assumes nothing.
-use mathlib.Core.Path.{_≡_, ap, ap₂, _∙_}
-use mathlib.Core.Bool.{Bool, true, _&&_}
-use mathlib.Core.List.{List}
+use mathlib.Core.Path.{_≡_, refl, sym, ap, ap₂, _∙_}
+use mathlib.Core.Bool.{Bool, true, false, not, cond, _&&_}
+use mathlib.Core.List.{List, [], _∷_}
 use Prim.Native.Nat.{ℕ, _<_, _+_}
 use Prim.Native.Nat.{_*_, _≤_}
 use native.Mathlib.Omega.{arith}
 use lib.Dec.{leb}
 use lib.ListN.{length}
-use borrow.Author.Tests.{leb-true, eqb-true}
+use borrow.Author.Tests.{leb-true, eqb-true, not-false}
 use Rattle.sheet_rules.specs.Rows.{areas, items, areaCount, itemCount, bankWords, functions, sheetWords, rowsEnd, itemRows}
 use Rattle.lists.specs.Lists.{between, each}
-use Rattle.sheet_rules.specs.Rules.{versionRule, areaCountRule, areaOffsetRule, itemCountRule, itemOffsetRule, bankWordsRule, functionsRule, sheetWordsRule, spareWordRule, byteLengthRule, kindRule, boundsRule, lowHighRule, coverRule, pairRule, accessRule, firstLastRule, areasAscend, placesFollow, lengthsSumRule, clearAddressRule, headerSound, areasSound, itemsSound, settingsSound, sound}
+use Rattle.sheet_rules.specs.Rules.{versionRule, areaCountRule, areaOffsetRule, itemCountRule, itemOffsetRule, bankWordsRule, functionsRule, sheetWordsRule, spareWordRule, byteLengthRule, kindRule, boundsRule, lowHighRule, coverRule, pairRule, accessRule, firstLastRule, areasAscend, placesFollow, lengthsSumRule, clearAddressRule, headerSound, areasSound, itemsSound, settingsSound, sound, sheetRefusals, sheetAnswer}
+use Rattle.lists.specs.Cases.{when, firstCase}
+use Rattle.refusals.specs.declared.Refusal.the-variants.{BrokenSheet}
+use Rattle.refusals.specs.declared.Answer.the-variants.{Done, Refused}
+use Rattle.refusals.specs.Answers.{answerBy}
+use Rattle.refusals.proofs.Answers.{done-none}
 use Rattle.lists.proofs.Tests.{first-of, second-of}
 
 six : (a b c d e f : Bool) → (a && b && c && d && e && f) ≡ true
@@ -161,3 +166,16 @@ pub row-inside : (sheet : List ℕ) → sound sheet ≡ true → (k : ℕ) → k
 row-inside sheet keeps k less =
     let numbers = sound-numbers sheet keeps in
     omega (arith, numbers .words, numbers .bytes, less)
+
+-- ---- what the check of a sheet answers, by whether it is sound, and read back
+
+pub sheet-answered : (sheet : List ℕ) {right : Bool} → sound sheet ≡ right → cond right Done (Refused BrokenSheet) ≡ sheetAnswer sheet
+unfolding firstCase
+sheet-answered sheet {right} e = go right ∙ ap (λ (b : Bool). answerBy (when (not b) BrokenSheet ∷ [])) (sym e)
+  where
+    go : (b : Bool) → cond b Done (Refused BrokenSheet) ≡ answerBy (when (not b) BrokenSheet ∷ [])
+    go true = refl
+    go false = refl
+
+pub answered-sound : (sheet : List ℕ) → sheetAnswer sheet ≡ Done → sound sheet ≡ true
+answered-sound sheet done = not-false (sound sheet) (done-none (sheetRefusals sheet) done .0)

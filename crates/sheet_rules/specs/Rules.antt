@@ -1,15 +1,18 @@
 -- 01, "The sheet: a header of counts and offsets": its rules, each a definition, in 01's order. Each has its answer on any bytes, whatever
 -- the others say. Assumes nothing.
-use Prim.Native.Nat.{ℕ, zero, suc, _+_, _-_, _*_, _/_, _%_}
-use mathlib.Core.Bool.{Bool, true, false, not, _&&_, _||_, cond}
+use Prim.Native.Nat.{ℕ, _+_, _-_, _*_, _/_, _%_}
+use mathlib.Core.Bool.{Bool, true, not, _&&_, _||_, cond}
 use mathlib.Core.List.{List, [], _∷_, _++_}
 use lib.Dec.{leb, ltb, eqb}
 use lib.ListN.{length}
 use Rattle.range.specs.Range.{unsignedWord, unsignedPair, notAbove, inRange}
 use Rattle.sheet_rules.specs.declared.Area.{Area}
 use Rattle.sheet_rules.specs.declared.Item.{Item}
-use Rattle.sheet_rules.specs.declared.SheetJudged.{SheetJudged}
-use Rattle.sheet_rules.specs.declared.SheetJudged.the-variants.{Sound, BreaksRule}
+use Rattle.lists.specs.Cases.{Case, when}
+use Rattle.refusals.specs.declared.Refusal.{Refusal}
+use Rattle.refusals.specs.declared.Refusal.the-variants.{BrokenSheet}
+use Rattle.refusals.specs.declared.Answer.{Answer}
+use Rattle.refusals.specs.Answers.{answerBy}
 use Rattle.sheet_rules.specs.Rows.{version, areaCount, areaOffset, itemCount, itemOffset, bankWords, functions, sheetWords, addressPlace, ratePlace, clearAddress, spareWord, areaRows, itemRows, rowsEnd, areas, items}
 use Rattle.lists.specs.Lists.{between, each, samePlaces, some, upFrom}
 
@@ -223,15 +226,13 @@ settingsSound sheet =
 unfoldable pub sound : List ℕ → Bool
 sound sheet = headerSound sheet && areasSound sheet && itemsSound sheet && settingsSound sheet
 
-abbrev pub soundOrBroken : Bool → SheetJudged
-soundOrBroken true = Sound
-soundOrBroken false = BreaksRule
+-- 2 "sheet breaks a rule"
+abbrev pub brokenSheet : List ℕ → Bool
+brokenSheet sheet = not (sound sheet)
 
--- what the check of a sheet answers
-abbrev pub judgedSheet : List ℕ → SheetJudged
-judgedSheet sheet = soundOrBroken (sound sheet)
+-- what the check of a sheet refuses, and what it answers
+abbrev pub sheetRefusals : List ℕ → List (Case Refusal)
+sheetRefusals sheet = when (brokenSheet sheet) BrokenSheet ∷ []
 
--- 01, "Numbers handed back to the firmware": 0 done, 2 "sheet breaks a rule"
-abbrev pub sheetNumber : SheetJudged → ℕ
-sheetNumber Sound = 0
-sheetNumber BreaksRule = 2
+abbrev pub sheetAnswer : List ℕ → Answer
+sheetAnswer sheet = answerBy (sheetRefusals sheet)

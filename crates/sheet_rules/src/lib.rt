@@ -16,12 +16,6 @@ pub struct Item {
     pub high: u32,
 }
 
-// What the check of a sheet answers.
-pub enum SheetJudged {
-    Sound,
-    BreaksRule,
-}
-
 // What lies at an address.
 pub enum Lies {
     At { place: u32, access: u16 },

@@ -2,141 +2,146 @@
 -- Assumes nothing.
 use native.Mathlib.Omega.{arith}
 use Prim.Native.Nat.{ℕ, _/_, _%_, _<_}
-use mathlib.Core.Path.{refl, _∙_, sym}
+use mathlib.Core.Path.{_≡_, refl, ap, _∙_}
+use mathlib.Core.Bool.{true, false, not}
 use mathlib.Core.List.{List, [], _∷_}
-use borrow.Author.Tests.{eq-eqb, ne-eqb, not-true, not-false}
+use borrow.Author.Tests.{eq-eqb, ne-eqb}
 use denote.Ref.{now}
 use lib.ListN.{length}
-use Rattle.bank_rules.specs.declared.Answer.{Answer}
-use Rattle.bank_rules.specs.declared.Answer.the-variants.{BadInput, NotReadOnly}
-use Rattle.bank_rules.specs.Bank.{emptyOrOdd, postStores}
 use Rattle.lists.specs.Cases.{Case, when, firstCase}
-use Rattle.bank_rules.specs.Calls.{badAddress, postAnswer, postOutcome}
-use Rattle.bank.proofs.Refusals.{not-done, check-refuses, check-passes, outcome-refused, outcome-done}
+use Rattle.lists.proofs.Tests.{refused, passed}
+use Rattle.refusals.specs.declared.Refusal.{Refusal}
+use Rattle.refusals.specs.declared.Refusal.the-variants.{BadInput, NotReadOnly}
+use Rattle.refusals.specs.declared.Answer.{Answer}
+use Rattle.refusals.specs.declared.Answer.the-variants.{Done, Refused}
+use Rattle.refusals.proofs.Answers.{front-refuses, front-passes, refused-here, passed-here}
+use Rattle.bank_rules.specs.Bank.{postedRun, allReadOnly, emptyOrOdd, postStores}
+use Rattle.bank_rules.specs.Calls.{Lent, lent, badAddress, checkRefusals, checkAnswer, postAnswer, postOutcome}
 use Rattle.bank_rules.proofs.Reach.{read-only-run}
+use Rattle.bank.proofs.Refusals.{outcome-refused, outcome-done}
 use borrow.Author.Needs.{needs}
 use Rattle.bank.proofs.post.Statement.{statement}
 use Rattle.bank.proofs.post.Tie as tie
+use Rattle.refusals.specs.Answers.{answerBy}
 
--- the reasons behind the bank's own check
-abbrev further : List ℕ → ℕ → List ℕ → List (Case Answer)
-further sheet address bytes = when (emptyOrOdd bytes) BadInput ∷ when (badAddress sheet address bytes) NotReadOnly ∷ []
+-- the refusals behind the bank's own check
+abbrev bad-bytes : List ℕ → Case Refusal
+bad-bytes bytes = when (emptyOrOdd bytes) BadInput
 
--- src/lib.rt:91:9
-judged-requires : tie.Need-judged-requires
-judged-requires c κs = search needs
+abbrev bad-address : Lent → ℕ → List ℕ → Case Refusal
+bad-address given address bytes = when (badAddress given address bytes) NotReadOnly
+
+abbrev further : Lent → ℕ → List ℕ → List (Case Refusal)
+further given address bytes = bad-bytes bytes ∷ bad-address given address bytes ∷ []
+
+module _ (given : Lent) (address : ℕ) (bytes : List ℕ) {checked : Answer} (is : checked ≡ checkAnswer given) (told : checked ≡ Done) where
+  bytes-refused : emptyOrOdd bytes ≡ true → postAnswer given address bytes ≡ Refused BadInput
+  unfolding postAnswer checkAnswer
+  bytes-refused bad =
+      front-passes (checkRefusals given) (further given address bytes) is told
+      ∙ refused-here (bad-bytes bytes) (bad-address given address bytes ∷ []) bad
+
+  behind-bytes : emptyOrOdd bytes ≡ false → postAnswer given address bytes ≡ answerBy (bad-address given address bytes ∷ [])
+  unfolding postAnswer checkAnswer
+  behind-bytes even =
+      front-passes (checkRefusals given) (further given address bytes) is told
+      ∙ passed-here (bad-bytes bytes) (bad-address given address bytes ∷ []) even
+
+  address-refused : emptyOrOdd bytes ≡ false → allReadOnly (given .sheet) (postedRun address bytes) ≡ false
+      → postAnswer given address bytes ≡ Refused NotReadOnly
+  address-refused even bad = behind-bytes even ∙ refused-here (bad-address given address bytes) [] (ap not bad)
+
+  post-passes : emptyOrOdd bytes ≡ false → allReadOnly (given .sheet) (postedRun address bytes) ≡ true → postAnswer given address bytes ≡ Done
+  unfolding firstCase
+  post-passes even right = behind-bytes even ∙ passed-here (bad-address given address bytes) [] (ap not right)
+
+check-requires : tie.Need-check-requires
+check-requires c κs = search needs
 
 enum-told : tie.Need-enum-told
 enum-told c = search needs
 
--- src/lib.rt:93:9
+enum-told-2 : tie.Need-enum-told-2
+enum-told-2 c = search needs
+
 same-length : tie.Need-same-length
 same-length c = search needs
 
--- src/lib.rt:93:9
 returns : tie.Need-returns
-unfolding postOutcome postAnswer
+unfolding postOutcome postAnswer checkAnswer
 returns c =
-    let a = c .before .before .before .before .before .before .args in
-    let checked = c .before .judged .result in
-    let refused = not-done checked (c .match .keys2) in
-    outcome-refused (postAnswer (now (a .sheet)) (now (a .bank)) (a .address) (now (a .bytes))) (now (a .bank))
-    (postStores (now (a .sheet)) (a .address) (now (a .bytes))) checked
-    (check-refuses (now (a .sheet)) (now (a .bank)) checked (c .before .judged .ensures) (further (now (a .sheet)) (a .address) (now (a .bytes))) refused) refused
+    let a = c .before .before .before .before .before .before .before .args in
+    let given : Lent = lent (now (a .sheet)) (now (a .bank)) in
+    let told = c .enum-told2 .given .1 in
+    outcome-refused (now (a .bank)) (postStores (now (a .sheet)) (a .address) (now (a .bytes))) told
+    (front-refuses (checkRefusals given) (further given (a .address) (now (a .bytes))) (c .before .before .check .ensures) told)
 
--- src/lib.rt:96:9
 same-length-2 : tie.Need-same-length-2
 same-length-2 c = search needs
 
--- src/lib.rt:96:9
 returns-2 : tie.Need-returns-2
-unfolding postOutcome postAnswer firstCase
+unfolding postOutcome
 returns-2 c =
     let a = c .before .before .before .before .before .before .before .before .args in
-    let check = c .before .before .before .judged in
-    outcome-refused (postAnswer (now (a .sheet)) (now (a .bank)) (a .address) (now (a .bytes))) (now (a .bank))
-    (postStores (now (a .sheet)) (a .address) (now (a .bytes))) BadInput
-    (check-passes (now (a .sheet)) (now (a .bank)) (check .result) (check .ensures) (further (now (a .sheet)) (a .address) (now (a .bytes))) (c .before .enum-told .given .1)
-    ∙ simp (eq-eqb (length (now (a .bytes))) 0 (c .if1 .taken)))
-    refl
+    outcome-refused (now (a .bank)) (postStores (now (a .sheet)) (a .address) (now (a .bytes))) refl
+    (bytes-refused (lent (now (a .sheet)) (now (a .bank))) (a .address) (now (a .bytes)) (c .before .before .before .check .ensures) (c .before .enum-told .given .1)
+    (simp (eq-eqb (length (now (a .bytes))) 0 (c .if1 .taken))))
 
--- src/lib.rt:99:9
 same-length-3 : tie.Need-same-length-3
 same-length-3 c = search needs
 
--- src/lib.rt:99:9
 returns-3 : tie.Need-returns-3
-unfolding postOutcome postAnswer firstCase
+unfolding postOutcome
 returns-3 c =
     let a = c .before .before .before .before .before .before .before .before .before .args in
-    let check = c .before .before .before .before .judged in
-    outcome-refused (postAnswer (now (a .sheet)) (now (a .bank)) (a .address) (now (a .bytes))) (now (a .bank))
-    (postStores (now (a .sheet)) (a .address) (now (a .bytes))) BadInput
-    (check-passes (now (a .sheet)) (now (a .bank)) (check .result) (check .ensures) (further (now (a .sheet)) (a .address) (now (a .bytes))) (c .before .before .enum-told .given .1)
-    ∙ simp (ne-eqb (length (now (a .bytes))) 0 (c .before .if1 .left), eq-eqb (length (now (a .bytes)) % 2) 1 (c .if2 .taken)))
-    refl
+    outcome-refused (now (a .bank)) (postStores (now (a .sheet)) (a .address) (now (a .bytes))) refl
+    (bytes-refused (lent (now (a .sheet)) (now (a .bank))) (a .address) (now (a .bytes)) (c .before .before .before .before .check .ensures) (c .before .before .enum-told .given .1)
+    (simp (ne-eqb (length (now (a .bytes))) 0 (c .before .if1 .left), eq-eqb (length (now (a .bytes)) % 2) 1 (c .if2 .taken))))
 
--- src/lib.rt:101:9
 all-read-only-requires : tie.Need-all-read-only-requires
 all-read-only-requires c κs = search needs
 
--- src/lib.rt:102:9
 same-length-4 : tie.Need-same-length-4
 same-length-4 c = search needs
 
--- src/lib.rt:102:9
 returns-4 : tie.Need-returns-4
-unfolding postOutcome postAnswer firstCase
+unfolding postOutcome
 returns-4 c =
     let a = c .before .before .before .before .before .before .before .before .before .before .before .args in
-    let check = c .before .before .before .before .before .before .judged in
-    outcome-refused (postAnswer (now (a .sheet)) (now (a .bank)) (a .address) (now (a .bytes))) (now (a .bank))
-    (postStores (now (a .sheet)) (a .address) (now (a .bytes))) NotReadOnly
-    (check-passes (now (a .sheet)) (now (a .bank)) (check .result) (check .ensures) (further (now (a .sheet)) (a .address) (now (a .bytes))) (c .before .before .before .before .enum-told .given .1)
-    ∙ simp (
-      ne-eqb (length (now (a .bytes))) 0 (c .before .before .before .if1 .left),
-      ne-eqb (length (now (a .bytes)) % 2) 1 (c .before .before .if2 .left),
-      sym (c .before .all-read-only .ensures) ∙ not-true (c .before .all-read-only .result) (c .if3 .taken),
-    ))
-    refl
+    outcome-refused (now (a .bank)) (postStores (now (a .sheet)) (a .address) (now (a .bytes))) refl
+    (address-refused (lent (now (a .sheet)) (now (a .bank))) (a .address) (now (a .bytes)) (c .before .before .before .before .before .before .check .ensures) (c .before .before .before .before .enum-told .given .1)
+    (simp (ne-eqb (length (now (a .bytes))) 0 (c .before .before .before .if1 .left), ne-eqb (length (now (a .bytes)) % 2) 1 (c .before .before .if2 .left)))
+    (refused (c .before .all-read-only .ensures) (c .if3 .taken)))
 
--- src/lib.rt:104:5
 store-posted-requires : tie.Need-store-posted-requires
 store-posted-requires c κs =
     let a = c .before .before .before .before .before .before .before .before .before .before .before .before .args in
-    let d = c .before in
     let n = length (now (a .bytes)) in
-    let some : _<_ 0 (n / 2) = omega (arith, d .before .before .before .if1 .left, d .before .before .if2 .left) in
+    let some : _<_ 0 (n / 2) = omega (arith, c .before .before .before .before .if1 .left, c .before .before .before .if2 .left) in
     read-only-run (now (a .sheet)) (λ i. c .before .before .before .before .before .before .before .before .before .before .before .shared-slice-known .given i .fits) (a .address) (n / 2) some
-    (sym (d .before .all-read-only .ensures) ∙ not-false (d .before .all-read-only .result) (d .if3 .left))
+    (passed (c .before .before .all-read-only .ensures) (c .before .if3 .left))
 
--- src/lib.rt:88:1
 same-length-5 : tie.Need-same-length-5
 same-length-5 c = search needs
 
--- src/lib.rt:88:1
 returns-5 : tie.Need-returns-5
-unfolding postOutcome postAnswer firstCase
+unfolding postOutcome
 returns-5 c =
     let a = c .before .before .before .before .before .before .before .before .before .before .before .before .before .before .before .args in
     let d = c .before .before .before .before in
-    let check = d .before .before .before .before .before .before .judged in
-    outcome-done (postAnswer (now (a .sheet)) (now (a .bank)) (a .address) (now (a .bytes))) (now (a .bank))
-    (postStores (now (a .sheet)) (a .address) (now (a .bytes))) (c .before .before .store-posted .last .1 .0)
-    (check-passes (now (a .sheet)) (now (a .bank)) (check .result) (check .ensures) (further (now (a .sheet)) (a .address) (now (a .bytes))) (d .before .before .before .before .enum-told .given .1)
-    ∙ simp (
-      ne-eqb (length (now (a .bytes))) 0 (d .before .before .before .if1 .left),
-      ne-eqb (length (now (a .bytes)) % 2) 1 (d .before .before .if2 .left),
-      sym (d .before .all-read-only .ensures) ∙ not-false (d .before .all-read-only .result) (d .if3 .left),
-    ))
+    outcome-done (now (a .bank)) (postStores (now (a .sheet)) (a .address) (now (a .bytes)))
+    (post-passes (lent (now (a .sheet)) (now (a .bank))) (a .address) (now (a .bytes)) (d .before .before .before .before .before .before .check .ensures) (d .before .before .before .before .enum-told .given .1)
+    (simp (ne-eqb (length (now (a .bytes))) 0 (d .before .before .before .if1 .left), ne-eqb (length (now (a .bytes)) % 2) 1 (d .before .before .if2 .left)))
+    (passed (d .before .all-read-only .ensures) (d .if3 .left)))
     (c .before .before .store-posted .ensures)
 
 pub post-spec : {M : Type 1} → statement M
 post-spec =
     tie.close
     (tie.spec
-    judged-requires
+    check-requires
     enum-told
+    enum-told-2
     same-length
     returns
     same-length-2

@@ -1,29 +1,25 @@
 -- `cedarskein::cedarskein_bank_fresh` meets its contract: the number of the answer, and the bank as the call leaves it.
 -- Assumes nothing.
 use denote.Ref.{now}
-use Rattle.bank_rules.specs.Calls.{freshOutcome}
+use Rattle.bank_rules.specs.Calls.{lent, freshOutcome}
 use Rattle.cedarskein.proofs.Telling.{number-told}
 use borrow.Author.Needs.{needs}
 use Rattle.cedarskein.proofs.cedarskein_bank_fresh.Statement.{statement}
 use Rattle.cedarskein.proofs.cedarskein_bank_fresh.Tie as tie
 
--- src/lib.rt:59:24
 fresh-requires : tie.Need-fresh-requires
 fresh-requires c κs = search needs
 
--- src/lib.rt:59:5
 of-answer-requires : tie.Need-of-answer-requires
 of-answer-requires c κs = search needs
 
--- src/lib.rt:55:1
 same-length : tie.Need-same-length
 same-length c = search needs
 
--- src/lib.rt:55:1
 returns : tie.Need-returns
 returns c =
     let a = c .before .before .before .before .before .before .before .args in
-    number-told (c .before .before .before .fresh .result) (c .before .before .before .fresh .last .1 .0) (freshOutcome (now (a .sheet)) (now (a .bank))) (c .before .before .before .fresh .ensures) (c .of-answer .ensures)
+    number-told (c .before .before .before .fresh .result) (c .before .before .before .fresh .last .1 .0) (freshOutcome (lent (now (a .sheet)) (now (a .bank)))) (c .before .before .before .fresh .ensures) (c .of-answer .ensures)
 
 pub cedarskein-bank-fresh-spec : {M : Type 1} → statement M
 cedarskein-bank-fresh-spec =

@@ -6,15 +6,12 @@ use borrow.Author.Needs.{needs}
 use Rattle.cedarskein.proofs.cedarskein_check_take.Statement.{statement}
 use Rattle.cedarskein.proofs.cedarskein_check_take.Tie as tie
 
--- src/lib.rt:27:5
 take-requires : tie.Need-take-requires
 take-requires c κs = search needs
 
--- src/lib.rt:27:5
 value-requires : tie.Need-value-requires
 value-requires c κs = search needs
 
--- src/lib.rt:22:1
 returns : tie.Need-returns
 returns c = c .value .ensures ∙ ap (λ (k : Check). k .state) (c .before .take .ensures)
 
