@@ -8,3 +8,4 @@ pub mod Outcomes
 pub mod Written
 pub mod Keeping
 pub mod Soundness
+pub mod FrameLimits
