@@ -1,8 +1,18 @@
 # Cedarskein: `make test` is the whole verdict. `make` alone says what there is.
 KIT := rattle-kit-5b logic 064da1ca440f63e7
-# For `make meter`: the file of its sheet, and another name for its line.
-SHEET := sheets/ux15_25.sheet
+# For `make meter`: its sheet, by the name of a file or the short name of one in sheets/, and another name for its line.
+SHEET := ux15_25
 LINK :=
+export SHEET LINK
+include host/toolchain.mk
+
+# The names that were given on the command line. Make lets one pass that nobody uses, or that is empty, and the user wonders: so a target that takes
+# names says which, and these two are told. The toolchain's own may always be given.
+GIVEN := $(foreach name,$(.VARIABLES),$(if $(filter command,$(firstword $(origin $(name)))),$(name)))
+ALWAYS := KIT CC CXX NM GCOV RUN
+UNKNOWN = $(strip $(filter-out $(ALWAYS) $(1),$(GIVEN)))
+EMPTY = $(strip $(foreach name,$(filter $(1),$(GIVEN)),$(if $(strip $($(name))),,$(name))))
+takes = $(if $(UNKNOWN),$(error make $@ takes no $(UNKNOWN). It takes: $(1)))$(if $(EMPTY),$(error empty: $(EMPTY). Give each a name, or leave it out))
 
 .PHONY: help test kit claims layout built host compare coverage demo demo-check meter interop bench bench-record
 # Two runs of rt in one target/ would be in each other's way.
@@ -11,7 +21,7 @@ LINK :=
 help: kit
 	@echo "make demo      a new limit comes back with error 03: what is in the meter now, and why"
 	@echo "make test      the whole verdict: what docs/CLAIMS.md cites, the archive in C programs, then the gate: every proof, must-fail edit and program"
-	@echo "make meter     a simulated meter on a pseudo-terminal; SHEET=FILE is its sheet, LINK=NAME another name for its line"
+	@echo "make meter     a simulated meter on a pseudo-terminal; SHEET=NAME is its sheet, LINK=NAME another name for its line"
 	@echo "make interop   two Modbus masters, mbpoll and pymodbus's client, at the simulated meter"
 	@echo "make host      the archive in C programs, alone"
 	@echo "make compare   the archive against a second implementation in C, on 2,000,000 calls; make coverage: the branches that it takes"
@@ -31,6 +41,7 @@ layout:
 
 # What the C programs are linked with and compared to. `rt` says much, which is shown where it fails.
 built: kit
+	@mkdir -p target && test -w target || { echo "the folder target may not be written" >&2; exit 1; }
 	@said=$$(rt staticlib cedarskein 2>&1 && rt check sheet_files 2>&1) || { echo "$$said"; exit 1; }
 
 host: built
@@ -42,8 +53,10 @@ compare coverage: built
 demo demo-check interop: kit
 	@$(MAKE) -s -C demo $@
 
+# The meter is this make's own child: it ends well at Ctrl-C, and so no make has an error to tell of.
 meter: kit
-	@$(MAKE) -s -C demo meter SHEET=$(abspath $(SHEET)) LINK=$(abspath $(LINK))
+	@$(call takes,SHEET LINK)$(MAKE) -s -C demo meter-built
+	@exec demo/meter.sh $(RUN) target/demo/meter
 
 bench bench-record: built
 	@$(MAKE) -s -C bench $(@:bench-%=%)

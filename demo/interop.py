@@ -28,7 +28,7 @@ class Meter:
         self.folder = tempfile.TemporaryDirectory()
         self.link = os.path.join(self.folder.name, "meter")
         self.screen = open(os.path.join(self.folder.name, "screen"), "w+", encoding="ascii")
-        self.process = subprocess.Popen([*command, sheet, self.link], stdout=self.screen)
+        self.process = subprocess.Popen([*command, "-l", self.link, sheet], stdout=self.screen)
         self.wait_for_line()
 
     def __enter__(self):

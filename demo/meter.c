@@ -1,16 +1,16 @@
 /* A simulated meter: a pseudo-terminal that answers as the library does, with readings that change.
-   usage: meter SHEET [LINK]    LINK becomes a symbolic link to the pseudo-terminal as long as the meter runs */
+   usage: meter [-l LINK] SHEET    LINK becomes a symbolic link to the pseudo-terminal as long as the meter runs */
 #define _XOPEN_SOURCE 700
-#include <errno.h>
 #include <signal.h>
 #include <stdio.h>
+#include <stdlib.h>
 #include <string.h>
-#include <sys/stat.h>
 #include <time.h>
 #include <unistd.h>
 
 #include "cedarskein.h"
 #include "line.h"
+#include "link.h"
 #include "memory.h"
 #include "readings.h"
 #include "telling.h"
@@ -23,14 +23,19 @@ static void switch_off(int signal)
     switched_off = 1;
 }
 
-/* Ctrl-C and a plain kill end the wait for a frame, and with it the loop. */
+/* A signal ends the wait for a frame, and with it the loop: Ctrl-C, a plain kill, a terminal that is closed, a screen that nobody reads.
+   What nohup has made deaf stays deaf. */
 static void heed_signals(void)
 {
-    struct sigaction action;
+    static const int signals[] = { SIGINT, SIGTERM, SIGHUP, SIGPIPE };
+    struct sigaction action, before;
     memset(&action, 0, sizeof action);
     action.sa_handler = switch_off;
-    sigaction(SIGINT, &action, NULL);
-    sigaction(SIGTERM, &action, NULL);
+    for (size_t k = 0; k < sizeof signals / sizeof *signals; k++) {
+        sigaction(signals[k], &action, &before);
+        if (signals[k] == SIGHUP && before.sa_handler == SIG_IGN)
+            sigaction(signals[k], &before, NULL);
+    }
 }
 
 static long milliseconds(void)
@@ -90,45 +95,48 @@ static unsigned run(struct meter *meter, struct line *line)
     return frames;
 }
 
-/* A link that an earlier run left is replaced, any other file is not. */
-static int make_link(const char *name, const char *link)
-{
-    struct stat status;
-    if (lstat(link, &status) == 0 && S_ISLNK(status.st_mode))
-        unlink(link);
-    if (symlink(name, link) == 0)
-        return 0;
-    fprintf(stderr, "%s: %s\n", link, strerror(errno));
-    return 1;
-}
-
 /* A mark that is set gives a clear something to do; a sheet without function 05 has no use for it. */
 static void set_mark(struct meter *meter)
 {
     cedarskein_set_mark(meter->sheet, meter->sheet_n, meter->bank, meter->bank_n, 1);
 }
 
+struct names {
+    const char *sheet, *link;
+};
+
+/* The names of the command line. Says how it is used, and ends the program, where it is used otherwise. */
+static struct names names_given(int argc, char **argv)
+{
+    struct names names = { NULL, NULL };
+    int letter = getopt(argc, argv, "l:");
+    for (; letter == 'l'; letter = getopt(argc, argv, "l:"))
+        names.link = optarg;
+    if (letter != -1 || optind + 1 != argc) {
+        fprintf(stderr, "usage: meter [-l LINK] SHEET\n");
+        exit(1);
+    }
+    names.sheet = argv[optind];
+    return names;
+}
+
 int main(int argc, char **argv)
 {
     struct meter meter;
     struct line line;
-    const char *link = argc == 3 ? argv[2] : NULL;
-    if (argc != 2 && argc != 3) {
-        fprintf(stderr, "usage: meter SHEET [LINK]\n");
-        return 1;
-    }
+    struct names names = names_given(argc, argv);
     setvbuf(stdout, NULL, _IOLBF, 0);
-    load_meter(&meter, argv[1]);
+    load_meter(&meter, names.sheet);
     set_mark(&meter);
     open_line(&line);
-    if (link && make_link(line.name, link) != 0)
-        return 1;
     heed_signals();
-    printf("meter on %s, station %u at %s, 8 data bits, no parity, 1 stop bit; Ctrl-C ends it\n", link ? link : line.name,
+    if (names.link && make_link(line.name, names.link) != 0)
+        return 1;
+    printf("meter on %s, station %u at %s, 8 data bits, no parity, 1 stop bit; Ctrl-C ends it\n", names.link ? names.link : line.name,
            station_of(&meter), bit_rate(rate_of(&meter)));
     unsigned frames = run(&meter, &line);
-    if (link)
-        unlink(link);
+    if (names.link)
+        remove_link(line.name, names.link);
     printf("meter off after %u frames\n", frames);
     return 0;
 }
