@@ -32,9 +32,10 @@ kit:
 	@command -v rt >/dev/null || { echo "Rattle's command rt is not installed: this repository is proved with $(KIT)"; exit 1; }
 	@test "$$(rt version)" = "$(KIT)" || echo "note: this repository is proved with $(KIT); installed is $$(rt version)"
 
-# Every file and name that docs/CLAIMS.md cites is there.
+# Every file and name that docs/CLAIMS.md cites is there, and it leaves no public function and no must-fail edit out.
 claims:
 	@python3 tools/claims.py
+	@python3 tools/claims.py --missing
 
 layout:
 	@rt fmt --check

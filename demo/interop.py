@@ -8,6 +8,7 @@ Each step has its expected result. A step that comes out otherwise is shown with
 RUN is put in front of METER where it needs an emulator.
 """
 import argparse
+import contextlib
 import os
 import re
 import signal
@@ -27,26 +28,30 @@ class Meter:
     def __init__(self, command, sheet):
         self.folder = tempfile.TemporaryDirectory()
         self.link = os.path.join(self.folder.name, "meter")
-        self.screen = open(os.path.join(self.folder.name, "screen"), "w+", encoding="ascii")
-        self.process = subprocess.Popen([*command, "-l", self.link, sheet], stdout=self.screen)
-        self.wait_for_line()
+        self.screen = os.path.join(self.folder.name, "screen")
+        with open(self.screen, "w", encoding="ascii") as screen:
+            self.process = subprocess.Popen([*command, "-l", self.link, sheet], stdout=screen)
 
     def __enter__(self):
+        self.wait_for_line()
         return self
 
     def __exit__(self, *_):
         if self.process.poll() is None:
             self.process.kill()
+            self.process.wait()
+        self.folder.cleanup()
 
     def wait_for_line(self):
         deadline = time.monotonic() + 10
         while "meter on" not in self.lines()[-1]:
             if self.process.poll() is not None or time.monotonic() > deadline:
+                self.__exit__()
                 sys.exit("the simulated meter did not start")
             time.sleep(0.02)
 
     def lines(self):
-        with open(self.screen.name, encoding="ascii") as screen:
+        with open(self.screen, encoding="ascii") as screen:
             return screen.read().splitlines() or [""]
 
     def last_line(self):
@@ -208,17 +213,19 @@ def steps_of_master(master, meter):
     ]
 
 
+# Each part: the master that plays it, and its steps. The README's commands bring their own.
 PARTS = {
-    "mbpoll": lambda meter: steps_of_master(Mbpoll(meter.link), meter),
-    "pymodbus": lambda meter: steps_of_master(Pymodbus(meter.link), meter),
-    "README": steps_of_readme,
+    "mbpoll": (Mbpoll, steps_of_master),
+    "pymodbus": (Pymodbus, steps_of_master),
+    "README": (contextlib.nullcontext, lambda _, meter: steps_of_readme(meter)),
 }
 
 
 def play_part(name, command, sheet):
     """The steps of one part at a meter of its own: their texts, and the numbers of those that differ."""
-    with Meter(command, sheet) as meter:
-        steps = [*PARTS[name](meter), ("the meter is switched off", meter.switch_off, "status 0, link gone")]
+    master_of, steps_of = PARTS[name]
+    with Meter(command, sheet) as meter, master_of(meter.link) as master:
+        steps = [*steps_of(master, meter), ("the meter is switched off", meter.switch_off, "status 0, link gone")]
         return [f"{name}: {text}" for text, _, _ in steps], play(name, steps)
 
 

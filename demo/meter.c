@@ -5,7 +5,6 @@
 #include <stdio.h>
 #include <stdlib.h>
 #include <string.h>
-#include <time.h>
 #include <unistd.h>
 
 #include "cedarskein.h"
@@ -38,25 +37,18 @@ static void heed_signals(void)
     }
 }
 
-static long milliseconds(void)
-{
-    struct timespec now;
-    clock_gettime(CLOCK_MONOTONIC, &now);
-    return now.tv_sec * 1000L + now.tv_nsec / 1000000;
-}
-
 static void answer_frame(struct meter *meter, struct line *line, const uint8_t *frame, size_t n)
 {
     struct meter before = *meter;
-    uint8_t reply[LONGEST_FRAME];
+    uint8_t reply[CEDARSKEIN_LEAST_OUT];
     uint32_t length, rate;
     uint32_t number = cedarskein_answer(meter->sheet, meter->sheet_n, meter->bank, meter->bank_n, frame, n, reply, sizeof reply,
                                         &length, &rate);
-    if (number == 0) {
+    if (number == CEDARSKEIN_DONE) {
         /* Told ahead of sending it: a master that has the reply finds it on the screen. */
         tell_answer(&before, meter, reply, length, rate);
         send_reply(line, reply, length);
-    } else if (number == 1) {
+    } else if (number == CEDARSKEIN_SILENCE) {
         tell_silence(frame, n, station_of(meter));
     } else {
         printf("number %u: the meter is out of order\n", (unsigned)number);
@@ -76,7 +68,6 @@ static void hear_frame(struct meter *meter, struct line *line, const uint8_t *fr
 static unsigned run(struct meter *meter, struct line *line)
 {
     struct readings readings = { 0, 0 };
-    uint8_t frame[FRAME_ROOM];
     unsigned frames = 0;
     long next_second = milliseconds();
     while (!switched_off) {
@@ -85,10 +76,9 @@ static unsigned run(struct meter *meter, struct line *line)
             forget_old_reply(line);
             next_second += 1000;
         }
-        long patience = next_second - milliseconds();
-        size_t n = take_frame(line, frame, patience > 0 ? (int)patience : 0);
+        size_t n = take_frame(line, next_second - milliseconds());
         if (n > 0) {
-            hear_frame(meter, line, frame, n);
+            hear_frame(meter, line, line->frame, n);
             frames++;
         }
     }
@@ -130,13 +120,16 @@ int main(int argc, char **argv)
     set_mark(&meter);
     open_line(&line);
     heed_signals();
-    if (names.link && make_link(line.name, names.link) != 0)
+    if (names.link && make_link(line.name, names.link) != 0) {
+        close_line(&line);
         return 1;
+    }
     printf("meter on %s, station %u at %s, 8 data bits, no parity, 1 stop bit; Ctrl-C ends it\n", names.link ? names.link : line.name,
            station_of(&meter), bit_rate(rate_of(&meter)));
     unsigned frames = run(&meter, &line);
     if (names.link)
         remove_link(line.name, names.link);
+    close_line(&line);
     printf("meter off after %u frames\n", frames);
     return 0;
 }

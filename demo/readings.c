@@ -19,7 +19,7 @@
 static void post(struct meter *meter, unsigned address, const uint8_t *words, size_t count)
 {
     uint32_t number = cedarskein_post(meter->sheet, meter->sheet_n, meter->bank, meter->bank_n, address, words, 2 * count);
-    if (number != 0)
+    if (number != CEDARSKEIN_DONE)
         printf("posting at %04X handed back %u\n", address, (unsigned)number);
 }
 
@@ -56,7 +56,7 @@ static void post_ux(struct readings *readings, struct meter *meter)
 /* What the words of another sheet mean is not known here: each counts the seconds, from its place on. */
 static void post_count(const struct readings *readings, struct meter *meter, struct area area)
 {
-    uint8_t words[LARGEST_BANK];
+    uint8_t words[CEDARSKEIN_LONGEST_BANK];
     unsigned count = area.last - area.first + 1;
     for (unsigned k = 0; k < count; k++)
         store_word(words, k, (readings->second + area.place + k) & 0xFFFF);
@@ -66,7 +66,7 @@ static void post_count(const struct readings *readings, struct meter *meter, str
 static void post_counts(const struct readings *readings, struct meter *meter)
 {
     for (unsigned k = 0; k < area_count(meter); k++)
-        if (area_at(meter, k).access == 1)
+        if (area_at(meter, k).access == READ_ONLY_AREA)
             post_count(readings, meter, area_at(meter, k));
 }
 

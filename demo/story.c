@@ -6,8 +6,6 @@
 #include "cedarskein.h"
 #include "memory.h"
 
-#define LONGEST_FRAME 100
-
 struct register_name {
     const char *address;
     const char *name;
@@ -36,7 +34,7 @@ static const struct register_name NAMES[] = {
 };
 
 static struct meter meter;
-static uint8_t reply[LONGEST_FRAME];
+static uint8_t reply[CEDARSKEIN_LEAST_OUT];
 
 static const char *name_of(const char *line)
 {
@@ -91,9 +89,9 @@ static void send_frame(const uint8_t *frame, size_t n)
     tell_bytes(">", frame, n);
     uint32_t number = cedarskein_answer(meter.sheet, meter.sheet_n, meter.bank, meter.bank_n, frame, n, reply, sizeof reply,
                                         &length, &rate);
-    if (number == 0)
+    if (number == CEDARSKEIN_DONE)
         tell_bytes("<", reply, length);
-    else if (number == 1)
+    else if (number == CEDARSKEIN_SILENCE)
         printf("  < silence\n");
     else
         printf("  < number %u\n", (unsigned)number);
@@ -101,7 +99,7 @@ static void send_frame(const uint8_t *frame, size_t n)
 
 static void ask(const char *hex)
 {
-    uint8_t frame[LONGEST_FRAME];
+    uint8_t frame[CEDARSKEIN_LONGEST_FRAME];
     send_frame(frame, add_check(frame, from_hex(frame, hex)));
 }
 
@@ -170,8 +168,8 @@ static void tell_half_way(void)
 
 static void tell_silence(void)
 {
-    uint8_t before[LARGEST_BANK];
-    uint8_t damaged[LONGEST_FRAME];
+    uint8_t before[CEDARSKEIN_LONGEST_BANK];
+    uint8_t damaged[CEDARSKEIN_LONGEST_FRAME];
     memcpy(before, meter.bank, meter.bank_n);
     printf("\n5. Frames that the meter does not answer\n");
     size_t n = add_check(damaged, from_hex(damaged, "01 06 01 04 13 88"));

@@ -30,7 +30,7 @@ void tell_frame(const uint8_t *frame, size_t n)
     if (form)
         snprintf(text, sizeof text, form, word_at(frame, 1), word_at(frame, 2));
     else
-        snprintf(text, sizeof text, n > LONGEST_FRAME ? "over 100 bytes" : "%zu bytes", n);
+        snprintf(text, sizeof text, n > CEDARSKEIN_LONGEST_FRAME ? "too many bytes" : "%zu bytes", n);
     if (n < 2)
         printf("%-38s", text);
     else
@@ -46,8 +46,8 @@ void tell_silence(const uint8_t *frame, size_t n, unsigned station)
 {
     if (n < 4)
         printf("silence: under 4 bytes\n");
-    else if (n > LONGEST_FRAME)
-        printf("silence: over 100 bytes\n");
+    else if (n > CEDARSKEIN_LONGEST_FRAME)
+        printf("silence: over %d bytes\n", CEDARSKEIN_LONGEST_FRAME);
     else if (!check_agrees(frame, n))
         printf("silence: the check does not agree\n");
     else if (frame[0] != station)
