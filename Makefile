@@ -14,7 +14,7 @@ UNKNOWN = $(strip $(filter-out $(ALWAYS) $(1),$(GIVEN)))
 EMPTY = $(strip $(foreach name,$(filter $(1),$(GIVEN)),$(if $(strip $($(name))),,$(name))))
 takes = $(if $(UNKNOWN),$(error make $@ takes no $(UNKNOWN). It takes: $(1)))$(if $(EMPTY),$(error empty: $(EMPTY). Give each a name, or leave it out))
 
-.PHONY: help test kit claims layout built host compare coverage demo demo-check meter interop bench bench-record
+.PHONY: help test kit claims layout registers registers-check built host compare coverage demo demo-check meter interop bench bench-record
 # Two runs of rt in one target/ would be in each other's way.
 .NOTPARALLEL:
 
@@ -23,6 +23,7 @@ help: kit
 	@echo "make test      the whole verdict: what docs/CLAIMS.md cites, the archive in C programs, then the gate: every proof, must-fail edit and program"
 	@echo "make meter     a simulated meter on a pseudo-terminal; SHEET=NAME is its sheet, LINK=NAME another name for its line"
 	@echo "make interop   two Modbus masters, mbpoll and pymodbus's client, at the simulated meter"
+	@echo "make registers the makers' registers by name: docs/REGISTERS.md, sheets/registers.csv, constants of C, from the sheets and tools/registers.txt"
 	@echo "make host      the archive in C programs, alone"
 	@echo "make compare   the archive against a second implementation in C, on 2,000,000 calls; make coverage: the branches that it takes"
 	@echo "make bench     what a call costs, beside the same functions by hand in C; make bench-record writes it into docs/BENCH.md"
@@ -39,6 +40,13 @@ claims:
 
 layout:
 	@rt fmt --check
+
+# The makers' registers by name. What is committed is what the script makes of the sheets and its list; it needs no archive.
+registers:
+	@python3 tools/registers.py
+
+registers-check:
+	@python3 tools/registers.py --check
 
 # What the C programs are linked with and compared to. `rt` says much, which is shown where it fails.
 built: kit
@@ -63,5 +71,5 @@ bench bench-record: built
 	@$(MAKE) -s -C bench $(@:bench-%=%)
 
 # The gate removes target/, so the C programs come before it. Its last line is the verdict's.
-test: kit claims layout host demo-check
+test: kit claims layout registers-check host demo-check
 	@exec rt ci

@@ -185,7 +185,7 @@ def steps_of_readme(meter):
     with open(README, encoding="utf-8") as page:
         text = page.read().partition("## Talk to a simulated meter\n")[2].partition("\n## ")[0]
     commands = re.findall(r"^    \$ (mbpoll .*)\n((?:    (?!\$).*\n)*)", text, re.M)
-    screen = re.findall(r"^    (station .*)$", text, re.M)
+    screen = re.findall(r"^    (station .*|        +[0-9A-F]{4} .*)$", text, re.M)
     if not commands or not screen:
         sys.exit("README.md shows no mbpoll command at the simulated meter, or nothing of its screen")
     return [

@@ -63,6 +63,14 @@ struct area area_at(const struct meter *meter, unsigned number)
     return area;
 }
 
+unsigned place_of(const struct meter *meter, unsigned address)
+{
+    unsigned number = 0;
+    while (number + 1 < area_count(meter) && area_at(meter, number + 1).first <= address)
+        number++;
+    return area_at(meter, number).place + address - area_at(meter, number).first;
+}
+
 unsigned bank_word_count(const struct meter *meter)
 {
     return word_at(meter->sheet, BANK_WORDS);

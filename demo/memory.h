@@ -31,6 +31,9 @@ void store_word(uint8_t *bytes, size_t number, unsigned word);
 unsigned area_count(const struct meter *meter);
 struct area area_at(const struct meter *meter, unsigned number);
 
+/* The place of an address that lies in an area. */
+unsigned place_of(const struct meter *meter, unsigned address);
+
 /* The bank's words; behind the last of them is the mark. */
 unsigned bank_word_count(const struct meter *meter);
 unsigned station_of(const struct meter *meter);

@@ -46,7 +46,8 @@ static void answer_frame(struct meter *meter, struct line *line, const uint8_t *
                                         &length, &rate);
     if (number == CEDARSKEIN_DONE) {
         /* Told ahead of sending it: a master that has the reply finds it on the screen. */
-        tell_answer(&before, meter, reply, length, rate);
+        struct exchange exchange = { frame, n, reply, length, rate };
+        tell_answer(&before, meter, &exchange);
         send_reply(line, reply, length);
     } else if (number == CEDARSKEIN_SILENCE) {
         tell_silence(frame, n, station_of(meter));
@@ -67,7 +68,7 @@ static void hear_frame(struct meter *meter, struct line *line, const uint8_t *fr
 
 static unsigned run(struct meter *meter, struct line *line)
 {
-    struct readings readings = { 0, 0 };
+    struct readings readings = begin_readings(meter);
     unsigned frames = 0;
     long next_second = milliseconds();
     while (!switched_off) {

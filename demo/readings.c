@@ -4,17 +4,17 @@
 #include <stdio.h>
 #include <string.h>
 
-#include "cedarskein.h"
+#include "cedarskein_registers.h"
 #include "cedarskein_sheets.h"
 
 /* The flow rises for five minutes and falls for five. */
 #define HALF_WAVE 300
 
-/* What the Positive integration value counted before the start, in 0.01 m3. */
-#define POSITIVE_BEFORE 1234567
+/* What the meter had counted before it was first switched on, in 0.01 m3. */
+#define COUNTED_BEFORE 1234567
 
-/* The place of 0110, the Used gas pressure set value, in the bank of UX15/25. */
-#define PLACE_OF_PRESSURE 0x10
+/* The words of both makers' readings, and what AS-WE reads besides the flow, in its steps. */
+enum { UX_WORDS = 11, ASWE_WORDS = 16, ASWE_PRESSURE = 20130, ASWE_SOUND_VELOCITY = 43000 };
 
 static void post(struct meter *meter, unsigned address, const uint8_t *words, size_t count)
 {
@@ -29,28 +29,60 @@ static unsigned wave(unsigned second)
     return phase < HALF_WAVE ? phase : 2 * HALF_WAVE - phase;
 }
 
-/* The six bytes of an integration value, upper word first. */
-static void store_integration(uint8_t *words, size_t number, uint64_t value)
+/* In 0.01 m3/h and in 0.1 degrees. */
+static unsigned flow_at(unsigned second)
 {
-    store_word(words, number, (unsigned)(value >> 32) & 0xFFFF);
-    store_word(words, number + 1, (unsigned)(value >> 16) & 0xFFFF);
-    store_word(words, number + 2, (unsigned)value & 0xFFFF);
+    return 200 + 2 * wave(second);
 }
 
-/* 0200 to 020A as document 001 has them, section 7.2.3. */
-static void post_ux(struct readings *readings, struct meter *meter)
+static unsigned temperature_at(unsigned second)
 {
-    uint8_t words[22];
-    unsigned flow = 200 + 2 * wave(readings->second);
-    readings->flowed += flow;
-    store_word(words, 0, 0);                                            /* 0200, 0201 instantaneous flow rate, 0.01 m3/h */
-    store_word(words, 1, flow);
-    store_word(words, 2, word_at(meter->bank, PLACE_OF_PRESSURE));      /* 0202 pressure: the one set at 0110, 0.01 kPa */
-    store_word(words, 3, 150 + wave(readings->second) / 10);            /* 0203 temperature, 0.1 degrees */
-    store_integration(words, 4, POSITIVE_BEFORE + readings->flowed / 3600); /* 0204 to 0206 positive integration value, 0.01 m3 */
-    store_integration(words, 7, readings->flowed / 3600);               /* 0207 to 0209 trip integration value */
-    store_word(words, 10, 0);                                           /* 020A error information: none */
-    post(meter, 0x0200, words, 11);
+    return 150 + wave(second) / 10;
+}
+
+/* A value over so many words from an address on, upper word first. `words` are those from the address `first` on. */
+static void store_value(uint8_t *words, unsigned first, unsigned address, unsigned count, uint64_t value)
+{
+    for (unsigned k = 0; k < count; k++)
+        store_word(words, address - first + k, (unsigned)(value >> 16 * (count - 1 - k)) & 0xFFFF);
+}
+
+static uint64_t bank_value(const struct meter *meter, unsigned address, unsigned count)
+{
+    uint64_t value = 0;
+    for (unsigned k = 0; k < count; k++)
+        value = value << 16 | word_at(meter->bank, place_of(meter, address + k));
+    return value;
+}
+
+/* As document 001, 7.2.3, has them. The gas pressure is the one that is set. */
+static void post_ux(const struct readings *readings, struct meter *meter)
+{
+    uint8_t words[2 * UX_WORDS] = { 0 };
+    uint64_t trip = readings->flowed / 3600;
+    unsigned first = CEDARSKEIN_UX_FLOW;
+    store_value(words, first, CEDARSKEIN_UX_FLOW, 2, flow_at(readings->second));
+    store_value(words, first, CEDARSKEIN_UX_GAS_PRESSURE, 1, bank_value(meter, CEDARSKEIN_UX_GAS_PRESSURE_SETTING, 1));
+    store_value(words, first, CEDARSKEIN_UX_TEMPERATURE, 1, temperature_at(readings->second));
+    store_value(words, first, CEDARSKEIN_UX_TOTAL_VOLUME, 3, readings->before_trip + trip);
+    store_value(words, first, CEDARSKEIN_UX_TRIP_VOLUME, 3, trip);
+    post(meter, first, words, UX_WORDS);
+}
+
+/* As document 003, 3-2, has them: volumes in 0.1 m3, the temperature in 0.01 degrees. Actual and compensated flow are the same here. */
+static void post_aswe(const struct readings *readings, struct meter *meter)
+{
+    uint8_t words[2 * ASWE_WORDS] = { 0 };
+    uint64_t volume = (readings->before_trip + readings->flowed / 3600) / 10;
+    unsigned first = CEDARSKEIN_ASWE_ACTUAL_FLOW;
+    store_value(words, first, CEDARSKEIN_ASWE_ACTUAL_FLOW, 2, flow_at(readings->second));
+    store_value(words, first, CEDARSKEIN_ASWE_COMPENSATED_FLOW, 2, flow_at(readings->second));
+    store_value(words, first, CEDARSKEIN_ASWE_PRESSURE, 2, ASWE_PRESSURE);
+    store_value(words, first, CEDARSKEIN_ASWE_TEMPERATURE, 2, 10 * temperature_at(readings->second));
+    store_value(words, first, CEDARSKEIN_ASWE_FORWARD_ACTUAL_VOLUME, 2, volume);
+    store_value(words, first, CEDARSKEIN_ASWE_FORWARD_COMPENSATED_VOLUME, 2, volume);
+    store_value(words, first, CEDARSKEIN_ASWE_SOUND_VELOCITY, 1, ASWE_SOUND_VELOCITY);
+    post(meter, first, words, ASWE_WORDS);
 }
 
 /* What the words of another sheet mean is not known here: each counts the seconds, from its place on. */
@@ -70,16 +102,44 @@ static void post_counts(const struct readings *readings, struct meter *meter)
             post_count(readings, meter, area_at(meter, k));
 }
 
+static int has_sheet(const struct meter *meter, const uint8_t *sheet, size_t n)
+{
+    return meter->sheet_n == n && memcmp(meter->sheet, sheet, n) == 0;
+}
+
 static int is_ux(const struct meter *meter)
 {
-    return meter->sheet_n == CEDARSKEIN_UX_SHEET_SIZE && memcmp(meter->sheet, cedarskein_ux_sheet, meter->sheet_n) == 0;
+    return has_sheet(meter, cedarskein_ux_sheet, sizeof cedarskein_ux_sheet);
+}
+
+static int is_aswe(const struct meter *meter)
+{
+    return has_sheet(meter, cedarskein_aswe_40_sheet, sizeof cedarskein_aswe_40_sheet)
+        || has_sheet(meter, cedarskein_aswe_50_sheet, sizeof cedarskein_aswe_50_sheet)
+        || has_sheet(meter, cedarskein_aswe_80_sheet, sizeof cedarskein_aswe_80_sheet);
+}
+
+struct readings begin_readings(const struct meter *meter)
+{
+    struct readings readings = { 0, COUNTED_BEFORE, 0 };
+    uint64_t total = is_ux(meter) ? bank_value(meter, CEDARSKEIN_UX_TOTAL_VOLUME, 3)
+                   : is_aswe(meter) ? 10 * bank_value(meter, CEDARSKEIN_ASWE_FORWARD_ACTUAL_VOLUME, 2) : 0;
+    uint64_t trip = is_ux(meter) ? bank_value(meter, CEDARSKEIN_UX_TRIP_VOLUME, 3) : 0;
+    if (total > 0) {
+        readings.before_trip = total - trip;
+        readings.flowed = 3600 * trip;
+    }
+    return readings;
 }
 
 void post_next_second(struct readings *readings, struct meter *meter)
 {
     readings->second++;
+    readings->flowed += flow_at(readings->second);
     if (is_ux(meter))
         post_ux(readings, meter);
+    else if (is_aswe(meter))
+        post_aswe(readings, meter);
     else
         post_counts(readings, meter);
 }
