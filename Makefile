@@ -1,9 +1,10 @@
 # Cedarskein: `make test` is the whole verdict. `make` alone says what there is.
 KIT := rattle-kit-5b logic 064da1ca440f63e7
-# For `make meter`: its sheet, by the name of a file or the short name of one in sheets/, and another name for its line.
+# For `make meter`: its sheet, by the name of a file or the short name of one in sheets/; another name for its line; the file that keeps its bank.
 SHEET := ux15_25
 LINK :=
-export SHEET LINK
+BANK :=
+export SHEET LINK BANK
 include host/toolchain.mk
 
 # The names that were given on the command line. Make lets one pass that nobody uses, or that is empty, and the user wonders: so a target that takes
@@ -21,7 +22,7 @@ takes = $(if $(UNKNOWN),$(error make $@ takes no $(UNKNOWN). It takes: $(1)))$(i
 help: kit
 	@echo "make demo      a new limit comes back with error 03: what is in the meter now, and why"
 	@echo "make test      the whole verdict: what docs/CLAIMS.md cites, the archive in C programs, then the gate: every proof, must-fail edit and program"
-	@echo "make meter     a simulated meter on a pseudo-terminal; SHEET=NAME is its sheet, LINK=NAME another name for its line"
+	@echo "make meter     a simulated meter on a pseudo-terminal; SHEET=NAME is its sheet, LINK=NAME another name for its line, BANK=FILE keeps its bank"
 	@echo "make interop   two Modbus masters, mbpoll and pymodbus's client, at the simulated meter"
 	@echo "make registers the makers' registers by name: docs/REGISTERS.md, sheets/registers.csv, constants of C, from the sheets and tools/registers.txt"
 	@echo "make host      the archive in C programs, alone"
@@ -64,7 +65,7 @@ demo demo-check interop: kit
 
 # The meter is this make's own child: it ends well at Ctrl-C, and so no make has an error to tell of.
 meter: kit
-	@$(call takes,SHEET LINK)$(MAKE) -s -C demo meter-built
+	@$(call takes,SHEET LINK BANK)$(MAKE) -s -C demo meter-built
 	@exec demo/meter.sh $(RUN) target/demo/meter
 
 bench bench-record: built

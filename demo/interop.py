@@ -23,14 +23,19 @@ README = os.path.join(os.path.dirname(os.path.abspath(__file__)), "..", "README.
 
 
 class Meter:
-    """The simulated meter, with a fresh bank, on a line named by a link."""
+    """The simulated meter, with a bank that is fresh at first and kept in a file, on a line named by a link."""
 
     def __init__(self, command, sheet):
         self.folder = tempfile.TemporaryDirectory()
-        self.link = os.path.join(self.folder.name, "meter")
         self.screen = os.path.join(self.folder.name, "screen")
+        self.command = [*command, "-b", os.path.join(self.folder.name, "bank")]
+        self.sheet = sheet
+        self.start("meter")
+
+    def start(self, name):
+        self.link = os.path.join(self.folder.name, name)
         with open(self.screen, "w", encoding="ascii") as screen:
-            self.process = subprocess.Popen([*command, "-l", self.link, sheet], stdout=screen)
+            self.process = subprocess.Popen([*self.command, "-l", self.link, self.sheet], stdout=screen)
 
     def __enter__(self):
         self.wait_for_line()
@@ -63,6 +68,13 @@ class Meter:
         status = self.process.wait(timeout=10)
         link = "link left behind" if os.path.lexists(self.link) else "link gone"
         return f"status {status}, {link}"
+
+    def switch_off_and_on(self):
+        """The same bank on another line: how the meter ended before."""
+        said = self.switch_off()
+        self.start("meter again")
+        self.wait_for_line()
+        return said
 
 
 def judge_readings(said):
@@ -173,6 +185,23 @@ def steps_of_station_and_rate(master):
     ]
 
 
+def at_new_line(master, meter, deed):
+    master.link = meter.link
+    return deed()
+
+
+def steps_of_keeping(master, meter):
+    def read():
+        return master.read(0x0103, 2)
+
+    return [
+        ("0103 = 0000 03E8, a pair", lambda: master.write(0x0103, 0x0000, 0x03E8), "done"),
+        ("010E = 0007, the station", lambda: master.write(0x010E, 0x0007), "done"),
+        ("the meter is switched off and on", meter.switch_off_and_on, "status 0, link gone"),
+        (".. at station 7 it has 0000 03E8 still", lambda: at_new_line(master, meter, lambda: at_station(master, 7, read)), "0000 03E8"),
+    ]
+
+
 def run_command(command, link):
     """What a command of the README writes at this meter, its blanks made one."""
     done = subprocess.run(command.replace("/tmp/meter", link).split(), stdout=subprocess.PIPE, stderr=subprocess.STDOUT, text=True,
@@ -217,6 +246,7 @@ def steps_of_master(master, meter):
 PARTS = {
     "mbpoll": (Mbpoll, steps_of_master),
     "pymodbus": (Pymodbus, steps_of_master),
+    "kept": (Mbpoll, steps_of_keeping),
     "README": (contextlib.nullcontext, lambda _, meter: steps_of_readme(meter)),
 }
 

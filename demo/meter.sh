@@ -1,6 +1,6 @@
 #!/bin/sh
-# Runs the simulated meter with the sheet and the link that `make meter` was given, from the repository's root:
-#   meter.sh METER..    the words that start the meter. SHEET and LINK come by the environment, since a name may have blanks.
+# Runs the simulated meter with the sheet, the link and the bank's file that `make meter` was given, from the repository's root:
+#   meter.sh METER..    the words that start the meter. SHEET, LINK and BANK come by the environment, since a name may have blanks.
 
 # The file of a sheet, by its own name or as one of sheets/ by its short name.
 find_sheet() {
@@ -24,4 +24,5 @@ if [ -z "$sheet" ]; then
     exit 1
 fi
 [ -z "$LINK" ] || set -- "$@" -l "$LINK"
-exec "$@" "$sheet"
+[ -z "$BANK" ] || set -- "$@" -b "$BANK"
+exec "$@" -- "$sheet"
