@@ -31,7 +31,8 @@ help: kit
 
 # The proofs are held to one kit. Another may well prove them too, but its verdict is not the one recorded here.
 kit:
-	@command -v rt >/dev/null || { echo "Rattle's command rt is not installed: this repository is proved with $(KIT)"; exit 1; }
+	@command -v rt >/dev/null || { echo "Rattle's command rt is not installed: this repository is proved with $(KIT)." \
+		"README.md says where it comes from, and what to do without it" >&2; exit 1; }
 	@test "$$(rt version)" = "$(KIT)" || echo "note: this repository is proved with $(KIT); installed is $$(rt version)"
 
 # Every file and name that docs/CLAIMS.md cites is there, and it leaves no public function and no must-fail edit out.

@@ -209,8 +209,23 @@ def run_command(command, link):
     return " ".join(done.stdout.split())
 
 
+def between(text, marker):
+    """The lines of a fenced block of the README that stands between <!-- marker --> and <!-- end -->."""
+    found = re.search(rf"^<!-- {marker} -->\n```\w*\n(.*?)^```\n<!-- end -->$", text, re.M | re.S)
+    if not found:
+        sys.exit(f"README.md has no block {marker}")
+    return found.group(1)
+
+
+def run_program(program, link):
+    """What a Python program of the README prints at this meter."""
+    done = subprocess.run([sys.executable, "-c", program.replace("/tmp/meter", link)], stdout=subprocess.PIPE, stderr=subprocess.STDOUT, text=True,
+                          check=False)
+    return done.stdout
+
+
 def steps_of_readme(meter):
-    """The README's commands with what it shows below each, and the lines that it shows of the meter's screen."""
+    """The README's commands with what it shows below each, the lines that it shows of the meter's screen, and its program."""
     with open(README, encoding="utf-8") as page:
         text = page.read().partition("## Talk to a simulated meter\n")[2].partition("\n## ")[0]
     commands = re.findall(r"^    \$ (mbpoll .*)\n((?:    (?!\$).*\n)*)", text, re.M)
@@ -220,6 +235,7 @@ def steps_of_readme(meter):
     return [
         *((command, lambda command=command: run_command(command, meter.link), " ".join(shown.split())) for command, shown in commands),
         ("the meter's screen", lambda: "\n".join(meter.lines()[-len(screen):]), "\n".join(screen)),
+        ("the program for pymodbus", lambda: run_program(between(text, "pymodbus"), meter.link), between(text, "what pymodbus prints")),
     ]
 
 

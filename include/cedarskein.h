@@ -6,6 +6,11 @@
  *
  * "Document 01" is the paper that the functions are proved against.
  *
+ * Sizes
+ *
+ *   At most 12 KiB of code and constants, nothing writable among it, and at most 1 KiB of stack in a call; docs/BENCH.md has
+ *   what was measured, about 10 KiB and under 600 bytes. A sheet has at most 856 bytes, a bank 514, and out 100.
+ *
  * The bank
  *
  *   B words, then one word for the alarm mark: 2B + 2 bytes. B is word 5 of the sheet. Every word, of a sheet, of a bank
