@@ -4,18 +4,21 @@ KIT := rattle-kit-5b logic 064da1ca440f63e7
 SHEET := ux15_25
 LINK :=
 BANK :=
-export SHEET LINK BANK
+# For `make install` and `make uninstall`, as they are used elsewhere.
+PREFIX := /usr/local
+DESTDIR :=
+export SHEET LINK BANK PREFIX DESTDIR
 include host/toolchain.mk
 
 # The names that were given on the command line. Make lets one pass that nobody uses, or that is empty, and the user wonders: so a target that takes
-# names says which, and these two are told. The toolchain's own may always be given.
+# names says which, and which may be empty, and all else is told. The toolchain's own may always be given.
 GIVEN := $(foreach name,$(.VARIABLES),$(if $(filter command,$(firstword $(origin $(name)))),$(name)))
 ALWAYS := KIT CC CXX NM GCOV RUN
 UNKNOWN = $(strip $(filter-out $(ALWAYS) $(1),$(GIVEN)))
-EMPTY = $(strip $(foreach name,$(filter $(1),$(GIVEN)),$(if $(strip $($(name))),,$(name))))
+EMPTY = $(strip $(foreach name,$(filter-out $(2),$(filter $(1),$(GIVEN))),$(if $(strip $($(name))),,$(name))))
 takes = $(if $(UNKNOWN),$(error make $@ takes no $(UNKNOWN). It takes: $(1)))$(if $(EMPTY),$(error empty: $(EMPTY). Give each a name, or leave it out))
 
-.PHONY: help test kit claims layout registers registers-check built host compare coverage demo demo-check meter interop bench bench-record
+.PHONY: help test kit claims layout registers registers-check built host compare coverage demo demo-check meter interop install uninstall bench bench-record
 # Two runs of rt in one target/ would be in each other's way.
 .NOTPARALLEL:
 
@@ -26,6 +29,7 @@ help: kit
 	@echo "make interop   two Modbus masters, mbpoll and pymodbus's client, at the simulated meter"
 	@echo "make registers the makers' registers by name: docs/REGISTERS.md, sheets/registers.csv, constants of C, from the sheets and tools/registers.txt"
 	@echo "make host      the archive in C programs, alone"
+	@echo "make install   archive, headers, sheets, pkg-config file and man page, under PREFIX=/usr/local and DESTDIR=; make uninstall removes them"
 	@echo "make compare   the archive against a second implementation in C, on 2,000,000 calls; make coverage: the branches that it takes"
 	@echo "make bench     what a call costs, beside the same functions by hand in C; make bench-record writes it into docs/BENCH.md"
 
@@ -68,6 +72,14 @@ demo demo-check interop: kit
 meter: kit
 	@$(call takes,SHEET LINK BANK)$(MAKE) -s -C demo meter-built
 	@exec demo/meter.sh $(RUN) target/demo/meter
+
+# What is installed is the archive that is there, built anew only where a crate is newer: so `sudo make install` has nothing to prove.
+install:
+	@$(call takes,PREFIX DESTDIR,DESTDIR)$(MAKE) -s -C demo archive
+	@tools/install.sh install
+
+uninstall:
+	@$(call takes,PREFIX DESTDIR,DESTDIR)tools/install.sh uninstall
 
 bench bench-record: built
 	@$(MAKE) -s -C bench $(@:bench-%=%)

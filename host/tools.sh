@@ -1,6 +1,6 @@
 #!/bin/sh
 # Looks for the tools that a test needs, and installs one that is missing where this may: as root on Debian, with a line that says so.
-#   tools.sh FOLDER NEED..    each NEED is c, c++, nm, emulator, mbpoll or pymodbus; the folder is where a trial program is built
+#   tools.sh FOLDER NEED..    each NEED is c, c++, nm, pkg-config, emulator, mbpoll or pymodbus; the folder is where a trial program is built
 # CC, CXX, NM, RUN, STATIC and PYTHON come by the environment, as toolchain.mk has them.
 # Exit status: 0 all are there and work; 1 one does not, and a line says which and what to type; 2 the folder may not be written.
 folder=$1
@@ -36,6 +36,7 @@ why_not() {
     c) why_no_c ;;
     c++) why_no_cxx ;;
     nm) is_there "$NM" || echo "$NM is not there" ;;
+    pkg-config) is_there pkg-config || echo "pkg-config is not there" ;;
     emulator) is_there qemu-x86_64 || echo "the emulator qemu-x86_64 is not there" ;;
     mbpoll) is_there mbpoll || echo "the master mbpoll is not there" ;;
     pymodbus) "$PYTHON" -c 'import serial; from pymodbus.client import ModbusSerialClient' >/dev/null 2>&1 || echo "$PYTHON has no pymodbus" ;;
@@ -51,6 +52,7 @@ packages_of() {
     c,*) echo gcc-x86-64-linux-gnu libc6-dev-amd64-cross ;;
     c++,*) echo g++-x86-64-linux-gnu ;;
     nm,*) echo binutils-x86-64-linux-gnu ;;
+    pkg-config,*) echo pkg-config ;;
     emulator,*) echo qemu-user ;;
     mbpoll,*) echo mbpoll ;;
     pymodbus,*) echo python3-pymodbus python3-serial python3-serial-asyncio ;;
