@@ -22,7 +22,7 @@ takes = $(if $(UNKNOWN),$(error make $@ takes no $(UNKNOWN). It takes: $(1)))$(i
 # Two runs of rt in one target/ would be in each other's way.
 .NOTPARALLEL:
 
-help: kit
+help:
 	@echo "make demo      a new limit comes back with error 03: what is in the meter now, and why"
 	@echo "make test      the whole verdict: what docs/CLAIMS.md cites, the archive in C programs, then the gate: every proof, must-fail edit and program"
 	@echo "make meter     a simulated meter on a pseudo-terminal; SHEET=NAME is its sheet, LINK=NAME another name for its line, BANK=FILE keeps its bank"
@@ -32,12 +32,14 @@ help: kit
 	@echo "make install   archive, headers, sheets, pkg-config file and man page, under PREFIX=/usr/local and DESTDIR=; make uninstall removes them"
 	@echo "make compare   the archive against a second implementation in C, on 2,000,000 calls; make coverage: the branches that it takes"
 	@echo "make bench     what a call costs, beside the same functions by hand in C; make bench-record writes it into docs/BENCH.md"
+	@{ $(rt_is_there) && $(tell_other_kit); } || true
 
 # The proofs are held to one kit. Another may well prove them too, but its verdict is not the one recorded here.
+rt_is_there = { command -v rt >/dev/null || { echo "Rattle's command rt is not installed: this repository is proved with $(KIT)." \
+	"README.md says where it comes from, and what to do without it" >&2; false; }; }
+tell_other_kit = { test "$$(rt version)" = "$(KIT)" || echo "note: this repository is proved with $(KIT); installed is $$(rt version)"; }
 kit:
-	@command -v rt >/dev/null || { echo "Rattle's command rt is not installed: this repository is proved with $(KIT)." \
-		"README.md says where it comes from, and what to do without it" >&2; exit 1; }
-	@test "$$(rt version)" = "$(KIT)" || echo "note: this repository is proved with $(KIT); installed is $$(rt version)"
+	@$(rt_is_there) && $(tell_other_kit)
 
 # Every file and name that docs/CLAIMS.md cites is there, and it leaves no public function and no must-fail edit out.
 claims:

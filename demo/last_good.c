@@ -71,12 +71,30 @@ static int settings_differ(const struct kept_bank *kept, const uint8_t *copy)
     return memcmp(kept->bank + mark, copy + mark, MARK_SIZE) != 0;
 }
 
-int keep_settings(const struct kept_bank *kept)
+/* A store that failed without a cut may have left the second copy spoiled: both are the same bytes, or they are written again. */
+static int copies_are_alike(const struct kept_bank *kept)
+{
+    uint8_t one[16], other[sizeof one];
+    size_t second = start_of(kept, SECOND_COPY);
+    size_t at, n;
+    for (at = 0; at < second; at += n) {
+        n = second - at < sizeof one ? second - at : sizeof one;
+        if (kept->lasting.load(kept->lasting.memory, at, one, n) != 0
+            || kept->lasting.load(kept->lasting.memory, second + at, other, n) != 0 || memcmp(one, other, n) != 0)
+            return 0;
+    }
+    return 1;
+}
+
+static int is_kept(const struct kept_bank *kept)
 {
     struct copy first;
-    if (load_copy(kept, FIRST_COPY, &first) == 0 && !settings_differ(kept, first.bytes))
-        return 0;
-    return store_both(kept);
+    return load_copy(kept, FIRST_COPY, &first) == 0 && !settings_differ(kept, first.bytes) && copies_are_alike(kept);
+}
+
+int keep_settings(const struct kept_bank *kept)
+{
+    return is_kept(kept) ? 0 : store_both(kept);
 }
 
 int keep_readings(const struct kept_bank *kept)
@@ -84,24 +102,31 @@ int keep_readings(const struct kept_bank *kept)
     return store_both(kept);
 }
 
-static int is_good(const struct kept_bank *kept, const struct copy *copy)
+/* Puts a copy into the bank where it is good: its check value agrees, and the bank is sound. */
+static int restored_from(const struct kept_bank *kept, enum copy_number number)
 {
-    uint16_t value = cedarskein_check_value(copy->bytes, kept->bank_n);
-    return copy->bytes[kept->bank_n] == (value & 0xFF) && copy->bytes[kept->bank_n + 1] == value >> 8
-        && cedarskein_bank_check(kept->sheet, kept->sheet_n, copy->bytes, kept->bank_n) == CEDARSKEIN_DONE;
+    struct copy copy;
+    uint16_t value;
+    if (load_copy(kept, number, &copy) != 0)
+        return 0;
+    value = cedarskein_check_value(copy.bytes, kept->bank_n);
+    if (copy.bytes[kept->bank_n] != (value & 0xFF) || copy.bytes[kept->bank_n + 1] != value >> 8
+        || cedarskein_bank_check(kept->sheet, kept->sheet_n, copy.bytes, kept->bank_n) != CEDARSKEIN_DONE)
+        return 0;
+    memcpy(kept->bank, copy.bytes, kept->bank_n);
+    return 1;
 }
 
 enum restored restore_bank(const struct kept_bank *kept)
 {
-    struct copy first, second;
-    int first_is_good = load_copy(kept, FIRST_COPY, &first) == 0 && is_good(kept, &first);
-    int second_is_good = load_copy(kept, SECOND_COPY, &second) == 0 && is_good(kept, &second);
-    if (!first_is_good && !second_is_good)
-        return NO_GOOD_COPY;
-    memcpy(kept->bank, first_is_good ? first.bytes : second.bytes, kept->bank_n);
-    if (!first_is_good)
+    if (restored_from(kept, FIRST_COPY)) {
+        if (!copies_are_alike(kept))
+            store_copy(kept, SECOND_COPY);
+        return FROM_FIRST_COPY;
+    }
+    if (restored_from(kept, SECOND_COPY)) {
         store_copy(kept, FIRST_COPY);
-    else if (!second_is_good || memcmp(first.bytes, second.bytes, kept->bank_n) != 0)
-        store_copy(kept, SECOND_COPY);
-    return first_is_good ? FROM_FIRST_COPY : FROM_SECOND_COPY;
+        return FROM_SECOND_COPY;
+    }
+    return NO_GOOD_COPY;
 }

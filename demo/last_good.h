@@ -27,8 +27,8 @@ enum restored { FROM_FIRST_COPY, FROM_SECOND_COPY, NO_GOOD_COPY };
 /* The bytes of lasting memory that both copies take. */
 size_t kept_size(size_t bank_n);
 
-/* After each call that answered 0, before a reply is sent: writes both copies where an item or the mark differs from the first. Hands
-   back 0 where both are as they should be. */
+/* After each call that answered 0, before a reply is sent: writes both copies where an item or the mark differs from the first, or an earlier
+   write failed. Hands back 0 where both are as they should be. */
 int keep_settings(const struct kept_bank *kept);
 
 /* Once an hour, and before the meter is switched off: writes both copies, so that the readings are kept too. */

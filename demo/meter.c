@@ -2,6 +2,7 @@
    usage: meter [-l LINK] [-b BANK] SHEET
    LINK becomes a symbolic link to the pseudo-terminal as long as the meter runs. BANK is a file that keeps the bank from one run to the next. */
 #define _XOPEN_SOURCE 700
+#include <poll.h>
 #include <signal.h>
 #include <stdio.h>
 #include <stdlib.h>
@@ -46,6 +47,13 @@ static void heed_signals(void)
         if (signals[k] == SIGHUP && before.sa_handler == SIG_IGN)
             sigaction(signals[k], &before, NULL);
     }
+}
+
+/* A terminal that is closed sends its signal to the one process that leads it, which need not pass it on: make does not. */
+static int screen_is_gone(void)
+{
+    struct pollfd screen = { .fd = STDOUT_FILENO, .events = 0 };
+    return poll(&screen, 1, 0) > 0 && screen.revents & (POLLHUP | POLLERR);
 }
 
 /* Kept and told ahead of sending it: a reply tells of what is kept, and a master that has it finds it on the screen. */
@@ -100,6 +108,7 @@ static void run(struct simulation *simulation)
     long next_second = milliseconds();
     while (!switched_off) {
         if (milliseconds() >= next_second) {
+            switched_off |= screen_is_gone();
             pass_second(simulation, &readings);
             next_second += 1000;
         }

@@ -125,7 +125,7 @@ struct readings begin_readings(const struct meter *meter)
     uint64_t total = is_ux(meter) ? bank_value(meter, CEDARSKEIN_UX_TOTAL_VOLUME, 3)
                    : is_aswe(meter) ? 10 * bank_value(meter, CEDARSKEIN_ASWE_FORWARD_ACTUAL_VOLUME, 2) : 0;
     uint64_t trip = is_ux(meter) ? bank_value(meter, CEDARSKEIN_UX_TRIP_VOLUME, 3) : 0;
-    if (total > 0) {
+    if (total > 0 && total >= trip) {
         readings.before_trip = total - trip;
         readings.flowed = 3600 * trip;
     }

@@ -8,7 +8,7 @@
 
 /* The functions of document 01, and where a frame has its parts. */
 enum { READ = 0x03, CLEAR = 0x05, WRITE = 0x06, WRITE_SEVERAL = 0x10, ERROR_BIT = 0x80, BAD_VALUE = 3 };
-enum { START_WORD = 1, COUNT_WORD = 2, VALUE_OF_WRITE = 4, VALUES_OF_WRITE_SEVERAL = 7, CHECK = 2, LEAST_REQUEST = 8 };
+enum { START_WORD = 1, COUNT_WORD = 2, VALUE_OF_WRITE = 4, VALUES_OF_WRITE_SEVERAL = 7, CHECK = 2, LEAST_FRAME = 4, LEAST_REQUEST = 8 };
 
 const char *bit_rate(unsigned rate)
 {
@@ -47,8 +47,8 @@ static int check_agrees(const uint8_t *frame, size_t n)
 
 void tell_silence(const uint8_t *frame, size_t n, unsigned station)
 {
-    if (n < 4)
-        printf("silence: under 4 bytes\n");
+    if (n < LEAST_FRAME)
+        printf("silence: under %d bytes\n", LEAST_FRAME);
     else if (n > CEDARSKEIN_LONGEST_FRAME)
         printf("silence: over %d bytes\n", CEDARSKEIN_LONGEST_FRAME);
     else if (!check_agrees(frame, n))
@@ -102,9 +102,12 @@ static void tell_written(const struct meter *before, const struct meter *sent, c
     uint64_t old = value_of(before, row), wanted = value_of(sent, row), new = value_of(now, row);
     begin_register(row);
     print_value(row, wanted);
-    printf(wanted != new ? " was not stored, it is still " : old == new ? ", as it was" : ", it was ");
-    if (old != wanted)
-        print_value(row, wanted != new ? new : old);
+    if (wanted == old) {
+        printf(", as it was\n");
+        return;
+    }
+    printf(wanted == new ? ", it was " : " was not stored, it is still ");
+    print_value(row, old);
     printf("\n");
 }
 

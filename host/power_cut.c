@@ -128,6 +128,28 @@ static void copies_end_as_frames_do(void)
     expect_number(0, cedarskein_check_value(chip.bytes + COPY, COPY), "the check value of the second copy and its own");
 }
 
+/* A store that fails half-way, and no start-up behind it: the next call writes both copies again, though no setting has changed. */
+static void failed_store(unsigned bytes)
+{
+    at_case("a store that fails after %u bytes", bytes);
+    chip.bytes_left = NO_CUT;
+    memcpy(bank, bank_before, BANK);
+    keep_readings(&kept);
+    chip.bytes_left = bytes;
+    memcpy(bank, bank_after, BANK);
+    expect(keep_settings(&kept) != 0, "the failure is told");
+    chip.bytes_left = NO_CUT;
+    expect(keep_settings(&kept) == 0, "the next call keeps it");
+    expect(memcmp(chip.bytes, bank_after, BANK) == 0 && memcmp(chip.bytes, chip.bytes + COPY, COPY) == 0, "both copies are the bank after");
+}
+
+static void failed_stores(void)
+{
+    unsigned bytes;
+    for (bytes = 0; bytes < WHOLE; bytes++)
+        failed_store(bytes);
+}
+
 static void expect_written(unsigned times, const char *what)
 {
     expect_number(times, chip.first_written, what);
@@ -187,6 +209,7 @@ int main(void)
     cuts();
     nothing_kept();
     copies_end_as_frames_do();
+    failed_stores();
     writes_of_an_hour();
     return told("a power cut at every byte of the copies and another at start-up, and the writes of an hour");
 }

@@ -46,9 +46,9 @@
  *
  *   - the bank at work lies in plain memory; two copies lie in memory that outlasts a cut, each followed by its check
  *     value (cedarskein_check_value over the copy's bytes), low byte first as on the line;
- *   - after each call that answered 0, where a byte that must last differs from the first copy, write the first copy and
- *     its check value, and when that is done the second; then send the reply, which so tells of what is kept. An error
- *     reply counts: it answers 0 too, and may have stored part;
+ *   - after each call that answered 0, where a byte that must last differs from the first copy, or the copies differ from
+ *     each other, write the first copy and its check value, and when that is done the second; then send the reply, which
+ *     so tells of what is kept. An error reply counts: it answers 0 too, and may have stored part;
  *   - at start-up put the first copy into the bank where its check value agrees and cedarskein_bank_check answers 0,
  *     else the second on the same terms, and write the other copy anew where it differs. A cut spoils one copy at most:
  *     where it hit the first, the second is the bank before that write, and where it hit the second, the first is the
