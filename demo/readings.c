@@ -2,10 +2,9 @@
 #include "readings.h"
 
 #include <stdio.h>
-#include <string.h>
 
 #include "cedarskein_registers.h"
-#include "cedarskein_sheets.h"
+#include "registers.h"
 
 /* The flow rises for five minutes and falls for five. */
 #define HALF_WAVE 300
@@ -13,14 +12,21 @@
 /* What the meter had counted before it was first switched on, in 0.01 m3. */
 #define COUNTED_BEFORE 1234567
 
-/* The words of both makers' readings, and what AS-WE reads besides the flow, in its steps. */
-enum { UX_WORDS = 11, ASWE_WORDS = 16, ASWE_PRESSURE = 20130, ASWE_SOUND_VELOCITY = 43000 };
+/* What AS-WE reads besides the flow, in its steps. */
+enum { ASWE_PRESSURE_READING = 20130, ASWE_VELOCITY_READING = 43000 };
 
-static void post(struct meter *meter, unsigned address, const uint8_t *words, size_t count)
+/* The words of an access 1 area, which are posted together. */
+struct posting {
+    struct meter *meter;
+    struct area area;
+    uint8_t words[CEDARSKEIN_LONGEST_BANK];
+};
+
+static void set_reading(struct posting *posting, unsigned address, uint64_t value)
 {
-    uint32_t number = cedarskein_post(meter->sheet, meter->sheet_n, meter->bank, meter->bank_n, address, words, 2 * count);
-    if (number != CEDARSKEIN_DONE)
-        printf("posting at %04X handed back %u\n", address, (unsigned)number);
+    struct register_row row = register_at(posting->meter, address);
+    for (unsigned k = 0; k < row.words; k++)
+        store_word(posting->words, address - posting->area.first + k, (unsigned)(value >> 16 * (row.words - 1 - k)) & 0xFFFF);
 }
 
 static unsigned wave(unsigned second)
@@ -40,91 +46,62 @@ static unsigned temperature_at(unsigned second)
     return 150 + wave(second) / 10;
 }
 
-/* A value over so many words from an address on, upper word first. `words` are those from the address `first` on. */
-static void store_value(uint8_t *words, unsigned first, unsigned address, unsigned count, uint64_t value)
+/* As document 001, 7.2.3, has them. The gas pressure is the one that is set; there is no error. */
+static void set_ux(struct posting *posting, const struct readings *readings)
 {
-    for (unsigned k = 0; k < count; k++)
-        store_word(words, address - first + k, (unsigned)(value >> 16 * (count - 1 - k)) & 0xFFFF);
-}
-
-static uint64_t bank_value(const struct meter *meter, unsigned address, unsigned count)
-{
-    uint64_t value = 0;
-    for (unsigned k = 0; k < count; k++)
-        value = value << 16 | word_at(meter->bank, place_of(meter, address + k));
-    return value;
-}
-
-/* As document 001, 7.2.3, has them. The gas pressure is the one that is set. */
-static void post_ux(const struct readings *readings, struct meter *meter)
-{
-    uint8_t words[2 * UX_WORDS] = { 0 };
     uint64_t trip = readings->flowed / 3600;
-    unsigned first = CEDARSKEIN_UX_FLOW;
-    store_value(words, first, CEDARSKEIN_UX_FLOW, 2, flow_at(readings->second));
-    store_value(words, first, CEDARSKEIN_UX_GAS_PRESSURE, 1, bank_value(meter, CEDARSKEIN_UX_GAS_PRESSURE_SETTING, 1));
-    store_value(words, first, CEDARSKEIN_UX_TEMPERATURE, 1, temperature_at(readings->second));
-    store_value(words, first, CEDARSKEIN_UX_TOTAL_VOLUME, 3, readings->before_trip + trip);
-    store_value(words, first, CEDARSKEIN_UX_TRIP_VOLUME, 3, trip);
-    post(meter, first, words, UX_WORDS);
+    set_reading(posting, CEDARSKEIN_UX_FLOW, flow_at(readings->second));
+    set_reading(posting, CEDARSKEIN_UX_GAS_PRESSURE, value_at(posting->meter, CEDARSKEIN_UX_GAS_PRESSURE_SETTING));
+    set_reading(posting, CEDARSKEIN_UX_TEMPERATURE, temperature_at(readings->second));
+    set_reading(posting, CEDARSKEIN_UX_TOTAL_VOLUME, readings->before_trip + trip);
+    set_reading(posting, CEDARSKEIN_UX_TRIP_VOLUME, trip);
 }
 
-/* As document 003, 3-2, has them: volumes in 0.1 m3, the temperature in 0.01 degrees. Actual and compensated flow are the same here. */
-static void post_aswe(const struct readings *readings, struct meter *meter)
+/* As document 003, 3-2, has them: volumes in 0.1 m3, the temperature in 0.01 degrees. Actual and compensated flow are the same here, and
+   nothing flows back. */
+static void set_aswe(struct posting *posting, const struct readings *readings)
 {
-    uint8_t words[2 * ASWE_WORDS] = { 0 };
     uint64_t volume = (readings->before_trip + readings->flowed / 3600) / 10;
-    unsigned first = CEDARSKEIN_ASWE_ACTUAL_FLOW;
-    store_value(words, first, CEDARSKEIN_ASWE_ACTUAL_FLOW, 2, flow_at(readings->second));
-    store_value(words, first, CEDARSKEIN_ASWE_COMPENSATED_FLOW, 2, flow_at(readings->second));
-    store_value(words, first, CEDARSKEIN_ASWE_PRESSURE, 2, ASWE_PRESSURE);
-    store_value(words, first, CEDARSKEIN_ASWE_TEMPERATURE, 2, 10 * temperature_at(readings->second));
-    store_value(words, first, CEDARSKEIN_ASWE_FORWARD_ACTUAL_VOLUME, 2, volume);
-    store_value(words, first, CEDARSKEIN_ASWE_FORWARD_COMPENSATED_VOLUME, 2, volume);
-    store_value(words, first, CEDARSKEIN_ASWE_SOUND_VELOCITY, 1, ASWE_SOUND_VELOCITY);
-    post(meter, first, words, ASWE_WORDS);
+    set_reading(posting, CEDARSKEIN_ASWE_ACTUAL_FLOW, flow_at(readings->second));
+    set_reading(posting, CEDARSKEIN_ASWE_COMPENSATED_FLOW, flow_at(readings->second));
+    set_reading(posting, CEDARSKEIN_ASWE_PRESSURE, ASWE_PRESSURE_READING);
+    set_reading(posting, CEDARSKEIN_ASWE_TEMPERATURE, 10 * temperature_at(readings->second));
+    set_reading(posting, CEDARSKEIN_ASWE_FORWARD_ACTUAL_VOLUME, volume);
+    set_reading(posting, CEDARSKEIN_ASWE_FORWARD_COMPENSATED_VOLUME, volume);
+    set_reading(posting, CEDARSKEIN_ASWE_SOUND_VELOCITY, ASWE_VELOCITY_READING);
 }
 
 /* What the words of another sheet mean is not known here: each counts the seconds, from its place on. */
-static void post_count(const struct readings *readings, struct meter *meter, struct area area)
+static void set_counts(struct posting *posting, const struct readings *readings)
 {
-    uint8_t words[CEDARSKEIN_LONGEST_BANK];
-    unsigned count = area.last - area.first + 1;
-    for (unsigned k = 0; k < count; k++)
-        store_word(words, k, (readings->second + area.place + k) & 0xFFFF);
-    post(meter, area.first, words, count);
+    for (unsigned address = posting->area.first; address <= posting->area.last; address++)
+        set_reading(posting, address, readings->second + place_of(posting->meter, address));
 }
 
-static void post_counts(const struct readings *readings, struct meter *meter)
+static void post_area(struct meter *meter, struct area area, const struct readings *readings)
 {
-    for (unsigned k = 0; k < area_count(meter); k++)
-        if (area_at(meter, k).access == READ_ONLY_AREA)
-            post_count(readings, meter, area_at(meter, k));
-}
-
-static int has_sheet(const struct meter *meter, const uint8_t *sheet, size_t n)
-{
-    return meter->sheet_n == n && memcmp(meter->sheet, sheet, n) == 0;
-}
-
-static int is_ux(const struct meter *meter)
-{
-    return has_sheet(meter, cedarskein_ux_sheet, sizeof cedarskein_ux_sheet);
-}
-
-static int is_aswe(const struct meter *meter)
-{
-    return has_sheet(meter, cedarskein_aswe_40_sheet, sizeof cedarskein_aswe_40_sheet)
-        || has_sheet(meter, cedarskein_aswe_50_sheet, sizeof cedarskein_aswe_50_sheet)
-        || has_sheet(meter, cedarskein_aswe_80_sheet, sizeof cedarskein_aswe_80_sheet);
+    struct posting posting = { meter, area, { 0 } };
+    switch (map_of(meter)) {
+    case UX_MAP: set_ux(&posting, readings); break;
+    case ASWE_MAP: set_aswe(&posting, readings); break;
+    default: set_counts(&posting, readings); break;
+    }
+    uint32_t number = cedarskein_post(meter->sheet, meter->sheet_n, meter->bank, meter->bank_n, area.first, posting.words,
+                                      2 * (area.last + 1 - area.first));
+    if (number != CEDARSKEIN_DONE)
+        printf("posting at %04X handed back %u\n", area.first, (unsigned)number);
 }
 
 struct readings begin_readings(const struct meter *meter)
 {
     struct readings readings = { 0, COUNTED_BEFORE, 0 };
-    uint64_t total = is_ux(meter) ? bank_value(meter, CEDARSKEIN_UX_TOTAL_VOLUME, 3)
-                   : is_aswe(meter) ? 10 * bank_value(meter, CEDARSKEIN_ASWE_FORWARD_ACTUAL_VOLUME, 2) : 0;
-    uint64_t trip = is_ux(meter) ? bank_value(meter, CEDARSKEIN_UX_TRIP_VOLUME, 3) : 0;
+    uint64_t total = 0, trip = 0;
+    if (map_of(meter) == UX_MAP) {
+        total = value_at(meter, CEDARSKEIN_UX_TOTAL_VOLUME);
+        trip = value_at(meter, CEDARSKEIN_UX_TRIP_VOLUME);
+    } else if (map_of(meter) == ASWE_MAP) {
+        total = 10 * value_at(meter, CEDARSKEIN_ASWE_FORWARD_ACTUAL_VOLUME);
+    }
     if (total > 0 && total >= trip) {
         readings.before_trip = total - trip;
         readings.flowed = 3600 * trip;
@@ -136,10 +113,7 @@ void post_next_second(struct readings *readings, struct meter *meter)
 {
     readings->second++;
     readings->flowed += flow_at(readings->second);
-    if (is_ux(meter))
-        post_ux(readings, meter);
-    else if (is_aswe(meter))
-        post_aswe(readings, meter);
-    else
-        post_counts(readings, meter);
+    for (unsigned k = 0; k < area_count(meter); k++)
+        if (area_at(meter, k).access == READ_ONLY_AREA)
+            post_area(meter, area_at(meter, k), readings);
 }

@@ -9,31 +9,32 @@
 
 #define WORD_BITS 16
 
-struct map {
-    const uint8_t *sheet;
-    size_t sheet_n;
-    const struct register_row *rows;
+struct known_sheet {
+    const uint8_t *bytes;
+    size_t n;
+    enum map map;
 };
 
-/* A sheet does not say what its words mean: a map is known by the bytes of its sheet. */
-static const struct map MAPS[] = {
-    { cedarskein_ux_sheet, CEDARSKEIN_UX_SHEET_SIZE, ux_rows },
-    { cedarskein_aswe_40_sheet, CEDARSKEIN_ASWE_40_SHEET_SIZE, aswe_rows },
-    { cedarskein_aswe_50_sheet, CEDARSKEIN_ASWE_50_SHEET_SIZE, aswe_rows },
-    { cedarskein_aswe_80_sheet, CEDARSKEIN_ASWE_80_SHEET_SIZE, aswe_rows },
+static const struct known_sheet SHEETS[] = {
+    { cedarskein_ux_sheet, sizeof cedarskein_ux_sheet, UX_MAP },
+    { cedarskein_aswe_40_sheet, sizeof cedarskein_aswe_40_sheet, ASWE_MAP },
+    { cedarskein_aswe_50_sheet, sizeof cedarskein_aswe_50_sheet, ASWE_MAP },
+    { cedarskein_aswe_80_sheet, sizeof cedarskein_aswe_80_sheet, ASWE_MAP },
 };
 
-static const struct register_row *rows_of(const struct meter *meter)
+static const struct register_row *const ROWS[] = { [UX_MAP] = ux_rows, [ASWE_MAP] = aswe_rows, [OTHER_MAP] = NULL };
+
+enum map map_of(const struct meter *meter)
 {
-    for (size_t k = 0; k < sizeof MAPS / sizeof *MAPS; k++)
-        if (meter->sheet_n == MAPS[k].sheet_n && memcmp(meter->sheet, MAPS[k].sheet, meter->sheet_n) == 0)
-            return MAPS[k].rows;
-    return NULL;
+    for (size_t k = 0; k < sizeof SHEETS / sizeof *SHEETS; k++)
+        if (meter->sheet_n == SHEETS[k].n && memcmp(meter->sheet, SHEETS[k].bytes, meter->sheet_n) == 0)
+            return SHEETS[k].map;
+    return OTHER_MAP;
 }
 
 struct register_row register_at(const struct meter *meter, unsigned address)
 {
-    const struct register_row *row = rows_of(meter);
+    const struct register_row *row = ROWS[map_of(meter)];
     struct register_row nameless = { address, 1, 0, 0, 0, NULL, "", NULL };
     for (; row && row->name; row++)
         if (row->address <= address && address < row->address + row->words)
@@ -47,6 +48,12 @@ uint64_t value_of(const struct meter *meter, const struct register_row *row)
     for (unsigned k = 0; k < row->words; k++)
         value = value << WORD_BITS | word_at(meter->bank, place_of(meter, row->address + k));
     return value;
+}
+
+uint64_t value_at(const struct meter *meter, unsigned address)
+{
+    struct register_row row = register_at(meter, address);
+    return value_of(meter, &row);
 }
 
 /* The word for a value, as a start and a length; a length of 0 where there is none. */

@@ -19,11 +19,16 @@ struct register_row {
 /* The rows of each map, in the order of the addresses; the last has no name. tools/registers.py writes them. */
 extern const struct register_row ux_rows[], aswe_rows[];
 
+/* A sheet does not say what its words mean: a map is known by the bytes of its sheet. */
+enum map { UX_MAP, ASWE_MAP, OTHER_MAP };
+enum map map_of(const struct meter *meter);
+
 /* The register that an address of a meter belongs to. Where the meter's sheet is no maker's, each word is a register without a name. */
 struct register_row register_at(const struct meter *meter, unsigned address);
 
 /* The raw value that a register has in the meter's bank. */
 uint64_t value_of(const struct meter *meter, const struct register_row *row);
+uint64_t value_at(const struct meter *meter, unsigned address);
 
 /* Writes a raw value in its unit, or the word for it. */
 void print_value(const struct register_row *row, uint64_t raw);
