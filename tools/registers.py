@@ -25,6 +25,7 @@ LIST = "tools/registers.txt"
 ITEM_KINDS = ("word", "signed word", "pair")
 KINDS = {"word": (1, False), "signed word": (1, True), "pair": (2, False), "signed pair": (2, True), "triple": (3, False), "clear": (1, False)}
 READ_ONLY, CLEAR_ALLOWED = 1, 2
+ACCESS = {2: "write", 3: "read and write"}
 
 
 class Wrong(Exception):
@@ -108,25 +109,26 @@ def areas_of(words):
 
 
 def settings_of(words):
-    """Kind, low and high of each item, by its first address."""
-    address_of = {place + k: first + k for first, last, place, _ in areas_of(words) for k in range(last + 1 - first)}
+    """Kind, access, low and high of each item, by its first address."""
+    found = {place + k: (first + k, ACCESS.get(access)) for first, last, place, access in areas_of(words) for k in range(last + 1 - first)}
     settings = {}
     for k in range(words[3]):
         kind, place, low_upper, low, high_upper, high = words[words[4] + 6 * k:words[4] + 6 * k + 6]
         bounds = [low_upper << 16 | low, high_upper << 16 | high]
         if ITEM_KINDS[kind] == "signed word":
             bounds = [bound - 0x10000 if bound >= 0x8000 else bound for bound in bounds]
-        settings[address_of[place]] = (ITEM_KINDS[kind], *bounds)
+        address, access = found[place]
+        settings[address] = (ITEM_KINDS[kind], access, *bounds)
     return settings
 
 
 def setting(row, found, sheet):
-    kind, low, high = found
+    kind, access, low, high = found
     if row.kind:
         raise Wrong(f"{LIST}:{row.line}: the kind of a setting stands in the sheet {sheet}, not here")
     if row.values and (low, high) != (0, len(row.values) - 1):
         raise Wrong(f"{LIST}:{row.line}: {len(row.values)} values, but the sheet {sheet} has {low} to {high}")
-    return Register(row, kind, "read and write", low, high)
+    return Register(row, kind, access, low, high)
 
 
 def reading(row):
