@@ -43,8 +43,7 @@ kit:
 
 # Every file and name that docs/CLAIMS.md cites is there, and it leaves no public function and no must-fail edit out.
 claims:
-	@python3 tools/claims.py
-	@python3 tools/claims.py --missing
+	@python3 tools/claims.py; cited=$$?; python3 tools/claims.py --missing && exit $$cited
 
 layout:
 	@rt fmt --check
