@@ -13,7 +13,7 @@ include host/toolchain.mk
 # The names that were given on the command line. Make lets one pass that nobody uses, or that is empty, and the user wonders: so a target that takes
 # names says which, and which may be empty, and all else is told. The toolchain's own may always be given.
 GIVEN := $(foreach name,$(.VARIABLES),$(if $(filter command,$(firstword $(origin $(name)))),$(name)))
-ALWAYS := KIT CC CXX NM GCOV RUN
+ALWAYS := KIT CC CXX NM GCOV RUN PYTHON
 UNKNOWN = $(strip $(filter-out $(ALWAYS) $(1),$(GIVEN)))
 EMPTY = $(strip $(foreach name,$(filter-out $(2),$(filter $(1),$(GIVEN))),$(if $(strip $($(name))),,$(name))))
 takes = $(if $(UNKNOWN),$(error make $@ takes no $(UNKNOWN). It takes: $(1)))$(if $(EMPTY),$(error empty: $(EMPTY). Give each a name, or leave it out))

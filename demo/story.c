@@ -180,7 +180,8 @@ static void tell_where_next(void)
     printf("\nAfter an error 03, read back: the reply does not say how much was stored.\n\n"
            "Next: make meter    a meter like this one, on a line of its own, for your own program\n"
            "      make test     the proofs that it is so for every frame and every sheet\n"
-           "      docs/CLAIMS.md    what is claimed, sentence by sentence\n");
+           "      docs/REGISTERS.md    each register's name, range and unit\n"
+           "      docs/CLAIMS.md       what is claimed, sentence by sentence\n");
 }
 
 int main(int argc, char **argv)
