@@ -1,36 +1,63 @@
 # Cedarskein: `make test` is the whole verdict. `make` alone says what there is.
 KIT := rattle-kit-5b logic 064da1ca440f63e7
-# For `make meter`: the file of its sheet, and another name for its line.
-SHEET := sheets/ux15_25.sheet
+# For `make meter`: its sheet, by the name of a file or the short name of one in sheets/; another name for its line; the file that keeps its bank.
+SHEET := ux15_25
 LINK :=
+BANK :=
+# For `make install` and `make uninstall`, as they are used elsewhere.
+PREFIX := /usr/local
+DESTDIR :=
+export SHEET LINK BANK PREFIX DESTDIR
+include host/toolchain.mk
 
-.PHONY: help test kit claims layout built host compare coverage demo demo-check meter interop bench bench-record
+# The names that were given on the command line. Make lets one pass that nobody uses, or that is empty, and the user wonders: so a target that takes
+# names says which, and which may be empty, and all else is told. The toolchain's own may always be given.
+GIVEN := $(foreach name,$(.VARIABLES),$(if $(filter command,$(firstword $(origin $(name)))),$(name)))
+ALWAYS := KIT CC CXX NM GCOV RUN PYTHON
+UNKNOWN = $(strip $(filter-out $(ALWAYS) $(1),$(GIVEN)))
+EMPTY = $(strip $(foreach name,$(filter-out $(2),$(filter $(1),$(GIVEN))),$(if $(strip $($(name))),,$(name))))
+takes = $(if $(UNKNOWN),$(error make $@ takes no $(UNKNOWN). It takes: $(1)))$(if $(EMPTY),$(error empty: $(EMPTY). Give each a name, or leave it out))
+
+.PHONY: help test kit claims layout registers registers-check built host compare coverage demo demo-check meter interop install uninstall bench bench-record
 # Two runs of rt in one target/ would be in each other's way.
 .NOTPARALLEL:
 
-help: kit
+help:
 	@echo "make demo      a new limit comes back with error 03: what is in the meter now, and why"
 	@echo "make test      the whole verdict: what docs/CLAIMS.md cites, the archive in C programs, then the gate: every proof, must-fail edit and program"
-	@echo "make meter     a simulated meter on a pseudo-terminal; SHEET=FILE is its sheet, LINK=NAME another name for its line"
+	@echo "make meter     a simulated meter on a pseudo-terminal; SHEET=NAME is its sheet, LINK=NAME another name for its line, BANK=FILE keeps its bank"
 	@echo "make interop   two Modbus masters, mbpoll and pymodbus's client, at the simulated meter"
+	@echo "make registers the makers' registers by name: docs/REGISTERS.md, sheets/registers.csv, constants of C, from the sheets and tools/registers.txt"
 	@echo "make host      the archive in C programs, alone"
+	@echo "make install   archive, headers, sheets, pkg-config file and man page, under PREFIX=/usr/local and DESTDIR=; make uninstall removes them"
 	@echo "make compare   the archive against a second implementation in C, on 2,000,000 calls; make coverage: the branches that it takes"
 	@echo "make bench     what a call costs, beside the same functions by hand in C; make bench-record writes it into docs/BENCH.md"
+	@{ $(rt_is_there) && $(tell_other_kit); } || true
 
 # The proofs are held to one kit. Another may well prove them too, but its verdict is not the one recorded here.
+rt_is_there = { command -v rt >/dev/null || { echo "Rattle's command rt is not installed: this repository is proved with $(KIT)." \
+	"README.md says where it comes from, and what to do without it" >&2; false; }; }
+tell_other_kit = { test "$$(rt version)" = "$(KIT)" || echo "note: this repository is proved with $(KIT); installed is $$(rt version)"; }
 kit:
-	@command -v rt >/dev/null || { echo "Rattle's command rt is not installed: this repository is proved with $(KIT)"; exit 1; }
-	@test "$$(rt version)" = "$(KIT)" || echo "note: this repository is proved with $(KIT); installed is $$(rt version)"
+	@$(rt_is_there) && $(tell_other_kit)
 
-# Every file and name that docs/CLAIMS.md cites is there.
+# Every file and name that docs/CLAIMS.md cites is there, and it leaves no public function and no must-fail edit out.
 claims:
-	@python3 tools/claims.py
+	@python3 tools/claims.py; cited=$$?; python3 tools/claims.py --missing && exit $$cited
 
 layout:
 	@rt fmt --check
 
+# The makers' registers by name. What is committed is what the script makes of the sheets and its list; it needs no archive.
+registers:
+	@python3 tools/registers.py
+
+registers-check:
+	@python3 tools/registers.py --check
+
 # What the C programs are linked with and compared to. `rt` says much, which is shown where it fails.
 built: kit
+	@mkdir -p target && test -w target || { echo "the folder target may not be written" >&2; exit 1; }
 	@said=$$(rt staticlib cedarskein 2>&1 && rt check sheet_files 2>&1) || { echo "$$said"; exit 1; }
 
 host: built
@@ -42,12 +69,22 @@ compare coverage: built
 demo demo-check interop: kit
 	@$(MAKE) -s -C demo $@
 
+# The meter is this make's own child: it ends well at Ctrl-C, and so no make has an error to tell of.
 meter: kit
-	@$(MAKE) -s -C demo meter SHEET=$(abspath $(SHEET)) LINK=$(abspath $(LINK))
+	@$(call takes,SHEET LINK BANK)$(MAKE) -s -C demo meter-built
+	@exec demo/meter.sh $(RUN) target/demo/meter
+
+# What is installed is the archive that is there, built anew only where a crate is newer: so `sudo make install` has nothing to prove.
+install:
+	@$(call takes,PREFIX DESTDIR,DESTDIR)$(MAKE) -s -C demo archive
+	@tools/install.sh install
+
+uninstall:
+	@$(call takes,PREFIX DESTDIR,DESTDIR)tools/install.sh uninstall
 
 bench bench-record: built
 	@$(MAKE) -s -C bench $(@:bench-%=%)
 
 # The gate removes target/, so the C programs come before it. Its last line is the verdict's.
-test: kit claims layout host demo-check
+test: kit claims layout registers-check host demo-check
 	@exec rt ci

@@ -1,4 +1,4 @@
-/* Runs one call many times, on the archive or on the C of fast.c, for the measurements of measure.py:
+/* Runs one call many times, on the archive or on the C of fast.c, for the measurements of tables.py and count.py:
  *
  *   bench rows                      the names of the calls
  *   bench count SIDE ROW CALLS      the call so many times, and nothing else

@@ -8,6 +8,7 @@ Each step has its expected result. A step that comes out otherwise is shown with
 RUN is put in front of METER where it needs an emulator.
 """
 import argparse
+import contextlib
 import os
 import re
 import signal
@@ -22,31 +23,40 @@ README = os.path.join(os.path.dirname(os.path.abspath(__file__)), "..", "README.
 
 
 class Meter:
-    """The simulated meter, with a fresh bank, on a line named by a link."""
+    """The simulated meter, with a bank that is fresh at first and kept in a file, on a line named by a link."""
 
     def __init__(self, command, sheet):
         self.folder = tempfile.TemporaryDirectory()
-        self.link = os.path.join(self.folder.name, "meter")
-        self.screen = open(os.path.join(self.folder.name, "screen"), "w+", encoding="ascii")
-        self.process = subprocess.Popen([*command, sheet, self.link], stdout=self.screen)
-        self.wait_for_line()
+        self.screen = os.path.join(self.folder.name, "screen")
+        self.command = [*command, "-b", os.path.join(self.folder.name, "bank")]
+        self.sheet = sheet
+        self.start("meter")
+
+    def start(self, name):
+        self.link = os.path.join(self.folder.name, name)
+        with open(self.screen, "w", encoding="ascii") as screen:
+            self.process = subprocess.Popen([*self.command, "-l", self.link, self.sheet], stdout=screen)
 
     def __enter__(self):
+        self.wait_for_line()
         return self
 
     def __exit__(self, *_):
         if self.process.poll() is None:
             self.process.kill()
+            self.process.wait()
+        self.folder.cleanup()
 
     def wait_for_line(self):
         deadline = time.monotonic() + 10
         while "meter on" not in self.lines()[-1]:
             if self.process.poll() is not None or time.monotonic() > deadline:
+                self.__exit__()
                 sys.exit("the simulated meter did not start")
             time.sleep(0.02)
 
     def lines(self):
-        with open(self.screen.name, encoding="ascii") as screen:
+        with open(self.screen, encoding="ascii") as screen:
             return screen.read().splitlines() or [""]
 
     def last_line(self):
@@ -58,6 +68,13 @@ class Meter:
         status = self.process.wait(timeout=10)
         link = "link left behind" if os.path.lexists(self.link) else "link gone"
         return f"status {status}, {link}"
+
+    def switch_off_and_on(self):
+        """The same bank on another line: how the meter ended before."""
+        said = self.switch_off()
+        self.start("meter again")
+        self.wait_for_line()
+        return said
 
 
 def judge_readings(said):
@@ -168,6 +185,23 @@ def steps_of_station_and_rate(master):
     ]
 
 
+def at_new_line(master, meter, deed):
+    master.link = meter.link
+    return deed()
+
+
+def steps_of_keeping(master, meter):
+    def read():
+        return master.read(0x0103, 2)
+
+    return [
+        ("0103 = 0000 03E8, a pair", lambda: master.write(0x0103, 0x0000, 0x03E8), "done"),
+        ("010E = 0007, the station", lambda: master.write(0x010E, 0x0007), "done"),
+        ("the meter is switched off and on", meter.switch_off_and_on, "status 0, link gone"),
+        (".. at station 7 it has 0000 03E8 still", lambda: at_new_line(master, meter, lambda: at_station(master, 7, read)), "0000 03E8"),
+    ]
+
+
 def run_command(command, link):
     """What a command of the README writes at this meter, its blanks made one."""
     done = subprocess.run(command.replace("/tmp/meter", link).split(), stdout=subprocess.PIPE, stderr=subprocess.STDOUT, text=True,
@@ -175,17 +209,33 @@ def run_command(command, link):
     return " ".join(done.stdout.split())
 
 
+def between(text, marker):
+    """The lines of a fenced block of the README that stands between <!-- marker --> and <!-- end -->."""
+    found = re.search(rf"^<!-- {marker} -->\n```\w*\n(.*?)^```\n<!-- end -->$", text, re.M | re.S)
+    if not found:
+        sys.exit(f"README.md has no block {marker}")
+    return found.group(1)
+
+
+def run_program(program, link):
+    """What a Python program of the README prints at this meter."""
+    done = subprocess.run([sys.executable, "-c", program.replace("/tmp/meter", link)], stdout=subprocess.PIPE, stderr=subprocess.STDOUT, text=True,
+                          check=False)
+    return done.stdout
+
+
 def steps_of_readme(meter):
-    """The README's commands with what it shows below each, and the lines that it shows of the meter's screen."""
+    """The README's commands with what it shows below each, the lines that it shows of the meter's screen, and its program."""
     with open(README, encoding="utf-8") as page:
         text = page.read().partition("## Talk to a simulated meter\n")[2].partition("\n## ")[0]
     commands = re.findall(r"^    \$ (mbpoll .*)\n((?:    (?!\$).*\n)*)", text, re.M)
-    screen = re.findall(r"^    (station .*)$", text, re.M)
+    screen = re.findall(r"^    (station .*|        +[0-9A-F]{4} .*)$", text, re.M)
     if not commands or not screen:
         sys.exit("README.md shows no mbpoll command at the simulated meter, or nothing of its screen")
     return [
         *((command, lambda command=command: run_command(command, meter.link), " ".join(shown.split())) for command, shown in commands),
         ("the meter's screen", lambda: "\n".join(meter.lines()[-len(screen):]), "\n".join(screen)),
+        ("the program for pymodbus", lambda: run_program(between(text, "pymodbus"), meter.link), between(text, "what pymodbus prints")),
     ]
 
 
@@ -208,17 +258,20 @@ def steps_of_master(master, meter):
     ]
 
 
+# Each part: the master that plays it, and its steps. The README's commands bring their own.
 PARTS = {
-    "mbpoll": lambda meter: steps_of_master(Mbpoll(meter.link), meter),
-    "pymodbus": lambda meter: steps_of_master(Pymodbus(meter.link), meter),
-    "README": steps_of_readme,
+    "mbpoll": (Mbpoll, steps_of_master),
+    "pymodbus": (Pymodbus, steps_of_master),
+    "kept": (Mbpoll, steps_of_keeping),
+    "README": (contextlib.nullcontext, lambda _, meter: steps_of_readme(meter)),
 }
 
 
 def play_part(name, command, sheet):
     """The steps of one part at a meter of its own: their texts, and the numbers of those that differ."""
-    with Meter(command, sheet) as meter:
-        steps = [*PARTS[name](meter), ("the meter is switched off", meter.switch_off, "status 0, link gone")]
+    master_of, steps_of = PARTS[name]
+    with Meter(command, sheet) as meter, master_of(meter.link) as master:
+        steps = [*steps_of(master, meter), ("the meter is switched off", meter.switch_off, "status 0, link gone")]
         return [f"{name}: {text}" for text, _, _ in steps], play(name, steps)
 
 

@@ -1,14 +1,15 @@
 /* The line of the simulated meter: a pseudo-terminal, and the frames on it. */
-#define _XOPEN_SOURCE 700
+#define _DEFAULT_SOURCE
 #include "line.h"
 
 #include <errno.h>
-#include <fcntl.h>
 #include <poll.h>
+#include <pty.h>
 #include <stdio.h>
 #include <stdlib.h>
 #include <string.h>
 #include <termios.h>
+#include <time.h>
 #include <unistd.h>
 
 /* On a wire 3.5 characters without a bit end a frame. A pseudo-terminal has no bit rate: bytes written together arrive together, however
@@ -21,62 +22,68 @@ static void give_up(const char *what)
     exit(1);
 }
 
-/* Bytes pass as they are, none is echoed, and a read waits for one byte at least. */
-static void make_raw(int master_end)
+long milliseconds(void)
 {
-    struct termios mode;
-    if (tcgetattr(master_end, &mode) != 0)
-        give_up("tcgetattr");
-    mode.c_iflag = 0;
-    mode.c_oflag = 0;
-    mode.c_lflag = 0;
-    mode.c_cflag = CS8 | CREAD | CLOCAL;
-    mode.c_cc[VMIN] = 1;
-    mode.c_cc[VTIME] = 0;
-    cfsetispeed(&mode, B9600);
-    cfsetospeed(&mode, B9600);
-    if (tcsetattr(master_end, TCSANOW, &mode) != 0)
-        give_up("tcsetattr");
+    struct timespec now;
+    clock_gettime(CLOCK_MONOTONIC, &now);
+    return now.tv_sec * 1000L + now.tv_nsec / 1000000;
 }
 
+/* The master's end stays open here too: with nobody at it, the meter's end would hang up each time a master leaves. */
 void open_line(struct line *line)
 {
-    line->meter_end = posix_openpt(O_RDWR | O_NOCTTY);
-    if (line->meter_end < 0)
-        give_up("posix_openpt");
-    if (grantpt(line->meter_end) != 0 || unlockpt(line->meter_end) != 0)
-        give_up("grantpt, unlockpt");
-    const char *name = ptsname(line->meter_end);
-    if (!name || strlen(name) >= sizeof line->name)
-        give_up("ptsname");
-    strcpy(line->name, name);
-    /* The master's end stays open here too: with nobody at it, the meter's end would hang up each time a master leaves. */
-    line->master_end = open(name, O_RDWR | O_NOCTTY);
-    if (line->master_end < 0)
-        give_up(name);
-    make_raw(line->master_end);
-    line->replied = 0;
+    struct termios mode;
+    memset(line, 0, sizeof *line);
+    memset(&mode, 0, sizeof mode);
+    cfmakeraw(&mode);
+    mode.c_cflag |= CREAD | CLOCAL;
+    cfsetspeed(&mode, B9600);
+    if (openpty(&line->meter_end, &line->master_end, NULL, &mode, NULL) != 0)
+        give_up("openpty");
+    errno = ttyname_r(line->master_end, line->name, sizeof line->name);
+    if (errno != 0)
+        give_up("ttyname_r");
 }
 
-/* Adds what has arrived to a frame of n bytes. What the frame has no room for is lost: it is too long with or without it. */
-static size_t take_bytes(struct line *line, uint8_t *frame, size_t n)
+void close_line(struct line *line)
+{
+    close(line->master_end);
+    close(line->meter_end);
+}
+
+/* Adds what has arrived to the frame. What it has no room for is lost: it is too long with or without it. */
+static void take_bytes(struct line *line)
 {
     uint8_t bytes[256];
     ssize_t got = read(line->meter_end, bytes, sizeof bytes);
     size_t more = got > 0 ? (size_t)got : 0;
-    if (more > FRAME_ROOM - n)
-        more = FRAME_ROOM - n;
-    memcpy(frame + n, bytes, more);
-    return n + more;
+    if (more > FRAME_ROOM - line->frame_n)
+        more = FRAME_ROOM - line->frame_n;
+    memcpy(line->frame + line->frame_n, bytes, more);
+    line->frame_n += more;
 }
 
-size_t take_frame(struct line *line, uint8_t *frame, int patience)
+static size_t whole_frame(struct line *line)
+{
+    size_t n = line->frame_n;
+    line->frame_n = 0;
+    return n;
+}
+
+size_t take_frame(struct line *line, long patience)
 {
     struct pollfd arrival = { .fd = line->meter_end, .events = POLLIN };
-    size_t n = 0;
-    while (poll(&arrival, 1, n == 0 ? patience : PAUSE) > 0)
-        n = take_bytes(line, frame, n);
-    return n;
+    long end = milliseconds() + patience;
+    for (long left = patience; left > 0; left = end - milliseconds()) {
+        int arrived = poll(&arrival, 1, line->frame_n > 0 ? PAUSE : (int)left);
+        if (arrived < 0)
+            return 0;
+        if (arrived == 0 && line->frame_n > 0)
+            return whole_frame(line);
+        if (arrived > 0)
+            take_bytes(line);
+    }
+    return 0;
 }
 
 int master_sends_at(const struct line *line, unsigned rate)

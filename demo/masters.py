@@ -1,11 +1,9 @@
 """The masters: mbpoll, pymodbus's client, and frames that no master would send. What a frame came to is said in words:
 the registers in hex, "done", "error 1" to "error 3", or "silence"."""
-import os
 import re
-import select
 import subprocess
-import termios
 
+import serial
 from pymodbus.client import ModbusSerialClient
 from pymodbus.exceptions import ModbusIOException
 from pymodbus.utilities import computeCRC
@@ -18,7 +16,7 @@ def words(values):
 
 
 class Mbpoll:
-    """One run of the command mbpoll for each frame."""
+    """One run of the command mbpoll for each frame. Between two of them nothing is open."""
 
     ERRORS = {"Illegal function": "error 1", "Illegal data address": "error 2", "Illegal data value": "error 3",
               "Connection timed out": "silence"}
@@ -27,6 +25,12 @@ class Mbpoll:
         self.link = link
         self.station = 1
         self.rate = 9600
+
+    def __enter__(self):
+        return self
+
+    def __exit__(self, *_):
+        pass
 
     def run(self, table, address, *words_of_command):
         """What mbpoll says, -0 so that it counts registers from 0 as the meter's documents do."""
@@ -62,6 +66,12 @@ class Pymodbus:
         self.link = link
         self.station = 1
         self.connect(9600)
+
+    def __enter__(self):
+        return self
+
+    def __exit__(self, *_):
+        self.client.close()
 
     def connect(self, rate):
         self.client = ModbusSerialClient(self.link, baudrate=rate, bytesize=8, parity="N", stopbits=1, timeout=TIMEOUT, retries=0)
@@ -110,24 +120,11 @@ def with_check(hex_bytes):
     return frame + computeCRC(frame).to_bytes(2, "big")
 
 
-def take_reply(line):
-    """The bytes that come until none has come for a while."""
-    reply = b""
-    while select.select([line], [], [], 0.2)[0]:
-        reply += os.read(line, 256)
-    return reply
-
-
 def send_raw(link, frame):
-    """A frame as no master would send it: the bytes that come back, in hex."""
-    line = os.open(link, os.O_RDWR | os.O_NOCTTY)
-    mode = termios.tcgetattr(line)
-    mode[4] = mode[5] = termios.B9600
-    termios.tcsetattr(line, termios.TCSANOW, mode)
-    os.write(line, frame)
-    reply = take_reply(line)
-    os.close(line)
-    return reply.hex(" ").upper() or "silence"
+    """A frame as no master would send it: the bytes that come back within half a second, in hex."""
+    with serial.Serial(link, 9600, timeout=0.5) as line:
+        line.write(frame)
+        return line.read(256).hex(" ").upper() or "silence"
 
 
 def damaged(hex_bytes):

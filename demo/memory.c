@@ -6,8 +6,6 @@
 #include <stdlib.h>
 #include <string.h>
 
-#include "cedarskein.h"
-
 /* Words of the sheet's header, and the words of the header and of an area row, by document 01. */
 enum { AREAS = 1, BANK_WORDS = 5, PLACE_OF_STATION = 8, PLACE_OF_RATE = 9, HEADER = 12, AREA_ROW = 4 };
 
@@ -34,22 +32,23 @@ static void read_sheet(struct meter *meter, const char *path)
     if (!file)
         give_up(path, strerror(errno));
     /* One byte more than a sheet can have is asked for, so that a longer file shows. */
-    meter->sheet_n = fread(meter->sheet, 1, LONGEST_SHEET + 1, file);
-    if (ferror(file))
-        give_up(path, strerror(errno));
+    meter->sheet_n = fread(meter->sheet, 1, sizeof meter->sheet, file);
+    int why = ferror(file) ? errno : 0;
     fclose(file);
-    if (meter->sheet_n > LONGEST_SHEET)
-        give_up(path, "more than 856 bytes; no sheet is longer");
+    if (why != 0)
+        give_up(path, strerror(why));
+    if (meter->sheet_n > CEDARSKEIN_LONGEST_SHEET)
+        give_up(path, "no sheet: it is longer than any");
 }
 
 void load_meter(struct meter *meter, const char *path)
 {
     read_sheet(meter, path);
-    if (cedarskein_sheet_check(meter->sheet, meter->sheet_n) != 0)
-        give_up(path, "number 2: the sheet breaks a rule of document 01");
+    if (cedarskein_sheet_check(meter->sheet, meter->sheet_n) != CEDARSKEIN_DONE)
+        give_up(path, "no sheet: it breaks a rule of document 01");
     meter->bank_n = 2 * bank_word_count(meter) + 2;
-    if (cedarskein_bank_fresh(meter->sheet, meter->sheet_n, meter->bank, meter->bank_n) != 0)
-        give_up(path, "number 3: the bank has not 2B + 2 bytes");
+    if (cedarskein_bank_fresh(meter->sheet, meter->sheet_n, meter->bank, meter->bank_n) != CEDARSKEIN_DONE)
+        give_up(path, "the bank has not 2B + 2 bytes");
 }
 
 unsigned area_count(const struct meter *meter)
@@ -62,6 +61,14 @@ struct area area_at(const struct meter *meter, unsigned number)
     const uint8_t *row = meter->sheet + 2 * (HEADER + AREA_ROW * number);
     struct area area = { word_at(row, 0), word_at(row, 1), word_at(row, 2), word_at(row, 3) };
     return area;
+}
+
+unsigned place_of(const struct meter *meter, unsigned address)
+{
+    unsigned number = 0;
+    while (number + 1 < area_count(meter) && area_at(meter, number + 1).first <= address)
+        number++;
+    return area_at(meter, number).place + address - area_at(meter, number).first;
 }
 
 unsigned bank_word_count(const struct meter *meter)

@@ -1,19 +1,30 @@
 /* A simulated meter: a pseudo-terminal that answers as the library does, with readings that change.
-   usage: meter SHEET [LINK]    LINK becomes a symbolic link to the pseudo-terminal as long as the meter runs */
+   usage: meter [-l LINK] [-b BANK] SHEET
+   LINK becomes a symbolic link to the pseudo-terminal as long as the meter runs. BANK is a file that keeps the bank from one run to the next. */
 #define _XOPEN_SOURCE 700
-#include <errno.h>
+#include <poll.h>
 #include <signal.h>
 #include <stdio.h>
+#include <stdlib.h>
 #include <string.h>
-#include <sys/stat.h>
-#include <time.h>
 #include <unistd.h>
 
+#include "bank_file.h"
 #include "cedarskein.h"
 #include "line.h"
+#include "link.h"
 #include "memory.h"
 #include "readings.h"
 #include "telling.h"
+
+#define SECONDS_OF_AN_HOUR 3600
+
+struct simulation {
+    struct meter meter;
+    struct bank_file bank;
+    struct line line;
+    unsigned frames;
+};
 
 static volatile sig_atomic_t switched_off;
 
@@ -23,112 +34,143 @@ static void switch_off(int signal)
     switched_off = 1;
 }
 
-/* Ctrl-C and a plain kill end the wait for a frame, and with it the loop. */
+/* A signal ends the wait for a frame, and with it the loop: Ctrl-C, a plain kill, a terminal that is closed, a screen that nobody reads.
+   What nohup has made deaf stays deaf. */
 static void heed_signals(void)
 {
-    struct sigaction action;
+    static const int signals[] = { SIGINT, SIGTERM, SIGHUP, SIGPIPE };
+    struct sigaction action, before;
     memset(&action, 0, sizeof action);
     action.sa_handler = switch_off;
-    sigaction(SIGINT, &action, NULL);
-    sigaction(SIGTERM, &action, NULL);
+    for (size_t k = 0; k < sizeof signals / sizeof *signals; k++) {
+        sigaction(signals[k], &action, &before);
+        if (signals[k] == SIGHUP && before.sa_handler == SIG_IGN)
+            sigaction(signals[k], &before, NULL);
+    }
 }
 
-static long milliseconds(void)
+/* A terminal that is closed sends its signal to the one process that leads it, which need not pass it on: make does not. */
+static int screen_is_gone(void)
 {
-    struct timespec now;
-    clock_gettime(CLOCK_MONOTONIC, &now);
-    return now.tv_sec * 1000L + now.tv_nsec / 1000000;
+    struct pollfd screen = { .fd = STDOUT_FILENO, .events = 0 };
+    return poll(&screen, 1, 0) > 0 && screen.revents & (POLLHUP | POLLERR);
 }
 
-static void answer_frame(struct meter *meter, struct line *line, const uint8_t *frame, size_t n)
+/* Kept and told ahead of sending it: a reply tells of what is kept, and a master that has it finds it on the screen. */
+static void reply_to_frame(struct simulation *simulation, const struct meter *before, const struct exchange *exchange)
 {
+    tell_answer(before, &simulation->meter, exchange);
+    if (keep_bank_settings(&simulation->bank) == 0)
+        send_reply(&simulation->line, exchange->reply, exchange->reply_n);
+}
+
+static void answer_frame(struct simulation *simulation, const uint8_t *frame, size_t n)
+{
+    struct meter *meter = &simulation->meter;
     struct meter before = *meter;
-    uint8_t reply[LONGEST_FRAME];
+    uint8_t reply[CEDARSKEIN_LEAST_OUT];
     uint32_t length, rate;
     uint32_t number = cedarskein_answer(meter->sheet, meter->sheet_n, meter->bank, meter->bank_n, frame, n, reply, sizeof reply,
                                         &length, &rate);
-    if (number == 0) {
-        /* Told ahead of sending it: a master that has the reply finds it on the screen. */
-        tell_answer(&before, meter, reply, length, rate);
-        send_reply(line, reply, length);
-    } else if (number == 1) {
+    if (number == CEDARSKEIN_DONE) {
+        struct exchange exchange = { frame, n, reply, length, rate };
+        reply_to_frame(simulation, &before, &exchange);
+    } else if (number == CEDARSKEIN_SILENCE) {
         tell_silence(frame, n, station_of(meter));
     } else {
         printf("number %u: the meter is out of order\n", (unsigned)number);
     }
 }
 
-static void hear_frame(struct meter *meter, struct line *line, const uint8_t *frame, size_t n)
+static void hear_frame(struct simulation *simulation, const uint8_t *frame, size_t n)
 {
+    unsigned rate = rate_of(&simulation->meter);
     tell_frame(frame, n);
+    simulation->frames++;
     /* A master at another bit rate is noise to a meter: no byte of it comes in as it was sent. */
-    if (master_sends_at(line, rate_of(meter)))
-        answer_frame(meter, line, frame, n);
+    if (master_sends_at(&simulation->line, rate))
+        answer_frame(simulation, frame, n);
     else
-        printf("noise: not sent at %s\n", bit_rate(rate_of(meter)));
+        printf("noise: not sent at %s\n", bit_rate(rate));
 }
 
-static unsigned run(struct meter *meter, struct line *line)
+static void pass_second(struct simulation *simulation, struct readings *readings)
 {
-    struct readings readings = { 0, 0 };
-    uint8_t frame[FRAME_ROOM];
-    unsigned frames = 0;
+    post_next_second(readings, &simulation->meter);
+    forget_old_reply(&simulation->line);
+    if (readings->second % SECONDS_OF_AN_HOUR == 0)
+        keep_bank_readings(&simulation->bank);
+}
+
+static void run(struct simulation *simulation)
+{
+    struct readings readings = begin_readings(&simulation->meter);
     long next_second = milliseconds();
     while (!switched_off) {
         if (milliseconds() >= next_second) {
-            post_next_second(&readings, meter);
-            forget_old_reply(line);
+            switched_off |= screen_is_gone();
+            pass_second(simulation, &readings);
             next_second += 1000;
         }
-        long patience = next_second - milliseconds();
-        size_t n = take_frame(line, frame, patience > 0 ? (int)patience : 0);
-        if (n > 0) {
-            hear_frame(meter, line, frame, n);
-            frames++;
-        }
+        size_t n = take_frame(&simulation->line, next_second - milliseconds());
+        if (n > 0)
+            hear_frame(simulation, simulation->line.frame, n);
     }
-    return frames;
 }
 
-/* A link that an earlier run left is replaced, any other file is not. */
-static int make_link(const char *name, const char *link)
+struct names {
+    const char *sheet, *link, *bank;
+};
+
+/* The names of the command line. Says how it is used, and ends the program, where it is used otherwise. */
+static struct names names_given(int argc, char **argv)
 {
-    struct stat status;
-    if (lstat(link, &status) == 0 && S_ISLNK(status.st_mode))
-        unlink(link);
-    if (symlink(name, link) == 0)
-        return 0;
-    fprintf(stderr, "%s: %s\n", link, strerror(errno));
-    return 1;
+    struct names names = { NULL, NULL, NULL };
+    int letter = getopt(argc, argv, "l:b:");
+    for (; letter == 'l' || letter == 'b'; letter = getopt(argc, argv, "l:b:"))
+        *(letter == 'l' ? &names.link : &names.bank) = optarg;
+    if (letter != -1 || optind + 1 != argc) {
+        fprintf(stderr, "usage: meter [-l LINK] [-b BANK] SHEET\n");
+        exit(1);
+    }
+    names.sheet = argv[optind];
+    return names;
 }
 
-/* A mark that is set gives a clear something to do; a sheet without function 05 has no use for it. */
-static void set_mark(struct meter *meter)
+static void take_line_down(struct simulation *simulation, const struct names *names)
 {
+    if (names->link)
+        remove_link(simulation->line.name, names->link);
+    close_line(&simulation->line);
+}
+
+/* A fresh bank whose mark is set, which gives a clear something to do; or the bank that was kept. */
+static int switch_on(struct simulation *simulation, const struct names *names)
+{
+    struct meter *meter = &simulation->meter;
+    load_meter(meter, names->sheet);
     cedarskein_set_mark(meter->sheet, meter->sheet_n, meter->bank, meter->bank_n, 1);
+    open_line(&simulation->line);
+    if ((!names->link || make_link(simulation->line.name, names->link) == 0)
+        && (!names->bank || open_bank(&simulation->bank, meter, names->bank) == 0))
+        return 0;
+    take_line_down(simulation, names);
+    return -1;
 }
 
 int main(int argc, char **argv)
 {
-    struct meter meter;
-    struct line line;
-    const char *link = argc == 3 ? argv[2] : NULL;
-    if (argc != 2 && argc != 3) {
-        fprintf(stderr, "usage: meter SHEET [LINK]\n");
-        return 1;
-    }
+    static struct simulation simulation;
+    struct names names = names_given(argc, argv);
     setvbuf(stdout, NULL, _IOLBF, 0);
-    load_meter(&meter, argv[1]);
-    set_mark(&meter);
-    open_line(&line);
-    if (link && make_link(line.name, link) != 0)
-        return 1;
     heed_signals();
-    printf("meter on %s, station %u at %s, 8 data bits, no parity, 1 stop bit; Ctrl-C ends it\n", link ? link : line.name,
-           station_of(&meter), bit_rate(rate_of(&meter)));
-    unsigned frames = run(&meter, &line);
-    if (link)
-        unlink(link);
-    printf("meter off after %u frames\n", frames);
+    if (switch_on(&simulation, &names) != 0)
+        return 1;
+    printf("meter on %s, station %u at %s, 8 data bits, no parity, 1 stop bit; Ctrl-C ends it\n",
+           names.link ? names.link : simulation.line.name, station_of(&simulation.meter), bit_rate(rate_of(&simulation.meter)));
+    run(&simulation);
+    take_line_down(&simulation, &names);
+    close_bank(&simulation.bank);
+    printf("meter off after %u frames\n", simulation.frames);
     return 0;
 }

@@ -2,25 +2,31 @@
 #include "readings.h"
 
 #include <stdio.h>
-#include <string.h>
 
-#include "cedarskein.h"
-#include "cedarskein_sheets.h"
+#include "cedarskein_registers.h"
+#include "registers.h"
 
 /* The flow rises for five minutes and falls for five. */
 #define HALF_WAVE 300
 
-/* What the Positive integration value counted before the start, in 0.01 m3. */
-#define POSITIVE_BEFORE 1234567
+/* What the meter had counted before it was first switched on, in 0.01 m3. */
+#define COUNTED_BEFORE 1234567
 
-/* The place of 0110, the Used gas pressure set value, in the bank of UX15/25. */
-#define PLACE_OF_PRESSURE 0x10
+/* What AS-WE reads besides the flow, in its steps. */
+enum { ASWE_PRESSURE_READING = 20130, ASWE_VELOCITY_READING = 43000 };
 
-static void post(struct meter *meter, unsigned address, const uint8_t *words, size_t count)
+/* The words of an access 1 area, which are posted together. */
+struct posting {
+    struct meter *meter;
+    struct area area;
+    uint8_t words[CEDARSKEIN_LONGEST_BANK];
+};
+
+static void set_reading(struct posting *posting, unsigned address, uint64_t value)
 {
-    uint32_t number = cedarskein_post(meter->sheet, meter->sheet_n, meter->bank, meter->bank_n, address, words, 2 * count);
-    if (number != 0)
-        printf("posting at %04X handed back %u\n", address, (unsigned)number);
+    struct register_row row = register_at(posting->meter, address);
+    for (unsigned k = 0; k < row.words; k++)
+        store_word(posting->words, address - posting->area.first + k, (unsigned)(value >> 16 * (row.words - 1 - k)) & 0xFFFF);
 }
 
 static unsigned wave(unsigned second)
@@ -29,57 +35,85 @@ static unsigned wave(unsigned second)
     return phase < HALF_WAVE ? phase : 2 * HALF_WAVE - phase;
 }
 
-/* The six bytes of an integration value, upper word first. */
-static void store_integration(uint8_t *words, size_t number, uint64_t value)
+/* In 0.01 m3/h and in 0.1 degrees. */
+static unsigned flow_at(unsigned second)
 {
-    store_word(words, number, (unsigned)(value >> 32) & 0xFFFF);
-    store_word(words, number + 1, (unsigned)(value >> 16) & 0xFFFF);
-    store_word(words, number + 2, (unsigned)value & 0xFFFF);
+    return 200 + 2 * wave(second);
 }
 
-/* 0200 to 020A as document 001 has them, section 7.2.3. */
-static void post_ux(struct readings *readings, struct meter *meter)
+static unsigned temperature_at(unsigned second)
 {
-    uint8_t words[22];
-    unsigned flow = 200 + 2 * wave(readings->second);
-    readings->flowed += flow;
-    store_word(words, 0, 0);                                            /* 0200, 0201 instantaneous flow rate, 0.01 m3/h */
-    store_word(words, 1, flow);
-    store_word(words, 2, word_at(meter->bank, PLACE_OF_PRESSURE));      /* 0202 pressure: the one set at 0110, 0.01 kPa */
-    store_word(words, 3, 150 + wave(readings->second) / 10);            /* 0203 temperature, 0.1 degrees */
-    store_integration(words, 4, POSITIVE_BEFORE + readings->flowed / 3600); /* 0204 to 0206 positive integration value, 0.01 m3 */
-    store_integration(words, 7, readings->flowed / 3600);               /* 0207 to 0209 trip integration value */
-    store_word(words, 10, 0);                                           /* 020A error information: none */
-    post(meter, 0x0200, words, 11);
+    return 150 + wave(second) / 10;
+}
+
+/* As document 001, 7.2.3, has them. The gas pressure is the one that is set; there is no error. */
+static void set_ux(struct posting *posting, const struct readings *readings)
+{
+    uint64_t trip = readings->flowed / 3600;
+    set_reading(posting, CEDARSKEIN_UX_FLOW, flow_at(readings->second));
+    set_reading(posting, CEDARSKEIN_UX_GAS_PRESSURE, value_at(posting->meter, CEDARSKEIN_UX_GAS_PRESSURE_SETTING));
+    set_reading(posting, CEDARSKEIN_UX_TEMPERATURE, temperature_at(readings->second));
+    set_reading(posting, CEDARSKEIN_UX_TOTAL_VOLUME, readings->before_trip + trip);
+    set_reading(posting, CEDARSKEIN_UX_TRIP_VOLUME, trip);
+}
+
+/* As document 003, 3-2, has them: volumes in 0.1 m3, the temperature in 0.01 degrees. Actual and compensated flow are the same here, and
+   nothing flows back. */
+static void set_aswe(struct posting *posting, const struct readings *readings)
+{
+    uint64_t volume = (readings->before_trip + readings->flowed / 3600) / 10;
+    set_reading(posting, CEDARSKEIN_ASWE_ACTUAL_FLOW, flow_at(readings->second));
+    set_reading(posting, CEDARSKEIN_ASWE_COMPENSATED_FLOW, flow_at(readings->second));
+    set_reading(posting, CEDARSKEIN_ASWE_PRESSURE, ASWE_PRESSURE_READING);
+    set_reading(posting, CEDARSKEIN_ASWE_TEMPERATURE, 10 * temperature_at(readings->second));
+    set_reading(posting, CEDARSKEIN_ASWE_FORWARD_ACTUAL_VOLUME, volume);
+    set_reading(posting, CEDARSKEIN_ASWE_FORWARD_COMPENSATED_VOLUME, volume);
+    set_reading(posting, CEDARSKEIN_ASWE_SOUND_VELOCITY, ASWE_VELOCITY_READING);
 }
 
 /* What the words of another sheet mean is not known here: each counts the seconds, from its place on. */
-static void post_count(const struct readings *readings, struct meter *meter, struct area area)
+static void set_counts(struct posting *posting, const struct readings *readings)
 {
-    uint8_t words[LARGEST_BANK];
-    unsigned count = area.last - area.first + 1;
-    for (unsigned k = 0; k < count; k++)
-        store_word(words, k, (readings->second + area.place + k) & 0xFFFF);
-    post(meter, area.first, words, count);
+    for (unsigned address = posting->area.first; address <= posting->area.last; address++)
+        set_reading(posting, address, readings->second + place_of(posting->meter, address));
 }
 
-static void post_counts(const struct readings *readings, struct meter *meter)
+static void post_area(struct meter *meter, struct area area, const struct readings *readings)
 {
-    for (unsigned k = 0; k < area_count(meter); k++)
-        if (area_at(meter, k).access == 1)
-            post_count(readings, meter, area_at(meter, k));
+    struct posting posting = { meter, area, { 0 } };
+    switch (map_of(meter)) {
+    case UX_MAP: set_ux(&posting, readings); break;
+    case ASWE_MAP: set_aswe(&posting, readings); break;
+    default: set_counts(&posting, readings); break;
+    }
+    uint32_t number = cedarskein_post(meter->sheet, meter->sheet_n, meter->bank, meter->bank_n, area.first, posting.words,
+                                      2 * (area.last + 1 - area.first));
+    if (number != CEDARSKEIN_DONE)
+        printf("posting at %04X handed back %u\n", area.first, (unsigned)number);
 }
 
-static int is_ux(const struct meter *meter)
+struct readings begin_readings(const struct meter *meter)
 {
-    return meter->sheet_n == CEDARSKEIN_UX_SHEET_SIZE && memcmp(meter->sheet, cedarskein_ux_sheet, meter->sheet_n) == 0;
+    struct readings readings = { 0, COUNTED_BEFORE, 0 };
+    uint64_t total = 0, trip = 0;
+    if (map_of(meter) == UX_MAP) {
+        total = value_at(meter, CEDARSKEIN_UX_TOTAL_VOLUME);
+        trip = value_at(meter, CEDARSKEIN_UX_TRIP_VOLUME);
+    } else if (map_of(meter) == ASWE_MAP) {
+        total = 10 * value_at(meter, CEDARSKEIN_ASWE_FORWARD_ACTUAL_VOLUME);
+    }
+    if (total > 0 && total >= trip) {
+        readings.before_trip = total - trip;
+        readings.flowed = 3600 * trip;
+    }
+    return readings;
 }
 
 void post_next_second(struct readings *readings, struct meter *meter)
 {
     readings->second++;
-    if (is_ux(meter))
-        post_ux(readings, meter);
-    else
-        post_counts(readings, meter);
+    readings->flowed += flow_at(readings->second);
+    for (unsigned k = 0; k < area_count(meter); k++)
+        if (area_at(meter, k).access == READ_ONLY_AREA)
+            post_area(meter, area_at(meter, k), readings);
 }

@@ -3,56 +3,35 @@
 #include <stdlib.h>
 #include <string.h>
 
-#include "cedarskein.h"
-#include "memory.h"
-
-#define LONGEST_FRAME 100
-
-struct register_name {
-    const char *address;
-    const char *name;
-};
-
-/* The names that document 000 gives the registers of UX15/25. */
-static const struct register_name NAMES[] = {
-    { "0100", "Conversion reference temperature" },
-    { "0101", "Output pulse constant" },
-    { "0102", "Alarm output contact state" },
-    { "0103", "Alarm output upper limit" },
-    { "0105", "Alarm output lower limit" },
-    { "0107", "Alarm output hysteresis width" },
-    { "0109", "Instantaneous flow moving average times" },
-    { "010A", "Analog output full-scale flow rate" },
-    { "010C", "Analog output switching" },
-    { "010D", "Communication bit rate" },
-    { "010E", "RTU Address" },
-    { "010F", "Flow rate conversion select" },
-    { "0110", "Used gas pressure set value (gage)" },
-    { "0111", "Test mode time select" },
-    { "0112", "Conversion reference pressure (gage)" },
-    { "0113", "Integration value upper limit alarm threshold" },
-    { "0115", "Alarm output select" },
-    { "0116", "Gas species select" },
-};
+#include "cedarskein_registers.h"
+#include "registers.h"
 
 static struct meter meter;
-static uint8_t reply[LONGEST_FRAME];
+static uint8_t reply[CEDARSKEIN_LEAST_OUT];
 
-static const char *name_of(const char *line)
+/* A line of the listing is an address, a kind and two bounds: behind these, the register's name, and the bounds in its unit. */
+static void tell_item(const char *line)
 {
-    for (size_t k = 0; k < sizeof NAMES / sizeof *NAMES; k++)
-        if (strncmp(line, NAMES[k].address, 4) == 0)
-            return NAMES[k].name;
-    return "";
+    unsigned address;
+    long low, high;
+    printf("  %-18s", line);
+    if (sscanf(line, "%4x %*c %ld %ld", &address, &low, &high) == 3) {
+        struct register_row row = register_at(&meter, address);
+        printf("%s: ", row.name);
+        print_range(&row, low, high);
+    }
+    printf("\n");
 }
 
-/* The listing comes from the listing program, by standard input. */
+/* The listing comes from the listing program, by standard input: a line with counts, and then the items. */
 static void tell_listing(void)
 {
     char line[80];
+    if (fgets(line, sizeof line, stdin))
+        printf("  %s", line);
     while (fgets(line, sizeof line, stdin)) {
         line[strcspn(line, "\n")] = '\0';
-        printf(*name_of(line) ? "  %-18s%s\n" : "  %s%s\n", line, name_of(line));
+        tell_item(line);
     }
 }
 
@@ -91,9 +70,9 @@ static void send_frame(const uint8_t *frame, size_t n)
     tell_bytes(">", frame, n);
     uint32_t number = cedarskein_answer(meter.sheet, meter.sheet_n, meter.bank, meter.bank_n, frame, n, reply, sizeof reply,
                                         &length, &rate);
-    if (number == 0)
+    if (number == CEDARSKEIN_DONE)
         tell_bytes("<", reply, length);
-    else if (number == 1)
+    else if (number == CEDARSKEIN_SILENCE)
         printf("  < silence\n");
     else
         printf("  < number %u\n", (unsigned)number);
@@ -101,7 +80,7 @@ static void send_frame(const uint8_t *frame, size_t n)
 
 static void ask(const char *hex)
 {
-    uint8_t frame[LONGEST_FRAME];
+    uint8_t frame[CEDARSKEIN_LONGEST_FRAME];
     send_frame(frame, add_check(frame, from_hex(frame, hex)));
 }
 
@@ -112,19 +91,31 @@ static unsigned pair_read(size_t word)
     return word_at(words, word) << 16 | word_at(words, word + 1);
 }
 
-/* A limit counts tenths of a cubic metre in the hour. */
+/* A value of one of the three limits, as words and in their unit. */
 static void tell_limit(const char *what, unsigned pair, const char *end)
 {
-    printf("  %s %04X %04X, %u.%u m3/h%s\n", what, pair >> 16, pair & 0xFFFF, pair / 10, pair % 10, end);
+    struct register_row row = register_at(&meter, CEDARSKEIN_UX_ALARM_UPPER_LIMIT);
+    printf("  %s %04X %04X, ", what, pair >> 16, pair & 0xFFFF);
+    print_value(&row, pair);
+    printf("%s\n", end);
+}
+
+static void tell_named_limit(unsigned address, unsigned pair, const char *end)
+{
+    char name[40], what[40];
+    struct register_row row = register_at(&meter, address);
+    snprintf(name, sizeof name, "%s:", row.name);
+    snprintf(what, sizeof what, "%-18s", name);
+    tell_limit(what, pair, end);
 }
 
 static void tell_meter(void)
 {
     printf("You stand at the pump in the orchard, and want its gas alarm to come later. The meter is a UX15/25,\n"
-           "station 1. This is its sheet, listed; the names are document 000's:\n\n");
+           "station 1. This is its sheet, listed, with the names and units of docs/REGISTERS.md:\n\n");
     tell_listing();
     printf("\nu is a word, s a signed word, p a pair: two registers that hold one number. Then come the lowest\n"
-           "and the highest value. Flow limits count tenths: 99999 is 9999.9 m3/h.\n"
+           "and the highest value. The three limits count tenths: 99999 is 9999.9 m3/h.\n"
            "Below, > goes to the meter and < comes back. The last two bytes are the check.\n");
 }
 
@@ -132,7 +123,7 @@ static void tell_limit_before(void)
 {
     printf("\n1. The limit before\n");
     ask("01 10 01 03 00 02 04 00 00 98 76");
-    printf("  The hand before you set the Alarm output upper limit, 0103 and 0104, to 3903.0 m3/h.\n");
+    printf("  The hand before you set the Alarm upper limit, 0103 and 0104, to 3903.0 m3/h.\n");
     ask("01 03 01 03 00 02");
     tell_limit("You read it back:", pair_read(0), ".");
 }
@@ -163,15 +154,15 @@ static void tell_half_way(void)
     ask("01 10 01 03 00 06 0C 00 00 03 E8 00 01 86 A0 00 00 00 32");
     printf("  Error 03 for 100.0, 10000.0 and 5.0 m3/h. Those ahead of the first bad one are stored, no others.\n");
     ask("01 03 01 03 00 06");
-    tell_limit("Alarm output upper limit:     ", pair_read(0), ": stored, though the reply was an error.");
-    tell_limit("Alarm output lower limit:     ", pair_read(2), ": the bad one, as it was.");
-    tell_limit("Alarm output hysteresis width:", pair_read(4), ": good, but behind the bad one, as it was.");
+    tell_named_limit(CEDARSKEIN_UX_ALARM_UPPER_LIMIT, pair_read(0), ": stored, though the reply was an error.");
+    tell_named_limit(CEDARSKEIN_UX_ALARM_LOWER_LIMIT, pair_read(2), ": the bad one, as it was.");
+    tell_named_limit(CEDARSKEIN_UX_ALARM_HYSTERESIS, pair_read(4), ": good, but behind the bad one, as it was.");
 }
 
 static void tell_silence(void)
 {
-    uint8_t before[LARGEST_BANK];
-    uint8_t damaged[LONGEST_FRAME];
+    uint8_t before[CEDARSKEIN_LONGEST_BANK];
+    uint8_t damaged[CEDARSKEIN_LONGEST_FRAME];
     memcpy(before, meter.bank, meter.bank_n);
     printf("\n5. Frames that the meter does not answer\n");
     size_t n = add_check(damaged, from_hex(damaged, "01 06 01 04 13 88"));
@@ -189,7 +180,8 @@ static void tell_where_next(void)
     printf("\nAfter an error 03, read back: the reply does not say how much was stored.\n\n"
            "Next: make meter    a meter like this one, on a line of its own, for your own program\n"
            "      make test     the proofs that it is so for every frame and every sheet\n"
-           "      docs/CLAIMS.md    what is claimed, sentence by sentence\n");
+           "      docs/REGISTERS.md    each register's name, range and unit\n"
+           "      docs/CLAIMS.md       what is claimed, sentence by sentence\n");
 }
 
 int main(int argc, char **argv)

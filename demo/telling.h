@@ -4,6 +4,15 @@
 
 #include "memory.h"
 
+/* A frame and its reply, which goes out at a rate. */
+struct exchange {
+    const uint8_t *frame;
+    size_t frame_n;
+    const uint8_t *reply;
+    size_t reply_n;
+    unsigned rate;
+};
+
 /* The bits in a second of a rate as document 01 counts it. */
 const char *bit_rate(unsigned rate);
 
@@ -13,7 +22,8 @@ void tell_frame(const uint8_t *frame, size_t n);
 /* Why a frame that document 01 meets with silence got it, by its steps 1, 2 and 4. */
 void tell_silence(const uint8_t *frame, size_t n, unsigned station);
 
-/* A reply, and the registers, the alarm mark, the station and the rate that are not as they were before the frame. */
-void tell_answer(const struct meter *before, const struct meter *now, const uint8_t *reply, size_t n, unsigned rate);
+/* A reply, and the alarm mark, the station and the rate that are not as they were before the frame; then each register of the frame, with its
+   value in its unit. */
+void tell_answer(const struct meter *before, const struct meter *now, const struct exchange *exchange);
 
 #endif

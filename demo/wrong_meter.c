@@ -36,18 +36,18 @@ static void sign(uint8_t *frame, size_t n, uint8_t station)
 uint32_t __wrap_cedarskein_answer(const uint8_t *sheet, size_t sheet_n, uint8_t *bank, size_t bank_n, const uint8_t *frame, size_t frame_n,
                                   uint8_t *out, size_t out_n, uint32_t *length, uint32_t *rate)
 {
-    uint8_t heard[LONGEST_FRAME] = { 0 };
-    size_t n = frame_n < LONGEST_FRAME ? frame_n : LONGEST_FRAME;
+    uint8_t heard[CEDARSKEIN_LONGEST_FRAME] = { 0 };
+    size_t n = frame_n < CEDARSKEIN_LONGEST_FRAME ? frame_n : CEDARSKEIN_LONGEST_FRAME;
     size_t station = 2 * ((size_t)sheet[16] << 8 | sheet[17]) + 1; /* the lower byte at the place that word 8 of the sheet names */
     memcpy(heard, frame, n);
     *length = *rate = 0;
     if (ALWAYS_SILENT || n < 4)
-        return 1;
+        return CEDARSKEIN_SILENCE;
     sign(heard, n, bank[station]);
-    if (__real_cedarskein_answer(sheet, sheet_n, bank, bank_n, heard, n, out, out_n, length, rate) != 0) {
+    if (__real_cedarskein_answer(sheet, sheet_n, bank, bank_n, heard, n, out, out_n, length, rate) != CEDARSKEIN_DONE) {
         memcpy(out, heard, n);
         *length = (uint32_t)n;
     }
     sign(out, *length, frame[0]);
-    return 0;
+    return CEDARSKEIN_DONE;
 }

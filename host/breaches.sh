@@ -5,13 +5,21 @@ folder=$1
 shift
 host=$(dirname "$0")
 
+# Runs a test, and says its name where it fails. A test that fails says where, also with its output in a file.
+try() {
+    name=$1
+    shift
+    "$@" >"$folder/broken.txt" 2>&1 && return
+    if grep -q '^FAILED: .' "$folder/broken.txt"; then printf ' %s' "$name"; else printf ' %s(wordless)' "$name"; fi
+}
+
 # The tests that fail, by name.
 failing() {
     for test in refusals buffers check_values edges power_cut; do
-        "$@" "$folder/broken_$test" >/dev/null 2>&1 || printf ' %s' "$test"
+        try "$test" "$@" "$folder/broken_$test"
     done
-    "$@" "$folder/broken_rows" "$folder/broken.out" "case set P" <"$host/set_p.rows" >/dev/null 2>&1 || printf ' set_p'
-    "$@" "$folder/broken_rows" "$folder/broken.out" "cases" <"$host/../crates/cases/stdin" >/dev/null 2>&1 || printf ' cases'
+    try set_p "$@" "$folder/broken_rows" "$folder/broken.out" "case set P" <"$host/set_p.rows"
+    try cases "$@" "$folder/broken_rows" "$folder/broken.out" "cases" <"$host/../crates/cases/stdin"
 }
 
 unset BREACH
@@ -21,6 +29,7 @@ count=0
 for breach in $(sed -n 's/.*breach_is("\([a-z0-9_]*\)").*/\1/p' "$host/breaches.c"); do
     caught=$(BREACH=$breach; export BREACH; failing "$@")
     [ -n "$caught" ] || { echo "FAILED: no test sees the breach $breach"; exit 1; }
+    case $caught in *wordless*) echo "FAILED: at the breach $breach a test fails and does not say where:$caught"; exit 1 ;; esac
     [ -z "$VERBOSE" ] || echo "$breach:$caught"
     count=$((count + 1))
 done

@@ -25,6 +25,11 @@ struct edge {
 static struct edge sheet, bank, frame, out, words;
 static int at_end;
 
+static const char *edge_name(void)
+{
+    return at_end ? "end" : "front";
+}
+
 static void touched(int signal_number)
 {
     (void)signal_number;
@@ -69,7 +74,7 @@ static uint32_t answer(void)
 /* Noise behind each function in turn, with a right check: whatever it is answered, nothing beyond is touched. */
 static void frame_of(size_t n, uint8_t function)
 {
-    at_case("a frame of %lu bytes, function %02X, at the %s", (unsigned long)n, function, at_end ? "end" : "front");
+    at_case("a frame of %lu bytes, function %02X, at the %s", (unsigned long)n, function, edge_name());
     edge_noise(&frame, n);
     if (n > 1) {
         frame.bytes[0] = station_of(sheet.bytes, bank.bytes);
@@ -83,7 +88,7 @@ static void frame_of(size_t n, uint8_t function)
 static void whole_area(uint16_t first, uint16_t count, uint32_t posted)
 {
     uint8_t bytes[8] = { 0, 3 };
-    at_case("count %u from %04X on, at the %s", count, first, at_end ? "end" : "front");
+    at_case("count %u from %04X on, at the %s", count, first, edge_name());
     bytes[0] = station_of(sheet.bytes, bank.bytes);
     set_word(bytes, 1, first);
     set_word(bytes, 2, count);
@@ -95,8 +100,9 @@ static void whole_area(uint16_t first, uint16_t count, uint32_t posted)
     expect_number(CEDARSKEIN_DONE, cedarskein_set_mark(sheet.bytes, sheet.n, bank.bytes, bank.n, 1), "the mark");
 }
 
-static void start(const uint8_t *bytes, size_t n)
+static void start(const char *meter, const uint8_t *bytes, size_t n)
 {
+    at_case("a fresh bank of %s, at the %s", meter, edge_name());
     edge_copy(&sheet, bytes, n);
     edge_noise(&bank, 2 * (size_t)word_at(bytes, 5) + 2);
     edge_noise(&out, CEDARSKEIN_LEAST_OUT);
@@ -111,26 +117,46 @@ static void frames(void)
         frame_of(i / sizeof functions, functions[i % sizeof functions]);
 }
 
-/* Every length of the front of a sheet, and of noise with a sheet's first word. */
+/* The front of a sheet; where it is longer, the whole sheet and noise behind it. */
+static void sheet_of(size_t n)
+{
+    size_t front = n < CEDARSKEIN_UX_SHEET_SIZE ? n : CEDARSKEIN_UX_SHEET_SIZE;
+    at_case("the front of the UX sheet and noise, %lu bytes, at the %s", (unsigned long)n, edge_name());
+    edge_noise(&sheet, n);
+    memcpy(sheet.bytes, cedarskein_ux_sheet, front);
+    expect_number(n == CEDARSKEIN_UX_SHEET_SIZE ? CEDARSKEIN_DONE : CEDARSKEIN_SHEET_BREAKS_RULE,
+                  cedarskein_sheet_check(sheet.bytes, sheet.n), "sheet_check");
+}
+
+/* Noise behind a header that allows the most areas and items and says this length: as many rows are read as the bytes hold, and more. */
+static void noise_of(size_t n)
+{
+    static const uint8_t most[16] = { 0, 1, 0, 8, 0, 12, 0, 64, 0, 44, 1, 0, 0, 15 };
+    at_case("noise behind the front of a sheet's header, %lu bytes, at the %s", (unsigned long)n, edge_name());
+    edge_noise(&sheet, n);
+    memcpy(sheet.bytes, most, n < sizeof most ? n : sizeof most);
+    if (n >= sizeof most)
+        set_word(sheet.bytes, 7, (uint16_t)(n / 2));
+    expect_number(CEDARSKEIN_SHEET_BREAKS_RULE, cedarskein_sheet_check(sheet.bytes, sheet.n), "sheet_check");
+}
+
 static void sheets(void)
 {
     size_t n;
     for (n = 0; n <= CEDARSKEIN_LONGEST_SHEET; n++) {
-        edge_copy(&sheet, cedarskein_ux_sheet, n < CEDARSKEIN_UX_SHEET_SIZE ? n : CEDARSKEIN_UX_SHEET_SIZE - 1);
-        expect_number(2, cedarskein_sheet_check(sheet.bytes, sheet.n), "the front of a sheet");
-        edge_noise(&sheet, n);
-        expect_number(2, cedarskein_sheet_check(sheet.bytes, sheet.n), "noise");
+        sheet_of(n);
+        noise_of(n);
     }
 }
 
 static void run(int end)
 {
     at_end = end;
-    start(cedarskein_ux_sheet, CEDARSKEIN_UX_SHEET_SIZE);
+    start("UX15/25", cedarskein_ux_sheet, CEDARSKEIN_UX_SHEET_SIZE);
     whole_area(0x0100, 23, 6);
     whole_area(0x0200, 11, 0);
     frames();
-    start(cedarskein_aswe_80_sheet, CEDARSKEIN_ASWE_80_SHEET_SIZE);
+    start("AS-WE 80", cedarskein_aswe_80_sheet, CEDARSKEIN_ASWE_80_SHEET_SIZE);
     whole_area(0x00FF, 11, 6);
     whole_area(0x01FF, 16, 0);
     frames();

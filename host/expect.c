@@ -1,4 +1,4 @@
-/* Counts what is expected and what fails. */
+/* Counts what is expected and what fails. What is said is flushed at once: a test may end by a signal, with its output in a file. */
 #include "expect.h"
 
 #include <stdarg.h>
@@ -29,18 +29,23 @@ static int may_print(int holds)
 
 void expect(int holds, const char *what)
 {
-    if (may_print(holds))
-        printf("FAILED: %s: %s\n", case_name, what);
+    if (!may_print(holds))
+        return;
+    printf("FAILED: %s: %s\n", case_name, what);
+    fflush(stdout);
 }
 
 void expect_number(unsigned long expected, unsigned long got, const char *what)
 {
-    if (may_print(expected == got))
-        printf("FAILED: %s: %s: expected %lX, got %lX\n", case_name, what, expected, got);
+    if (!may_print(expected == got))
+        return;
+    printf("FAILED: %s: %s: expected %lX, got %lX\n", case_name, what, expected, got);
+    fflush(stdout);
 }
 
 int told(const char *what)
 {
     printf("%s: %lu expectations, %lu failed\n", what, expected_count, failed_count);
+    fflush(stdout);
     return failed_count != 0 || expected_count == 0;
 }

@@ -1,5 +1,7 @@
-/* Both headers, as C and as C++: the named sizes, the sheets, every function of the door, and where a bank holds rate and station. */
+/* The headers, as C and as C++: the named sizes, the sheets, the registers' addresses, every function of the door, and where a bank holds
+ * rate and station. */
 #include "cedarskein.h"
+#include "cedarskein_registers.h"
 #include "cedarskein_sheets.h"
 
 #include <stdio.h>
@@ -39,7 +41,7 @@ static void next_rate_and_station(void)
 {
     static const uint8_t *sheet = cedarskein_ux_sheet;
     static uint8_t bank[CEDARSKEIN_UX_BANK_SIZE], out[CEDARSKEIN_LEAST_OUT];
-    uint8_t frame[13] = { 0x01, 0x10, 0x01, 0x0D, 0x00, 0x02, 0x04, 0x00, 0x00, 0x00, 0x07 };
+    uint8_t frame[13] = { 0x01, 0x10, CEDARSKEIN_UX_BIT_RATE >> 8, CEDARSKEIN_UX_BIT_RATE & 0xFF, 0x00, 0x02, 0x04, 0x00, 0x00, 0x00, 0x07 };
     uint16_t value = cedarskein_check_value(frame, 11);
     uint32_t length = 0, rate = 0;
     frame[11] = (uint8_t)(value & 0xFF);
@@ -58,7 +60,8 @@ static void posted_and_marked(void)
     static const uint8_t words[2] = { 0x30, 0x39 };
     const uint8_t *sheet = cedarskein_ux_sheet;
     cedarskein_bank_fresh(sheet, CEDARSKEIN_UX_SHEET_SIZE, bank, sizeof bank);
-    expect(cedarskein_post(sheet, CEDARSKEIN_UX_SHEET_SIZE, bank, sizeof bank, 0x0200, words, sizeof words) == CEDARSKEIN_DONE, "post");
+    expect(cedarskein_post(sheet, CEDARSKEIN_UX_SHEET_SIZE, bank, sizeof bank, CEDARSKEIN_UX_FLOW, words, sizeof words) == CEDARSKEIN_DONE,
+           "post");
     expect(bank[46] == 0x30 && bank[47] == 0x39, "the posted word lies upper byte first");
     expect(cedarskein_set_mark(sheet, CEDARSKEIN_UX_SHEET_SIZE, bank, sizeof bank, 1) == CEDARSKEIN_DONE, "set_mark");
     expect(bank[68] == 0 && bank[69] == 1, "the mark is the last word");

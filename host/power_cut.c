@@ -1,6 +1,7 @@
-/* The last good copy of cedarskein.h, "A power cut": keep() and restore() as the header words them, and a cut at every byte. */
+/* The last good copy of cedarskein.h, "A power cut", which demo/last_good.c has as C: a cut at every byte, and the writes of an hour. */
 #include "calls.h"
 
+#include "../demo/last_good.h"
 #include "cedarskein.h"
 #include "cedarskein_sheets.h"
 #include "expect.h"
@@ -9,70 +10,45 @@
 
 #define SHEET cedarskein_ux_sheet, CEDARSKEIN_UX_SHEET_SIZE
 #define BANK CEDARSKEIN_UX_BANK_SIZE
+#define COPY (BANK + CHECK_SIZE)
+#define WHOLE (2 * COPY)
+#define NO_CUT 0xFFFFFFFFu
 
-/* A bank and its check value, in memory that outlasts a cut. */
-struct copy {
-    uint8_t bank[BANK];
-    uint8_t check[2];
-};
+/* Memory that outlasts a cut, and how often each copy was begun. */
+static struct {
+    uint8_t bytes[WHOLE];
+    unsigned bytes_left; /* that are still written before the power goes */
+    unsigned first_written, second_written;
+} chip;
 
-#define WHOLE (2 * (unsigned)sizeof(struct copy))
+static int load(void *memory, size_t at, uint8_t *bytes, size_t n)
+{
+    (void)memory;
+    memcpy(bytes, chip.bytes + at, n);
+    return 0;
+}
 
-static struct copy first, second;
-
-/* Bytes that are still written before the power goes. */
-static unsigned bytes_left;
-
-static void store(uint8_t *into, const uint8_t *from, size_t n)
+static int store(void *memory, size_t at, const uint8_t *bytes, size_t n)
 {
     size_t i;
-    for (i = 0; i < n && bytes_left > 0; i++, bytes_left--)
-        into[i] = from[i];
+    (void)memory;
+    chip.first_written += at < COPY;
+    chip.second_written += at >= COPY;
+    for (i = 0; i < n && chip.bytes_left > 0; i++, chip.bytes_left--)
+        chip.bytes[at + i] = bytes[i];
+    return i < n;
 }
 
-static void store_copy(struct copy *copy, const uint8_t *bank)
-{
-    uint16_t value = cedarskein_check_value(bank, BANK);
-    uint8_t check[2];
-    check[0] = (uint8_t)(value >> 8);
-    check[1] = (uint8_t)(value & 0xFF);
-    store(copy->bank, bank, BANK);
-    store(copy->check, check, sizeof check);
-}
+static uint8_t bank[BANK];
+static const struct kept_bank kept = { SHEET, bank, BANK, { load, store, NULL } };
 
-/* After each call that answered 0. */
-static void keep(const uint8_t *bank)
+static void send(uint8_t *frame, size_t n)
 {
-    if (memcmp(first.bank, bank, BANK) == 0)
-        return;
-    store_copy(&first, bank);
-    store_copy(&second, bank);
-}
-
-static int is_good(const struct copy *copy)
-{
-    uint16_t value = cedarskein_check_value(copy->bank, BANK);
-    return copy->check[0] == value >> 8 && copy->check[1] == (value & 0xFF)
-        && cedarskein_bank_check(SHEET, copy->bank, BANK) == CEDARSKEIN_DONE;
-}
-
-/* At start-up. Answers whether a copy was good; else the bank is fresh, and the meter has to be set up again. */
-static int restore(uint8_t *bank)
-{
-    if (is_good(&first)) {
-        memcpy(bank, first.bank, BANK);
-        store_copy(&second, bank);
-        return 1;
-    }
-    if (is_good(&second)) {
-        memcpy(bank, second.bank, BANK);
-        store_copy(&first, bank);
-        return 1;
-    }
-    cedarskein_bank_fresh(SHEET, bank, BANK);
-    store_copy(&first, bank);
-    store_copy(&second, bank);
-    return 0;
+    uint8_t out[CEDARSKEIN_LEAST_OUT];
+    uint32_t length, rate;
+    seal(frame, n);
+    expect_number(CEDARSKEIN_DONE, cedarskein_answer(SHEET, bank, BANK, frame, n, out, sizeof out, &length, &rate), "the frame");
+    keep_settings(&kept);
 }
 
 /* The bank before and after a frame that changes both words of the pair at 0103, from 0000 FFFF to 0001 0000. */
@@ -81,13 +57,12 @@ static uint8_t bank_before[BANK], bank_after[BANK];
 static void make_banks(void)
 {
     uint8_t frame[13] = { 0x01, 0x10, 0x01, 0x03, 0x00, 0x02, 0x04, 0x00, 0x01, 0x00, 0x00 };
-    uint8_t out[CEDARSKEIN_LEAST_OUT];
-    uint32_t length, rate;
-    seal(frame, sizeof frame);
-    cedarskein_bank_fresh(SHEET, bank_before, BANK);
-    set_word(bank_before, 4, 0xFFFF);
-    memcpy(bank_after, bank_before, BANK);
-    expect_number(0, cedarskein_answer(SHEET, bank_after, BANK, frame, sizeof frame, out, sizeof out, &length, &rate), "the frame");
+    at_case("the bank before and after");
+    cedarskein_bank_fresh(SHEET, bank, BANK);
+    set_word(bank, 4, 0xFFFF);
+    memcpy(bank_before, bank, BANK);
+    send(frame, sizeof frame);
+    memcpy(bank_after, bank, BANK);
     expect(memcmp(bank_before, bank_after, BANK) != 0, "the frame changes the bank");
 }
 
@@ -101,44 +76,140 @@ static void cut_within_the_pair(void)
     expect_number(CEDARSKEIN_BANK_NOT_SOUND, cedarskein_bank_check(SHEET, half, BANK), "bank_check");
 }
 
+/* Starts up with that many bytes until the next cut. Says whether a copy was good. */
+static int starts_up(unsigned bytes_left)
+{
+    chip.bytes_left = bytes_left;
+    memset(bank, 0xFF, BANK);
+    return restore_bank(&kept) != NO_GOOD_COPY;
+}
+
 /* Both copies hold the bank before; keeping the one after is cut, then the first start-up is, and the second goes through. */
 static void cut_after(unsigned bytes, unsigned bytes_at_start)
 {
-    uint8_t bank[BANK];
     at_case("a cut after %u bytes, and after %u at start-up", bytes, bytes_at_start);
-    bytes_left = WHOLE;
-    store_copy(&first, bank_before);
-    store_copy(&second, bank_before);
-    bytes_left = bytes;
-    keep(bank_after);
-    bytes_left = bytes_at_start;
-    expect(restore(bank), "a copy is good");
-    bytes_left = WHOLE;
-    expect(restore(bank), "a copy is good at the second start-up");
+    chip.bytes_left = WHOLE;
+    memcpy(bank, bank_before, BANK);
+    keep_readings(&kept);
+    chip.bytes_left = bytes;
+    memcpy(bank, bank_after, BANK);
+    keep_settings(&kept);
+    expect(starts_up(bytes_at_start), "a copy is good");
+    expect(starts_up(WHOLE), "a copy is good at the second start-up");
     expect(memcmp(bank, bank_before, BANK) == 0 || memcmp(bank, bank_after, BANK) == 0, "the bank is that before or that after");
-    if (bytes >= sizeof first)
+    if (bytes >= COPY)
         expect(memcmp(bank, bank_after, BANK) == 0, "the bank is that after");
-    expect(memcmp(&first, &second, sizeof first) == 0, "both copies are alike again");
+    expect(memcmp(chip.bytes, chip.bytes + COPY, COPY) == 0, "both copies are alike again");
+}
+
+static void cuts(void)
+{
+    unsigned i;
+    for (i = 0; i < (WHOLE + 1) * (WHOLE + 1); i++)
+        cut_after(i / (WHOLE + 1), i % (WHOLE + 1));
 }
 
 static void nothing_kept(void)
 {
-    uint8_t bank[BANK];
     at_case("memory that was never written");
-    memset(&first, 0xFF, sizeof first);
-    memset(&second, 0xFF, sizeof second);
-    bytes_left = WHOLE;
-    expect(!restore(bank), "no copy is good");
-    expect_number(0, cedarskein_bank_check(SHEET, bank, BANK), "the bank is fresh");
+    memset(chip.bytes, 0xFF, sizeof chip.bytes);
+    expect(!starts_up(WHOLE), "no copy is good");
+    expect_number(WHOLE, chip.bytes_left, "bytes that may be written still: none was");
+}
+
+/* A copy ends with its check value as a frame does, low byte first: over both together the check value is 0. */
+static void copies_end_as_frames_do(void)
+{
+    at_case("a copy and its check value");
+    chip.bytes_left = WHOLE;
+    memcpy(bank, bank_after, BANK);
+    keep_readings(&kept);
+    expect_number(0, cedarskein_check_value(chip.bytes, COPY), "the check value of the first copy and its own");
+    expect_number(0, cedarskein_check_value(chip.bytes + COPY, COPY), "the check value of the second copy and its own");
+}
+
+/* A store that fails half-way, and no start-up behind it: the next call writes both copies again, though no setting has changed. */
+static void failed_store(unsigned bytes)
+{
+    at_case("a store that fails after %u bytes", bytes);
+    chip.bytes_left = NO_CUT;
+    memcpy(bank, bank_before, BANK);
+    keep_readings(&kept);
+    chip.bytes_left = bytes;
+    memcpy(bank, bank_after, BANK);
+    expect(keep_settings(&kept) != 0, "the failure is told");
+    chip.bytes_left = NO_CUT;
+    expect(keep_settings(&kept) == 0, "the next call keeps it");
+    expect(memcmp(chip.bytes, bank_after, BANK) == 0 && memcmp(chip.bytes, chip.bytes + COPY, COPY) == 0, "both copies are the bank after");
+}
+
+static void failed_stores(void)
+{
+    unsigned bytes;
+    for (bytes = 0; bytes < WHOLE; bytes++)
+        failed_store(bytes);
+}
+
+static void expect_written(unsigned times, const char *what)
+{
+    expect_number(times, chip.first_written, what);
+    expect_number(times, chip.second_written, what);
+    chip.first_written = chip.second_written = 0;
+}
+
+static void post_for_an_hour(void)
+{
+    uint8_t words[22] = { 0 };
+    unsigned second;
+    for (second = 1; second <= 3600; second++) {
+        set_word(words, 1, (uint16_t)second);
+        expect_number(CEDARSKEIN_DONE, cedarskein_post(SHEET, bank, BANK, 0x0200, words, sizeof words), "the reading");
+        keep_settings(&kept);
+    }
+}
+
+/* A reading each second, and what changes a setting or the mark: how often each copy is written. */
+static void writes_of_an_hour(void)
+{
+    uint8_t read[8] = { 0x01, 0x03, 0x02, 0x00, 0x00, 0x0B };
+    uint8_t write[8] = { 0x01, 0x06, 0x01, 0x04, 0x13, 0x88 };
+    uint8_t stops_half_way[15] = { 0x01, 0x10, 0x01, 0x01, 0x00, 0x03, 0x06, 0x00, 0x04, 0x00, 0x02, 0x00, 0x00 };
+    uint8_t rate_and_station[13] = { 0x01, 0x10, 0x01, 0x0D, 0x00, 0x02, 0x04, 0x00, 0x00, 0x00, 0x07 };
+    at_case("the writes of an hour");
+    cedarskein_bank_fresh(SHEET, bank, BANK);
+    memset(&chip, 0, sizeof chip);
+    chip.bytes_left = NO_CUT;
+    keep_readings(&kept);
+    expect_written(1, "a fresh bank");
+    post_for_an_hour();
+    expect_written(0, "3,600 readings");
+    send(read, sizeof read);
+    expect_written(0, "a read");
+    send(write, sizeof write);
+    expect_written(1, "a new limit");
+    send(write, sizeof write);
+    expect_written(0, "the same limit again");
+    send(stops_half_way, sizeof stops_half_way);
+    expect_written(1, "an error that stored part");
+    cedarskein_set_mark(SHEET, bank, BANK, 1);
+    keep_settings(&kept);
+    expect_written(1, "the mark");
+    send(rate_and_station, sizeof rate_and_station);
+    expect_written(1, "rate and station");
+    keep_readings(&kept);
+    expect_written(1, "the readings, once an hour");
+    expect(starts_up(WHOLE) && word_at(bank, 24) == 3600, "the last reading is kept");
+    expect_written(0, "a start-up with two good copies");
 }
 
 int main(void)
 {
-    unsigned i;
     make_banks();
     cut_within_the_pair();
-    for (i = 0; i < (WHOLE + 1) * (WHOLE + 1); i++)
-        cut_after(i / (WHOLE + 1), i % (WHOLE + 1));
+    cuts();
     nothing_kept();
-    return told("a power cut at every byte of the copies, and another at start-up");
+    copies_end_as_frames_do();
+    failed_stores();
+    writes_of_an_hour();
+    return told("a power cut at every byte of the copies and another at start-up, and the writes of an hour");
 }

@@ -6,6 +6,11 @@
  *
  * "Document 01" is the paper that the functions are proved against.
  *
+ * Sizes
+ *
+ *   At most 12 KiB of code and constants, nothing writable among it, and at most 1 KiB of stack in a call; docs/BENCH.md has
+ *   what was measured, about 10 KiB and under 600 bytes. A sheet has at most 856 bytes, a bank 514, and out 100.
+ *
  * The bank
  *
  *   B words, then one word for the alarm mark: 2B + 2 bytes. B is word 5 of the sheet. Every word, of a sheet, of a bank
@@ -40,17 +45,27 @@
  *   memory which outlasts a cut. Keep a last good copy:
  *
  *   - the bank at work lies in plain memory; two copies lie in memory that outlasts a cut, each followed by its check
- *     value (cedarskein_check_value over the copy's bytes);
- *   - after each call that answered 0, where the bank differs from the first copy, write the first copy and its check
- *     value, and when that is done the second; then send the reply, which so tells of what is kept. An error reply
- *     counts: it answers 0 too, and may have stored part. Readings that are posted again after start-up can wait;
+ *     value (cedarskein_check_value over the copy's bytes), low byte first as on the line;
+ *   - after each call that answered 0, where a byte that must last differs from the first copy, or the copies differ from
+ *     each other, write the first copy and its check value, and when that is done the second; then send the reply, which
+ *     so tells of what is kept. An error reply counts: it answers 0 too, and may have stored part;
  *   - at start-up put the first copy into the bank where its check value agrees and cedarskein_bank_check answers 0,
- *     else the second on the same terms, and write the other copy anew. A cut spoils one copy at most: where it hit the
- *     first, the second is the bank before that write, and where it hit the second, the first is the bank after it;
+ *     else the second on the same terms, and write the other copy anew where it differs. A cut spoils one copy at most:
+ *     where it hit the first, the second is the bank before that write, and where it hit the second, the first is the
+ *     bank after it;
  *   - where neither copy is good, cedarskein_bank_fresh is the last resort: every setting is then at its low bound, at
  *     station 1 and 9600, and the meter has to be set up again. Report it.
  *
- *   host/power_cut.c has this as C, and tries a cut at every byte.
+ *   The bytes that must last are the places of the items, with station and rate among them, and the mark: of each area
+ *   whose access is not 1 (read only), the 2 * (last - first + 1) bytes from byte 2 * place of the bank on, and the last two
+ *   bytes. The row of area k is words 12 + 4k to 15 + 4k of the sheet: first address, last address, first place, access.
+ *
+ *   Readings do not count, or one that is posted each second would write both copies 3,600 times an hour, and a memory
+ *   that takes 100,000 writes would be worn out in 28 hours. They are in the copies all the same. So that totals outlast
+ *   a cut, write both copies once an hour too: 8,760 writes a year, and a cut loses the volume of one hour at most. Where
+ *   that is too much, keep the totals in a memory that does not wear.
+ *
+ *   demo/last_good.c has this as C; host/power_cut.c tries it with a cut at every byte, and counts the writes of an hour.
  */
 #ifndef CEDARSKEIN_H
 #define CEDARSKEIN_H
@@ -63,9 +78,9 @@ extern "C" {
 #endif
 
 #define CEDARSKEIN_VERSION_MAJOR 1
-#define CEDARSKEIN_VERSION_MINOR 0
+#define CEDARSKEIN_VERSION_MINOR 1
 #define CEDARSKEIN_VERSION_PATCH 0
-#define CEDARSKEIN_VERSION "1.0.0"
+#define CEDARSKEIN_VERSION "1.1.0"
 
 #define CEDARSKEIN_LONGEST_FRAME 100 /* bytes, its check included; a longer frame gets silence */
 #define CEDARSKEIN_LEAST_OUT 100     /* bytes that out must have at least, for the longest reply */

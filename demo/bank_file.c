@@ -1,0 +1,102 @@
+/* The file that keeps the bank of the simulated meter. */
+#define _DEFAULT_SOURCE
+#include "bank_file.h"
+
+#include <errno.h>
+#include <fcntl.h>
+#include <stdio.h>
+#include <string.h>
+#include <sys/file.h>
+#include <sys/stat.h>
+#include <unistd.h>
+
+/* The two sides of lasting memory, on a file. What was stored is on the disk before the next is begun. */
+static int load(void *memory, size_t at, uint8_t *bytes, size_t n)
+{
+    return pread(*(const int *)memory, bytes, n, (off_t)at) == (ssize_t)n ? 0 : -1;
+}
+
+static int store(void *memory, size_t at, const uint8_t *bytes, size_t n)
+{
+    int file = *(const int *)memory;
+    return pwrite(file, bytes, n, (off_t)at) == (ssize_t)n && fdatasync(file) == 0 ? 0 : -1;
+}
+
+static int refused(struct bank_file *bank, const char *why)
+{
+    fprintf(stderr, "the bank's file %s: %s. It was left as it is\n", bank->path, why);
+    if (bank->file >= 0)
+        close(bank->file);
+    bank->path = NULL;
+    return -1;
+}
+
+/* Opens the file alone for this meter, and finds how long it is. */
+static int take_file(struct bank_file *bank, off_t *size)
+{
+    struct stat status;
+    bank->file = open(bank->path, O_RDWR | O_CREAT | O_CLOEXEC, 0666);
+    if (bank->file < 0 || fstat(bank->file, &status) != 0)
+        return refused(bank, strerror(errno));
+    if (!S_ISREG(status.st_mode))
+        return refused(bank, "no plain file");
+    if (flock(bank->file, LOCK_EX | LOCK_NB) != 0)
+        return refused(bank, errno == EWOULDBLOCK ? "another meter has it in use" : strerror(errno));
+    *size = status.st_size;
+    return 0;
+}
+
+static int restore_from_file(struct bank_file *bank)
+{
+    switch (restore_bank(&bank->kept)) {
+    case FROM_FIRST_COPY:
+        printf("the bank is the one that %s keeps\n", bank->path);
+        return 0;
+    case FROM_SECOND_COPY:
+        printf("the bank is the one that %s keeps; its first copy was spoiled, and the second was taken\n", bank->path);
+        return 0;
+    default:
+        return refused(bank, "neither copy in it is a good bank of this sheet; without the file the meter begins with a fresh bank");
+    }
+}
+
+int open_bank(struct bank_file *bank, struct meter *meter, const char *path)
+{
+    off_t size = 0;
+    bank->path = path;
+    if (take_file(bank, &size) != 0)
+        return -1;
+    struct kept_bank kept = { meter->sheet, meter->sheet_n, meter->bank, meter->bank_n, { load, store, &bank->file } };
+    bank->kept = kept;
+    if (size == (off_t)kept_size(meter->bank_n))
+        return restore_from_file(bank);
+    if (size != 0)
+        return refused(bank, "it has not the bytes of two banks of this sheet with their check values");
+    printf("the bank is fresh, and kept in %s\n", bank->path);
+    return keep_bank_readings(bank);
+}
+
+static int told(const struct bank_file *bank, int failed)
+{
+    if (failed)
+        fprintf(stderr, "the bank is not kept in %s: %s\n", bank->path, strerror(errno));
+    return failed;
+}
+
+int keep_bank_settings(const struct bank_file *bank)
+{
+    return bank->path ? told(bank, keep_settings(&bank->kept)) : 0;
+}
+
+int keep_bank_readings(const struct bank_file *bank)
+{
+    return bank->path ? told(bank, keep_readings(&bank->kept)) : 0;
+}
+
+void close_bank(struct bank_file *bank)
+{
+    if (!bank->path)
+        return;
+    keep_bank_readings(bank);
+    close(bank->file);
+}

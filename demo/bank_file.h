@@ -1,0 +1,26 @@
+/* The file that keeps the bank of the simulated meter: both copies of cedarskein.h, "A power cut", and nothing else. */
+#ifndef BANK_FILE_H
+#define BANK_FILE_H
+
+#include "last_good.h"
+#include "memory.h"
+
+/* A meter may have no such file: its path is then NULL, and nothing is kept. */
+struct bank_file {
+    const char *path;
+    int file;
+    struct kept_bank kept;
+};
+
+/* Puts the bank that the file keeps into the meter; where there is no file, or an empty one, it gets the meter's bank as it is. Says which. Hands
+   back -1 where the file is not this meter's, is in use or cannot be had: it says why, and leaves the file as it is. */
+int open_bank(struct bank_file *bank, struct meter *meter, const char *path);
+
+/* After each call that answered 0, and once an hour. Hand back 0 where all is kept; else they say why it is not. */
+int keep_bank_settings(const struct bank_file *bank);
+int keep_bank_readings(const struct bank_file *bank);
+
+/* Keeps the readings too, and closes the file. */
+void close_bank(struct bank_file *bank);
+
+#endif

@@ -1,0 +1,219 @@
+#!/usr/bin/env python3
+"""The simulated meter's names and its end: links that are in the way, files that keep a bank, signals, and what `make meter` is told.
+
+  trials.py [--run RUN] SHEET METER
+
+Each trial has its expected result. One that comes out otherwise is shown with both, and the exit status is 1."""
+import argparse
+import contextlib
+import os
+import signal
+import subprocess
+import sys
+import tempfile
+import time
+
+ROOT = os.path.dirname(os.path.dirname(os.path.abspath(__file__)))
+
+
+class Bench:
+    """A folder to try in, and how the meter is started."""
+
+    def __init__(self, command, sheet, folder):
+        self.command, self.sheet, self.folder = command, sheet, folder
+
+    def path(self, name):
+        return os.path.join(self.folder, name)
+
+    def words(self, options):
+        named = [word if word.startswith("-") else self.path(word) for word in options]
+        return [*self.command, *named, self.sheet]
+
+    @contextlib.contextmanager
+    def running(self, *options):
+        """A meter that is on, and ended at the latest when the trial is over."""
+        screen = self.path("screen")
+        with open(screen, "w", encoding="ascii") as file, subprocess.Popen(self.words(options), stdout=file) as meter:
+            deadline = time.monotonic() + 10
+            while "meter on" not in self.read("screen").decode() and meter.poll() is None and time.monotonic() < deadline:
+                time.sleep(0.02)
+            try:
+                yield meter
+            finally:
+                meter.kill()
+
+    def refused(self, *options):
+        """What a meter says that does not start."""
+        done = subprocess.run(self.words(options), capture_output=True, text=True, timeout=20, check=False)
+        return f"status {done.returncode}: " + done.stderr.replace(self.folder + "/", "").strip()
+
+    def read(self, name):
+        with open(self.path(name), "rb") as file:
+            return file.read()
+
+    def write(self, name, data):
+        with open(self.path(name), "wb") as file:
+            file.write(data)
+
+
+def ended(meter, number):
+    meter.send_signal(number)
+    return f"status {meter.wait(timeout=10)}"
+
+
+def link_in_the_way(bench, target):
+    """A meter for a link that leads elsewhere, and where it leads afterwards."""
+    os.symlink(target, bench.path("line"))
+    said = bench.refused("-l", "line")
+    return f"{said}; leads to {os.readlink(bench.path('line'))}"
+
+
+def file_in_the_way(bench):
+    bench.write("line", b"mine")
+    said = bench.refused("-l", "line")
+    return f"{said}; holds {bench.read('line').decode()}"
+
+
+def dead_link(bench):
+    os.symlink("/dev/pts/999999", bench.path("line"))
+    with bench.running("-l", "line") as meter:
+        leads = os.readlink(bench.path("line")) != "/dev/pts/999999"
+        return f"taken {leads}, {ended(meter, signal.SIGTERM)}, left {os.path.lexists(bench.path('line'))}"
+
+
+def second_meter(bench):
+    with bench.running("-l", "line") as meter:
+        said = bench.refused("-l", "line").replace(os.readlink(bench.path("line")), "LINE")
+        stays = os.path.exists(bench.path("line"))
+        return f"{said}; stays {stays}, {ended(meter, signal.SIGTERM)}, left {os.path.lexists(bench.path('line'))}"
+
+
+def link_of_another(bench):
+    with bench.running("-l", "line") as meter:
+        os.unlink(bench.path("line"))
+        os.symlink("/dev/null", bench.path("line"))
+        return f"{ended(meter, signal.SIGTERM)}, leads to {os.readlink(bench.path('line'))}"
+
+
+def signalled(bench, number):
+    with bench.running("-l", "a line") as meter:
+        return f"{ended(meter, number)}, left {os.path.lexists(bench.path('a line'))}"
+
+
+def bank_lines(bench, *options):
+    with bench.running(*options) as meter:
+        ended(meter, signal.SIGTERM)
+    return bench.read("screen").decode().split("\n")[0].replace(bench.folder + "/", "")
+
+
+def kept_twice(bench):
+    fresh = bank_lines(bench, "-b", "a bank")
+    return f"{fresh}; {len(bench.read('a bank'))} bytes; {bank_lines(bench, '-b', 'a bank')}"
+
+
+def spoil(bench, *places):
+    bank_lines(bench, "-b", "bank")
+    data = bytearray(bench.read("bank"))
+    for place in places:
+        data[place] ^= 1
+    bench.write("bank", bytes(data))
+
+
+def first_spoiled(bench):
+    spoil(bench, 5)
+    said = bank_lines(bench, "-b", "bank")
+    data = bench.read("bank")
+    return f"{said}; copies alike {data[:len(data) // 2] == data[len(data) // 2:]}"
+
+
+def refused_bank(bench):
+    before = bench.read("bank")
+    said = bench.refused("-l", "line", "-b", "bank")
+    return f"{said}; unchanged {bench.read('bank') == before}, link left {os.path.lexists(bench.path('line'))}"
+
+
+def both_spoiled(bench):
+    spoil(bench, 5, 80)
+    return refused_bank(bench)
+
+
+def foreign_file(bench):
+    bench.write("bank", b"a letter")
+    return refused_bank(bench)
+
+
+def bank_in_use(bench):
+    with bench.running("-b", "bank"):
+        return refused_bank(bench)
+
+
+def told_by_make(*words):
+    done = subprocess.run(["make", "-s", "meter", *words], cwd=ROOT, capture_output=True, text=True, timeout=60, check=False)
+    return f"status {done.returncode}: {done.stderr.strip().splitlines()[0].partition('*** ')[2] or done.stderr.splitlines()[0].strip()}"
+
+
+LEFT = "It was left as it is"
+SHORT_NAMES = "aswe_40 aswe_50 aswe_80 ux15_25"
+TRIALS = [
+    ("a link to a line that is there", lambda bench: link_in_the_way(bench, "/dev/null"),
+     f"status 1: line is a link to /dev/null, which is in use. {LEFT}: give LINK another name; leads to /dev/null"),
+    ("a dead link that is no meter's", lambda bench: link_in_the_way(bench, "/dev/ttyUSB99"),
+     f"status 1: line is a link to /dev/ttyUSB99, which no meter made. {LEFT}: give LINK another name; leads to /dev/ttyUSB99"),
+    ("a file in the place of the link", file_in_the_way,
+     f"status 1: line is there already, and no meter's link. {LEFT}: give LINK another name; holds mine"),
+    ("a dead link of an earlier run", dead_link, "taken True, status 0, left False"),
+    ("a second meter at the same link", second_meter,
+     f"status 1: line is a link to LINE, which is in use. {LEFT}: give LINK another name; stays True, status 0, left False"),
+    ("a link that became another's", link_of_another, "status 0, leads to /dev/null"),
+    ("Ctrl-C, a link with a blank", lambda bench: signalled(bench, signal.SIGINT), "status 0, left False"),
+    ("SIGHUP", lambda bench: signalled(bench, signal.SIGHUP), "status 0, left False"),
+    ("SIGTERM", lambda bench: signalled(bench, signal.SIGTERM), "status 0, left False"),
+    ("a bank that is kept", kept_twice, "the bank is fresh, and kept in a bank; 144 bytes; the bank is the one that a bank keeps"),
+    ("a first copy that is spoiled", first_spoiled,
+     "the bank is the one that bank keeps; its first copy was spoiled, and the second was taken; copies alike True"),
+    ("both copies spoiled", both_spoiled,
+     "status 1: the bank's file bank: neither copy in it is a good bank of this sheet; without the file the meter begins with a fresh bank. "
+     f"{LEFT}; unchanged True, link left False"),
+    ("a file that is no bank", foreign_file,
+     "status 1: the bank's file bank: it has not the bytes of two banks of this sheet with their check values. "
+     f"{LEFT}; unchanged True, link left False"),
+    ("a bank that is in use", bank_in_use,
+     f"status 1: the bank's file bank: another meter has it in use. {LEFT}; unchanged True, link left False"),
+    ("a sheet that is not there", lambda _: told_by_make("SHEET=aswe 45"),
+     f"status 2: there is no sheet aswe 45. SHEET= takes the name of a file, or one of: {SHORT_NAMES}"),
+    ("a name that is empty", lambda _: told_by_make("LINK="), "status 2: empty: LINK. Give each a name, or leave it out.  Stop."),
+    ("a name that is misspelt", lambda _: told_by_make("LNK=x"), "status 2: make meter takes no LNK. It takes: SHEET LINK BANK.  Stop."),
+]
+
+
+def has_pseudo_terminals():
+    try:
+        for end in os.openpty():
+            os.close(end)
+    except OSError:
+        return False
+    return True
+
+
+def main():
+    words_given = argparse.ArgumentParser(description=__doc__, formatter_class=argparse.RawDescriptionHelpFormatter)
+    words_given.add_argument("--run", default="")
+    words_given.add_argument("sheet")
+    words_given.add_argument("meter")
+    given = words_given.parse_args()
+    if not has_pseudo_terminals():
+        print("the trials of the meter are LEFT OUT: the system has no pseudo-terminal to give")
+        return 0
+    differing = 0
+    for text, trial, expected in TRIALS:
+        with tempfile.TemporaryDirectory() as folder:
+            result = trial(Bench([*given.run.split(), os.path.abspath(given.meter)], given.sheet, folder))
+        if result != expected:
+            differing += 1
+            print(f"DIFFERS   {text}: {result}\n          expected: {expected}", flush=True)
+    print(f"{len(TRIALS)} trials of the meter's names and its end, {differing} came out otherwise than expected")
+    return 1 if differing else 0
+
+
+if __name__ == "__main__":
+    sys.exit(main())
