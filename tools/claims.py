@@ -101,19 +101,24 @@ def wrong_citations(page):
 # ---- citations of rules
 
 def rules_cited(path):
-    """(line number, rule) of every rule that a file cites; of a range its first and its last."""
-    forms = [r"\brules? " + NUMBERS] + ([r"\(" + NUMBERS + r"\)"] if path == RULES else [])
+    """(line number, citation) of every citation of rules in a file, as "S5, S6" or "S0 to S11"."""
+    forms = [r"\b[Rr]ules? " + NUMBERS] + ([r"\(" + NUMBERS + r"\)"] if path == RULES else [])
     for number, line in enumerate(read(path).split("\n"), 1):
-        for form in forms:
-            for cited in re.findall(form, line):
-                yield from ((number, rule) for rule in re.findall(r"[A-Z]\d+", cited) if rule[0] != "W")
+        yield from ((number, cited) for form in forms for cited in re.findall(form, line) if cited[0] != "W")
+
+
+def meant(cited):
+    """The rules of a citation, those between the ends of a range too."""
+    for letter, first, last in re.findall(r"([A-Z])(\d+)(?: to [A-Z](\d+))?", cited):
+        yield from (f"{letter}{n}" for n in range(int(first), int(last or first) + 1))
 
 
 def wrong_rules():
     rules = RULE.findall(read(RULES))
     rows = [f"{RULES}: rule {rule} stands twice" for rule in sorted(set(rules)) if rules.count(rule) > 1]
     for path in found(*TEXTS):
-        rows += [f"{path}:{number}: no rule {rule} in {RULES}" for number, rule in rules_cited(path) if rule not in rules]
+        for number, cited in rules_cited(path):
+            rows += [f"{path}:{number}: no rule {rule} in {RULES}" for rule in re.findall(r"[A-Z]\d+", cited) if rule not in rules]
     return rows
 
 
@@ -140,7 +145,7 @@ def missing_lengths(text):
 
 def missing_rules():
     """Rules that name a definition, and that no comment of specs/ cites by their own number."""
-    cited = {rule for path in found("crates/*/specs/*.antt") for _, rule in rules_cited(path)}
+    cited = {rule for path in found("crates/*/specs/*.antt") for _, group in rules_cited(path) for rule in meant(group)}
     parts = RULE.split(read(RULES))[1:]
     return [f"{RULES}: no comment of specs/ cites rule {rule}" for rule, text in zip(parts[::2], parts[1::2]) if "/specs/" in text and rule not in cited]
 
