@@ -2,8 +2,8 @@
 """Holds the pages of docs/ to the tree.
 
   python3 tools/claims.py             a line for each thing that does not hold, and exit status 1; nothing where all hold
-  python3 tools/claims.py --missing   what the pages leave out: public functions and must-fail edits that CLAIMS does not cite, lengths of
-                                      specs/ that moved, rules that no comment of specs/ cites
+  python3 tools/claims.py --missing   what the pages leave out: public functions that CLAIMS does not cite, must-fail edits that neither it nor
+                                      SLIPS does, lengths of specs/ that moved, rules that no comment of specs/ cites
 
 Held: every file that a page cites is there and declares every name that is cited with it; every rule that is cited anywhere stands in
 docs/RULES.md, once. (docs/CHANGES.md tells of names that are gone, and is looked at for rules alone.)
@@ -23,7 +23,7 @@ import re
 import sys
 
 ROOT = os.path.dirname(os.path.dirname(os.path.abspath(__file__)))
-CLAIMS, RULES, CHANGES = "docs/CLAIMS.md", "docs/RULES.md", "docs/CHANGES.md"
+CLAIMS, RULES, SLIPS, CHANGES = "docs/CLAIMS.md", "docs/RULES.md", "docs/SLIPS.md", "docs/CHANGES.md"
 FOLDERS = ("crates/", "host/", "demo/", "bench/", "include/", "sheets/", "tools/", "docs/")
 CITATION = re.compile(r"((?:crates|host|demo|bench|include|sheets|tools|docs)/[\w./+-]*)(?:: (.+))?$")
 # what declares a name, by the ending of the file: N stands for the name
@@ -152,13 +152,9 @@ def missing_rules():
 
 def missing():
     text = read(CLAIMS)
-    cited, edits = set(), set()
-    for _, path, names in citations(text):
-        if path and path.endswith("/must-fail"):
-            edits |= {f"{path}/{name}.edit" for name in names} or set(glob.glob(path + "/*.edit"))
-        elif path:
-            cited |= {(path, name) for name in names}
-    rows = missing_functions(cited)
+    rows = missing_functions({(path, name) for _, path, names in citations(text) for name in names if path})
+    pages = text + "\n" + (read(SLIPS) if os.path.isfile(SLIPS) else "")
+    edits = {f"{path}/{name}.edit" for _, path, names in citations(pages) for name in names if path}
     rows += [f"{path}: not cited" for path in found("crates/*/must-fail/*.edit") if path not in edits]
     return rows + missing_lengths(text) + missing_rules()
 
