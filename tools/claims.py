@@ -138,7 +138,7 @@ def missing_lengths(text):
     rows = []
     for folder in sorted(glob.glob("crates/*/specs")):
         lines = sum(read(p).count("\n") for p in glob.glob(folder + "/*.antt"))
-        if not re.search(rf"^\s*\| `{folder}` \| {lines} \|", text, re.M):
+        if lines and not re.search(rf"^\s*\| `{folder}` \| {lines} \|", text, re.M):
             rows.append(f"{folder}: has {lines} lines, which {CLAIMS} does not say")
     return rows
 
