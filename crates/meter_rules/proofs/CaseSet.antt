@@ -17,7 +17,9 @@ use Rattle.sheet_rules.specs.Lookup.{liesIn}
 use Rattle.makers.specs.Maps.{ux, aswe, bore40}
 use Rattle.makers.specs.Sheets.{sheetOf}
 use Rattle.bank_rules.specs.Stores.{stored}
-use Rattle.bank_rules.specs.Bank.{bankSound, goodBy}
+use Rattle.bank_rules.specs.Bank.{bankSound, goodBy, lowStores, freshStores}
+use Rattle.bank_rules.specs.declared.Answer.the-variants.{Done}
+use Rattle.bank_rules.specs.Calls.{outcome, freshAnswer, freshOutcome}
 use Rattle.lists.specs.Cases.{firstCase}
 use Rattle.meter_rules.specs.Runs.{allOpen}
 use Rattle.meter_rules.specs.Write.{badItem, someBad, stopIn, stopPlace, runStores}
@@ -65,6 +67,15 @@ changed origin words (this ∷ behind) = changed origin (set words (this .addres
 unfoldable pub bytesOf : List ℕ → List ℕ
 bytesOf [] = []
 bytesOf (word ∷ behind) = upper word ∷ lower word ∷ bytesOf behind
+
+-- the fresh words are what the call for a fresh bank makes of that many bytes, here of FF
+pub ux-fresh-made : freshOutcome (uxMeter .sheet) (replicate 70 0xFF) ≡ outcome Done (bytesOf (uxMeter .fresh))
+unfolding bytesOf freshOutcome freshAnswer freshStores lowStores stored firstCase sound headerSound areasSound itemsSound settingsSound each some upFrom samePlaces itemPlaces writablePlaces placesFollow areasAscend lengthsSum areas items wordAt withWord inRange sheetOf
+ux-fresh-made = refl
+
+pub aswe-fresh-made : freshOutcome (asweMeter .sheet) (replicate 78 0xFF) ≡ outcome Done (bytesOf (asweMeter .fresh))
+unfolding bytesOf freshOutcome freshAnswer freshStores lowStores stored firstCase sound headerSound areasSound itemsSound settingsSound each some upFrom samePlaces itemPlaces writablePlaces placesFollow areasAscend lengthsSum areas items wordAt withWord inRange sheetOf
+aswe-fresh-made = refl
 
 -- ---- the rows
 
