@@ -1,0 +1,3 @@
+pub mod Lending
+pub mod Returning
+pub mod Door
