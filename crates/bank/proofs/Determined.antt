@@ -1,8 +1,5 @@
 -- Each promise of this crate determines the answer and the lent bank at exit. Assumes nothing.
-use mathlib.Core.Path.{sym, _∙_}
-use denote.Ref.{now}
-use Rattle.words.proofs.Promise.{Determined}
-use Rattle.bank_rules.specs.Calls.{bankOutcome}
+use Rattle.words.proofs.Promise.{Determined, read-off}
 use Rattle.bank.proofs.value_in.Kinds as value-in
 use Rattle.bank.proofs.value_in.Reads as value-in-reads
 use Rattle.bank.proofs.check.Kinds as check
@@ -20,26 +17,26 @@ use Rattle.bank.proofs.post.Reads as post-reads
 use Rattle.bank.proofs.set_mark.Kinds as set-mark
 use Rattle.bank.proofs.set_mark.Reads as set-mark-reads
 
-pub value-in-determined : Determined 1 value-in.ps value-in.r value-in-reads.Post (λ κs r s. r)
-value-in-determined κs a x y s t p q = p ∙ sym q
+pub value-in-determined : Determined 1 value-in.ps value-in.r value-in-reads.Post
+value-in-determined κs a x y = read-off (λ r. (r, x .1))
 
-pub check-determined : Determined 2 check.ps check.r check-reads.Post (λ κs r s. r)
-check-determined κs a x y s t p q = p ∙ sym q
+pub check-determined : Determined 2 check.ps check.r check-reads.Post
+check-determined κs a x y = read-off (λ r. (r, x .1))
 
-pub fresh-determined : Determined 2 fresh.ps fresh.r fresh-reads.Post (λ κs r s. bankOutcome r (now (s .1 .0)))
-fresh-determined κs a x y s t p q = p ∙ sym q
+pub fresh-determined : Determined 2 fresh.ps fresh.r fresh-reads.Post
+fresh-determined κs a x y = read-off (λ o. (o .answer, (tt, (o .bank, tt))))
 
-pub post-determined : Determined 3 post.ps post.r post-reads.Post (λ κs r s. bankOutcome r (now (s .1 .0)))
-post-determined κs a x y s t p q = p ∙ sym q
+pub post-determined : Determined 3 post.ps post.r post-reads.Post
+post-determined κs a x y = read-off (λ o. (o .answer, (tt, (o .bank, (tt, (tt, tt))))))
 
-pub set-mark-determined : Determined 2 set-mark.ps set-mark.r set-mark-reads.Post (λ κs r s. bankOutcome r (now (s .1 .0)))
-set-mark-determined κs a x y s t p q = p ∙ sym q
+pub set-mark-determined : Determined 2 set-mark.ps set-mark.r set-mark-reads.Post
+set-mark-determined κs a x y = read-off (λ o. (o .answer, (tt, (o .bank, (tt, tt)))))
 
-pub store-fresh-determined : Determined 2 store-fresh.ps store-fresh.r store-fresh-reads.Post (λ κs r s. now (s .1 .0))
-store-fresh-determined κs a x y s t p q = p ∙ sym q
+pub store-fresh-determined : Determined 2 store-fresh.ps store-fresh.r store-fresh-reads.Post
+store-fresh-determined κs a x y = read-off (λ o. (tt, (tt, (o, tt))))
 
-pub all-read-only-determined : Determined 1 all-read-only.ps all-read-only.r all-read-only-reads.Post (λ κs r s. r)
-all-read-only-determined κs a x y s t p q = p ∙ sym q
+pub all-read-only-determined : Determined 1 all-read-only.ps all-read-only.r all-read-only-reads.Post
+all-read-only-determined κs a x y = read-off (λ r. (r, x .1))
 
-pub store-posted-determined : Determined 3 store-posted.ps store-posted.r store-posted-reads.Post (λ κs r s. now (s .1 .0))
-store-posted-determined κs a x y s t p q = p ∙ sym q
+pub store-posted-determined : Determined 3 store-posted.ps store-posted.r store-posted-reads.Post
+store-posted-determined κs a x y = read-off (λ o. (tt, (tt, (o, (tt, (tt, tt))))))

@@ -1,7 +1,7 @@
 // The text of the cases: lines, and in a line fields of hexadecimal digits, each ended by a space.
 
 // The bytes of a field, and where the line goes on.
-pub struct Field {
+pub(crate) struct Field {
     pub count: usize,
     pub next: usize,
 }
@@ -24,7 +24,7 @@ fn value_of(byte: u8) -> u8 {
 }
 
 // The next place of a line; its end has no next one.
-pub fn after(line: &[u8], at: usize) -> usize {
+pub(crate) fn after(line: &[u8], at: usize) -> usize {
     if at < line.len() { at + 1 } else { line.len() }
 }
 
@@ -42,7 +42,7 @@ fn byte_of(line: &[u8], at: usize) -> u16 {
 }
 
 // Takes the field at a place apart into bytes, as far as there is room.
-pub fn bytes_at(line: &[u8], from: usize, into: &mut [u8]) -> Field {
+pub(crate) fn bytes_at(line: &[u8], from: usize, into: &mut [u8]) -> Field {
     let mut at = from;
     let mut count = 0;
     while count < into.len() {
@@ -58,7 +58,7 @@ pub fn bytes_at(line: &[u8], from: usize, into: &mut [u8]) -> Field {
 }
 
 // The end of the line that begins at a place: its line feed, or the end of the text.
-pub fn line_end(text: &[u8], from: usize) -> usize {
+pub(crate) fn line_end(text: &[u8], from: usize) -> usize {
     let mut at = from;
     while at < text.len() {
         if words::byte_at(text, at) == 10 {

@@ -13,7 +13,7 @@ struct Got {
     pub rate: u16,
 }
 
-pub fn say(text: &[u8]) {
+pub(crate) fn say(text: &[u8]) {
     io::write_all(STDOUT_FILENO, text);
 }
 
@@ -177,7 +177,7 @@ fn silence_right(got: Got, buffer: &[u8], bank_kept: bool) -> bool {
 }
 
 // Runs a frame with its check. No expected bytes stand for silence.
-pub fn run_whole(
+pub(crate) fn run_whole(
     what: &[u8],
     sheet: &[u8],
     bank: &mut [u8],
@@ -202,7 +202,7 @@ pub fn run_whole(
 }
 
 // The front of a longer array, filled from a frame.
-pub fn fill(work: &mut [u8], frame: &[u8]) {
+pub(crate) fn fill(work: &mut [u8], frame: &[u8]) {
     let mut i = 0;
     while i < frame.len() {
         words::store_byte(work, i, words::byte_at(frame, i));
@@ -226,7 +226,7 @@ fn run_front(
 }
 
 // Runs a frame that is given without its check, and says at which rate the reply has to go out.
-pub fn run_at(
+pub(crate) fn run_at(
     what: &[u8],
     sheet: &[u8],
     bank: &mut [u8],
@@ -246,17 +246,17 @@ pub fn run_at(
 }
 
 // Puts a setting into a bank.
-pub fn put(bank: &mut [u8], place: u16, word: u16) {
+pub(crate) fn put(bank: &mut [u8], place: u16, word: u16) {
     words::store_word(bank, 2 * (place as usize), word);
 }
 
 // What a bank holds at a place.
-pub fn holds(what: &[u8], bank: &[u8], place: u16, expected: u16) {
+pub(crate) fn holds(what: &[u8], bank: &[u8], place: u16, expected: u16) {
     compare(what, expected, words::word_at(bank, 2 * (place as usize)));
 }
 
 // A number that a call hands back; where it is not 0, the bank and the buffer stay as they were.
-pub fn number(
+pub(crate) fn number(
     what: &[u8],
     sheet: &[u8],
     bank: &mut [u8],

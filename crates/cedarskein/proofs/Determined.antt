@@ -1,8 +1,5 @@
 -- Each promise of the door determines what the firmware is handed, and each lent buffer and number at exit. Assumes nothing.
-use mathlib.Core.Path.{sym, _∙_}
-use denote.Ref.{now}
-use Rattle.words.proofs.Promise.{Determined}
-use Rattle.cedarskein.specs.Door.{told, handed}
+use Rattle.words.proofs.Promise.{Determined, read-off}
 use Rattle.cedarskein.proofs.cedarskein_check_start.Kinds as check-start
 use Rattle.cedarskein.proofs.cedarskein_check_start.Reads as check-start-reads
 use Rattle.cedarskein.proofs.cedarskein_check_take.Kinds as check-take
@@ -22,29 +19,29 @@ use Rattle.cedarskein.proofs.cedarskein_set_mark.Reads as set-mark-read
 use Rattle.cedarskein.proofs.cedarskein_answer.Kinds as answer
 use Rattle.cedarskein.proofs.cedarskein_answer.Reads as answer-reads
 
-pub cedarskein-check-start-determined : Determined 0 check-start.ps check-start.r check-start-reads.Post (λ κs r s. r)
-cedarskein-check-start-determined κs a x y s t p q = p ∙ sym q
+pub cedarskein-check-start-determined : Determined 0 check-start.ps check-start.r check-start-reads.Post
+cedarskein-check-start-determined κs a x y = read-off (λ r. (r, x .1))
 
-pub cedarskein-check-take-determined : Determined 0 check-take.ps check-take.r check-take-reads.Post (λ κs r s. r)
-cedarskein-check-take-determined κs a x y s t p q = p ∙ sym q
+pub cedarskein-check-take-determined : Determined 0 check-take.ps check-take.r check-take-reads.Post
+cedarskein-check-take-determined κs a x y = read-off (λ r. (r, x .1))
 
-pub cedarskein-check-value-determined : Determined 1 check-value.ps check-value.r check-value-reads.Post (λ κs r s. r)
-cedarskein-check-value-determined κs a x y s t p q = p ∙ sym q
+pub cedarskein-check-value-determined : Determined 1 check-value.ps check-value.r check-value-reads.Post
+cedarskein-check-value-determined κs a x y = read-off (λ r. (r, x .1))
 
-pub cedarskein-sheet-check-determined : Determined 1 sheet-check.ps sheet-check.r sheet-check-reads.Post (λ κs r s. r)
-cedarskein-sheet-check-determined κs a x y s t p q = p ∙ sym q
+pub cedarskein-sheet-check-determined : Determined 1 sheet-check.ps sheet-check.r sheet-check-reads.Post
+cedarskein-sheet-check-determined κs a x y = read-off (λ r. (r, x .1))
 
-pub cedarskein-bank-check-determined : Determined 2 bank-check.ps bank-check.r bank-check-reads.Post (λ κs r s. r)
-cedarskein-bank-check-determined κs a x y s t p q = p ∙ sym q
+pub cedarskein-bank-check-determined : Determined 2 bank-check.ps bank-check.r bank-check-reads.Post
+cedarskein-bank-check-determined κs a x y = read-off (λ r. (r, x .1))
 
-pub cedarskein-bank-fresh-determined : Determined 2 bank-fresh.ps bank-fresh.r bank-fresh-reads.Post (λ κs r s. told r (now (s .1 .0)))
-cedarskein-bank-fresh-determined κs a x y s t p q = p ∙ sym q
+pub cedarskein-bank-fresh-determined : Determined 2 bank-fresh.ps bank-fresh.r bank-fresh-reads.Post
+cedarskein-bank-fresh-determined κs a x y = read-off (λ o. (o .number, (tt, (o .bank, tt))))
 
-pub cedarskein-post-determined : Determined 3 post.ps post.r post-reads.Post (λ κs r s. told r (now (s .1 .0)))
-cedarskein-post-determined κs a x y s t p q = p ∙ sym q
+pub cedarskein-post-determined : Determined 3 post.ps post.r post-reads.Post
+cedarskein-post-determined κs a x y = read-off (λ o. (o .number, (tt, (o .bank, (tt, (tt, tt))))))
 
-pub cedarskein-set-mark-determined : Determined 2 set-mark.ps set-mark.r set-mark-reads.Post (λ κs r s. told r (now (s .1 .0)))
-cedarskein-set-mark-determined κs a x y s t p q = p ∙ sym q
+pub cedarskein-set-mark-determined : Determined 2 set-mark.ps set-mark.r set-mark-reads.Post
+cedarskein-set-mark-determined κs a x y = read-off (λ o. (o .number, (tt, (o .bank, (tt, tt)))))
 
-pub cedarskein-answer-determined : Determined 6 answer.ps answer.r answer-reads.Post (λ κs r s. handed r (now (s .1 .1 .1 .1 .0)) (now (s .1 .1 .1 .1 .1 .0)) (now (s .1 .0)) (now (s .1 .1 .1 .0)))
-cedarskein-answer-determined κs a x y s t p q = p ∙ sym q
+pub cedarskein-answer-determined : Determined 6 answer.ps answer.r answer-reads.Post
+cedarskein-answer-determined κs a x y = read-off (λ o. (o .number, (tt, (o .bank, (tt, (o .buffer, (o .length, (o .rate, tt))))))))

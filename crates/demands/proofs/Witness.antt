@@ -1,7 +1,7 @@
 -- What the statements of the demands suppose is met: on the UX sheet and a fresh bank, one frame for each sort of damage, and one undamaged
 -- frame that gets a reply; a frame that stops at each step, and good ones; and for each refusal number of each call an input that gets it.
 -- (That there are such calls at all: `Calls`.) Assumes nothing.
-use mathlib.Core.Path.{_≡_, refl}
+use mathlib.Core.Path.{_≡_, refl, ap}
 use mathlib.Core.Bool.{true}
 use mathlib.Core.List.{List, [], _∷_, _++_, map}
 use Prim.Native.Nat.{ℕ}
@@ -30,7 +30,7 @@ use Rattle.meter_rules.specs.Steps.{judgedFrame}
 use Rattle.meter_rules.specs.Reply.{bankRun, replyTo, storesOf}
 use Rattle.frame.specs.Reply.{withCheck}
 use Rattle.meter_rules.specs.Answer.{frameCheck, actedOn, answerOutcome}
-use Rattle.meter_rules.proofs.CaseSet.{uxMeter}
+use Rattle.meter_rules.proofs.CaseSet.{uxMeter, ux-fresh-made}
 use Rattle.cedarskein.specs.Door.{Handed, handed, handedOf, toldOf}
 use Rattle.demands.specs.Verdict.{Accepted}
 
@@ -46,8 +46,7 @@ answerBuffer = replicate 100 0xA5
 
 -- it is what the call for a fresh bank makes of 70 bytes, here of FF
 pub fresh-bank-made : toldOf (freshOutcome (lent uxSheet (replicate 70 0xFF))) .bank ≡ freshBank
-unfolding freshOutcome freshAnswer freshStores lowStores stored bytesOf firstCase bankSound goodBy sound headerSound areasSound itemsSound settingsSound each some upFrom samePlaces itemPlaces writablePlaces placesFollow areasAscend lengthsSum areas items wordAt withWord inRange sheetOf
-fresh-bank-made = refl
+fresh-bank-made = ap (λ o. toldOf o .bank) ux-fresh-made
 
 pub accepted : Accepted uxSheet freshBank answerBuffer
 unfolding bytesOf firstCase bankSound goodBy sound headerSound areasSound itemsSound settingsSound each some upFrom samePlaces itemPlaces writablePlaces placesFollow areasAscend lengthsSum areas items wordAt withWord inRange sheetOf

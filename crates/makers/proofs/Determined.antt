@@ -1,6 +1,5 @@
 -- Each promise of this crate determines its result. Assumes nothing.
-use mathlib.Core.Path.{sym, _∙_}
-use Rattle.words.proofs.Promise.{Determined}
+use Rattle.words.proofs.Promise.{Determined, read-off}
 use Rattle.makers.proofs.ux.Kinds as ux
 use Rattle.makers.proofs.ux.Reads as ux-reads
 use Rattle.makers.proofs.aswe_40.Kinds as aswe-40
@@ -10,14 +9,14 @@ use Rattle.makers.proofs.aswe_50.Reads as aswe-50-reads
 use Rattle.makers.proofs.aswe_80.Kinds as aswe-80
 use Rattle.makers.proofs.aswe_80.Reads as aswe-80-reads
 
-pub ux-determined : Determined 0 ux.ps ux.r ux-reads.Post (λ κs r s. r)
-ux-determined κs a x y s t p q = p ∙ sym q
+pub ux-determined : Determined 0 ux.ps ux.r ux-reads.Post
+ux-determined κs a x y = read-off (λ r. (r, x .1))
 
-pub aswe-40-determined : Determined 0 aswe-40.ps aswe-40.r aswe-40-reads.Post (λ κs r s. r)
-aswe-40-determined κs a x y s t p q = p ∙ sym q
+pub aswe-40-determined : Determined 0 aswe-40.ps aswe-40.r aswe-40-reads.Post
+aswe-40-determined κs a x y = read-off (λ r. (r, x .1))
 
-pub aswe-50-determined : Determined 0 aswe-50.ps aswe-50.r aswe-50-reads.Post (λ κs r s. r)
-aswe-50-determined κs a x y s t p q = p ∙ sym q
+pub aswe-50-determined : Determined 0 aswe-50.ps aswe-50.r aswe-50-reads.Post
+aswe-50-determined κs a x y = read-off (λ r. (r, x .1))
 
-pub aswe-80-determined : Determined 0 aswe-80.ps aswe-80.r aswe-80-reads.Post (λ κs r s. r)
-aswe-80-determined κs a x y s t p q = p ∙ sym q
+pub aswe-80-determined : Determined 0 aswe-80.ps aswe-80.r aswe-80-reads.Post
+aswe-80-determined κs a x y = read-off (λ r. (r, x .1))

@@ -18,7 +18,9 @@ use Rattle.sheet_rules.specs.Lookup.{liesIn}
 use Rattle.makers.specs.Maps.{ux, aswe, bore40}
 use Rattle.makers.specs.Sheets.{sheetOf}
 use Rattle.bank_rules.specs.Stores.{stored}
-use Rattle.bank_rules.specs.Bank.{bankSound, goodBy}
+use Rattle.bank_rules.specs.Bank.{bankSound, goodBy, lowStores, freshStores}
+use Rattle.refusals.specs.declared.Answer.the-variants.{Done}
+use Rattle.bank_rules.specs.Calls.{bankOutcome, freshAnswer, freshOutcome}
 use Rattle.lists.specs.Cases.{firstCase}
 use Rattle.meter_rules.specs.Runs.{allOpen}
 use Rattle.meter_rules.specs.Write.{badItem, someBad, stopIn, stopPlace, runStores}
@@ -51,6 +53,15 @@ asweMeter =
       origin = 0x00FF;
       fresh = 0 ∷ 0 ∷ 0 ∷ 0 ∷ 0 ∷ 0 ∷ 0x0001 ∷ 0x0320 ∷ 0x0001 ∷ 0x0001 ∷ 0 ∷ 0x01F4 ∷ 0 ∷ 0x0001 ∷ 0x0001 ∷ 0 ∷ 0 ∷ 0x0001 ∷ 0 ∷ 0x0001 ∷ 0xFF9C ∷ 0 ∷ 0 ∷ 0 ∷ 0 ∷ 0 ∷ 0 ∷ 0 ∷ 0 ∷ 0 ∷ 0 ∷ 0 ∷ 0 ∷ 0 ∷ 0 ∷ 0 ∷ 0 ∷ 0 ∷ 0 ∷ [];
     }
+
+-- the fresh words are what the call for a fresh bank makes of that many bytes, here of FF
+pub ux-fresh-made : freshOutcome (lent (uxMeter .sheet) (replicate 70 0xFF)) ≡ bankOutcome Done (bytesOf (uxMeter .fresh))
+unfolding bytesOf freshOutcome freshAnswer freshStores lowStores stored firstCase sound headerSound areasSound itemsSound settingsSound each some upFrom samePlaces itemPlaces writablePlaces placesFollow areasAscend lengthsSum areas items wordAt withWord inRange sheetOf
+ux-fresh-made = refl
+
+pub aswe-fresh-made : freshOutcome (lent (asweMeter .sheet) (replicate 78 0xFF)) ≡ bankOutcome Done (bytesOf (asweMeter .fresh))
+unfolding bytesOf freshOutcome freshAnswer freshStores lowStores stored firstCase sound headerSound areasSound itemsSound settingsSound each some upFrom samePlaces itemPlaces writablePlaces placesFollow areasAscend lengthsSum areas items wordAt withWord inRange sheetOf
+aswe-fresh-made = refl
 
 -- ---- the rows
 

@@ -1,6 +1,5 @@
 -- Each promise of this crate determines its result. Assumes nothing.
-use mathlib.Core.Path.{sym, _∙_}
-use Rattle.words.proofs.Promise.{Determined}
+use Rattle.words.proofs.Promise.{Determined, read-off}
 use Rattle.range.proofs.number.Kinds as number
 use Rattle.range.proofs.number.Reads as number-reads
 use Rattle.range.proofs.not_above.Kinds as not-above
@@ -8,11 +7,11 @@ use Rattle.range.proofs.not_above.Reads as not-above-reads
 use Rattle.range.proofs.in_range.Kinds as in-range
 use Rattle.range.proofs.in_range.Reads as in-range-reads
 
-pub number-determined : Determined 0 number.ps number.r number-reads.Post (λ κs r s. r)
-number-determined κs a x y s t p q = p ∙ sym q
+pub number-determined : Determined 0 number.ps number.r number-reads.Post
+number-determined κs a x y = read-off (λ r. (r, x .1))
 
-pub not-above-determined : Determined 0 not-above.ps not-above.r not-above-reads.Post (λ κs r s. r)
-not-above-determined κs a x y s t p q = p ∙ sym q
+pub not-above-determined : Determined 0 not-above.ps not-above.r not-above-reads.Post
+not-above-determined κs a x y = read-off (λ r. (r, x .1))
 
-pub in-range-determined : Determined 0 in-range.ps in-range.r in-range-reads.Post (λ κs r s. r)
-in-range-determined κs a x y s t p q = p ∙ sym q
+pub in-range-determined : Determined 0 in-range.ps in-range.r in-range-reads.Post
+in-range-determined κs a x y = read-off (λ r. (r, x .1))

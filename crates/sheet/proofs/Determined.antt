@@ -1,6 +1,5 @@
 -- Each promise of this crate determines its result. Assumes nothing.
-use mathlib.Core.Path.{sym, _∙_}
-use Rattle.words.proofs.Promise.{Determined}
+use Rattle.words.proofs.Promise.{Determined, read-off}
 use Rattle.sheet.proofs.area_count.Kinds as area-count
 use Rattle.sheet.proofs.area_count.Reads as area-count-reads
 use Rattle.sheet.proofs.item_count.Kinds as item-count
@@ -24,35 +23,35 @@ use Rattle.sheet.proofs.check.Reads as check-reads
 use Rattle.sheet.proofs.lies_at.Kinds as lies-at
 use Rattle.sheet.proofs.lies_at.Reads as lies-at-reads
 
-pub area-count-determined : Determined 1 area-count.ps area-count.r area-count-reads.Post (λ κs r s. r)
-area-count-determined κs a x y s t p q = p ∙ sym q
+pub area-count-determined : Determined 1 area-count.ps area-count.r area-count-reads.Post
+area-count-determined κs a x y = read-off (λ r. (r, x .1))
 
-pub item-count-determined : Determined 1 item-count.ps item-count.r item-count-reads.Post (λ κs r s. r)
-item-count-determined κs a x y s t p q = p ∙ sym q
+pub item-count-determined : Determined 1 item-count.ps item-count.r item-count-reads.Post
+item-count-determined κs a x y = read-off (λ r. (r, x .1))
 
-pub bank-words-determined : Determined 1 bank-words.ps bank-words.r bank-words-reads.Post (λ κs r s. r)
-bank-words-determined κs a x y s t p q = p ∙ sym q
+pub bank-words-determined : Determined 1 bank-words.ps bank-words.r bank-words-reads.Post
+bank-words-determined κs a x y = read-off (λ r. (r, x .1))
 
-pub functions-determined : Determined 1 functions.ps functions.r functions-reads.Post (λ κs r s. r)
-functions-determined κs a x y s t p q = p ∙ sym q
+pub functions-determined : Determined 1 functions.ps functions.r functions-reads.Post
+functions-determined κs a x y = read-off (λ r. (r, x .1))
 
-pub address-place-determined : Determined 1 address-place.ps address-place.r address-place-reads.Post (λ κs r s. r)
-address-place-determined κs a x y s t p q = p ∙ sym q
+pub address-place-determined : Determined 1 address-place.ps address-place.r address-place-reads.Post
+address-place-determined κs a x y = read-off (λ r. (r, x .1))
 
-pub rate-place-determined : Determined 1 rate-place.ps rate-place.r rate-place-reads.Post (λ κs r s. r)
-rate-place-determined κs a x y s t p q = p ∙ sym q
+pub rate-place-determined : Determined 1 rate-place.ps rate-place.r rate-place-reads.Post
+rate-place-determined κs a x y = read-off (λ r. (r, x .1))
 
-pub clear-address-determined : Determined 1 clear-address.ps clear-address.r clear-address-reads.Post (λ κs r s. r)
-clear-address-determined κs a x y s t p q = p ∙ sym q
+pub clear-address-determined : Determined 1 clear-address.ps clear-address.r clear-address-reads.Post
+clear-address-determined κs a x y = read-off (λ r. (r, x .1))
 
-pub area-at-determined : Determined 1 area-at.ps area-at.r area-at-reads.Post (λ κs r s. r)
-area-at-determined κs a x y s t p q = p ∙ sym q
+pub area-at-determined : Determined 1 area-at.ps area-at.r area-at-reads.Post
+area-at-determined κs a x y = read-off (λ r. (r, x .1))
 
-pub item-at-determined : Determined 1 item-at.ps item-at.r item-at-reads.Post (λ κs r s. r)
-item-at-determined κs a x y s t p q = p ∙ sym q
+pub item-at-determined : Determined 1 item-at.ps item-at.r item-at-reads.Post
+item-at-determined κs a x y = read-off (λ r. (r, x .1))
 
-pub check-determined : Determined 1 check.ps check.r check-reads.Post (λ κs r s. r)
-check-determined κs a x y s t p q = p ∙ sym q
+pub check-determined : Determined 1 check.ps check.r check-reads.Post
+check-determined κs a x y = read-off (λ r. (r, x .1))
 
-pub lies-at-determined : Determined 1 lies-at.ps lies-at.r lies-at-reads.Post (λ κs r s. r)
-lies-at-determined κs a x y s t p q = p ∙ sym q
+pub lies-at-determined : Determined 1 lies-at.ps lies-at.r lies-at-reads.Post
+lies-at-determined κs a x y = read-off (λ r. (r, x .1))

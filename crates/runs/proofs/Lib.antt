@@ -1,0 +1,4 @@
+pub mod Lending
+pub mod Returning
+pub mod Door
+pub mod Witness

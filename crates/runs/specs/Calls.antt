@@ -1,0 +1,100 @@
+-- The calls of the door: what is handed to each, and what is promised, by the definitions that its contract names. Definitions alone.
+use mathlib.Core.Path.{_≡_}
+use mathlib.Core.List.{List, [], _∷_}
+use Prim.Native.Nat.{ℕ}
+use mir.Syntax.{w8, w16, w32}
+use Rattle.check_value.specs.Check.{startState, taken, valueOf}
+use Rattle.sheet_rules.specs.Rules.{judgedSheet, sheetNumber}
+use Rattle.bank_rules.specs.Calls.{numberOf, checkAnswer, freshOutcome, postOutcome, markOutcome}
+use Rattle.meter_rules.specs.Answer.{answerOutcome}
+use Rattle.cedarskein.specs.Door.{told, toldOf, handed, handedOf}
+use Rattle.cedarskein.proofs.cedarskein_check_start.Symbol as check-start-code
+use Rattle.cedarskein.proofs.cedarskein_check_take.Symbol as check-take-code
+use Rattle.cedarskein.proofs.cedarskein_check_value.Symbol as check-value-code
+use Rattle.cedarskein.proofs.cedarskein_sheet_check.Symbol as sheet-check-code
+use Rattle.cedarskein.proofs.cedarskein_bank_check.Symbol as bank-check-code
+use Rattle.cedarskein.proofs.cedarskein_bank_fresh.Symbol as bank-fresh-code
+use Rattle.cedarskein.proofs.cedarskein_post.Symbol as post-code
+use Rattle.cedarskein.proofs.cedarskein_set_mark.Symbol as set-mark-code
+use Rattle.cedarskein.proofs.cedarskein_answer.Symbol as answer-code
+use Rattle.runs.specs.Runs.{Place, toRead, toWrite, toCount, passes, lends, Call}
+
+abbrev pub check-start-call : Call
+check-start-call = record {
+  function = check-start-code.routine;
+  args = [];
+  width = w16;
+  promise = λ number left. number ≡ startState;
+}
+
+module _ (state byte : ℕ) where
+  abbrev pub check-take-call : Call
+  check-take-call = record {
+    function = check-take-code.routine;
+    args = passes w16 state ∷ passes w8 byte ∷ [];
+    width = w16;
+    promise = λ number left. number ≡ taken state byte;
+  }
+
+module _ (bytes-at : Place) (bytes : List ℕ) where
+  abbrev pub check-value-call : Call
+  check-value-call = record {
+    function = check-value-code.routine;
+    args = lends (toRead bytes-at bytes) ∷ [];
+    width = w16;
+    promise = λ number left. number ≡ valueOf bytes;
+  }
+
+module _ (sheet-at : Place) (sheet : List ℕ) where
+  abbrev pub sheet-check-call : Call
+  sheet-check-call = record {
+    function = sheet-check-code.routine;
+    args = lends (toRead sheet-at sheet) ∷ [];
+    width = w32;
+    promise = λ number left. number ≡ sheetNumber (judgedSheet sheet);
+  }
+
+module _ (sheet-at bank-at : Place) (sheet bank : List ℕ) where
+  abbrev pub bank-check-call : Call
+  bank-check-call = record {
+    function = bank-check-code.routine;
+    args = lends (toRead sheet-at sheet) ∷ lends (toRead bank-at bank) ∷ [];
+    width = w32;
+    promise = λ number left. number ≡ numberOf (checkAnswer sheet bank);
+  }
+
+module _ (sheet-at bank-at : Place) (sheet bank : List ℕ) where
+  abbrev pub bank-fresh-call : Call
+  bank-fresh-call = record {
+    function = bank-fresh-code.routine;
+    args = lends (toRead sheet-at sheet) ∷ lends (toWrite bank-at bank) ∷ [];
+    width = w32;
+    promise = λ number left. told number (left .1 .0) ≡ toldOf (freshOutcome sheet bank);
+  }
+
+module _ (sheet-at bank-at words-at : Place) (sheet bank words : List ℕ) (address : ℕ) where
+  abbrev pub post-call : Call
+  post-call = record {
+    function = post-code.routine;
+    args = lends (toRead sheet-at sheet) ∷ lends (toWrite bank-at bank) ∷ passes w32 address ∷ lends (toRead words-at words) ∷ [];
+    width = w32;
+    promise = λ number left. told number (left .1 .0) ≡ toldOf (postOutcome sheet bank address words);
+  }
+
+module _ (sheet-at bank-at : Place) (sheet bank : List ℕ) (mark : ℕ) where
+  abbrev pub set-mark-call : Call
+  set-mark-call = record {
+    function = set-mark-code.routine;
+    args = lends (toRead sheet-at sheet) ∷ lends (toWrite bank-at bank) ∷ passes w32 mark ∷ [];
+    width = w32;
+    promise = λ number left. told number (left .1 .0) ≡ toldOf (markOutcome sheet bank mark);
+  }
+
+module _ (sheet-at bank-at frame-at buffer-at length-at rate-at : Place) (sheet bank frame buffer : List ℕ) (length rate : ℕ) where
+  abbrev pub answer-call : Call
+  answer-call = record {
+    function = answer-code.routine;
+    args = lends (toRead sheet-at sheet) ∷ lends (toWrite bank-at bank) ∷ lends (toRead frame-at frame) ∷ lends (toWrite buffer-at buffer) ∷ lends (toCount length-at length) ∷ lends (toCount rate-at rate) ∷ [];
+    width = w32;
+    promise = λ number left. handed number (left .1 .1 .1 .1 .0) (left .1 .1 .1 .1 .1 .0) (left .1 .0) (left .1 .1 .1 .0) ≡ handedOf (answerOutcome sheet bank frame buffer);
+  }
