@@ -10,8 +10,11 @@ ghost use Rattle.frame.specs.Reply.{topBitSet, wordsFrom, readReply, ech
 
 // The functions: 03 reads, 05 clears the mark, 06 writes one register, 10 writes several.
 pub const READS: u8 = 0x03;
+
 pub const CLEARS: u8 = 0x05;
+
 pub const WRITES_ONE: u8 = 0x06;
+
 pub const WRITES_MANY: u8 = 0x10;
 
 // The most words that a read has room for in the longest frame.
@@ -19,6 +22,7 @@ pub const MOST_READ: u16 = 47;
 
 // How many bytes an error and an echo have with their check.
 pub const ERROR_LENGTH: u32 = 5;
+
 pub const ECHO_LENGTH: u32 = 8;
 
 // The parts of a frame that the order of judgement speaks of.

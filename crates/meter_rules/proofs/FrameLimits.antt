@@ -7,7 +7,8 @@ use mathlib.Core.List.{List, [], _∷_, _++_}
 use Prim.Native.Nat.{ℕ}
 use lib.Dec.{eqb}
 use lib.ListN.{length, take, drop, replicate}
-use Rattle.words.specs.Words.{wordAt, withWord}
+use Rattle.words.specs.Words.{wordAt, withWord, bytesOf}
+use Rattle.words.specs.Changes.{Change, at, changed}
 use Rattle.check_value.specs.Check.{valueOf}
 use Rattle.check_value.specs.Frame.{passes}
 use Rattle.range.specs.Range.{inRange}
@@ -15,15 +16,16 @@ use Rattle.sheet_rules.specs.Rows.{areas, items}
 use Rattle.sheet_rules.specs.Rules.{sound, headerSound, areasSound, itemsSound, settingsSound, itemPlaces, writablePlaces, placesFollow, areasAscend, lengthsSum}
 use Rattle.lists.specs.Lists.{each, some, upFrom, samePlaces}
 use Rattle.sheet_rules.specs.Lookup.{liesIn}
-use Rattle.sheet_rules.proofs.SheetLimits.{Change, at, changed, bytesOf}
 use Rattle.bank_rules.specs.Stores.{stored}
 use Rattle.bank_rules.specs.Bank.{bankSound, goodBy}
 use Rattle.lists.specs.Cases.{firstCase}
 use Rattle.meter_rules.specs.Runs.{allOpen}
 use Rattle.meter_rules.specs.Write.{badItem, someBad, stopIn, stopPlace, runStores}
 use Rattle.meter_rules.specs.Steps.{judgedFrame}
-use Rattle.meter_rules.specs.Reply.{bankRun, withCheck, replyTo, storesOf}
-use Rattle.meter_rules.specs.Answer.{Outcome, numberOf, lengthOf, rateIn, actedOn, answerOutcome}
+use Rattle.frame.specs.Reply.{withCheck}
+use Rattle.meter_rules.specs.Reply.{replyTo, storesOf}
+use Rattle.bank_rules.specs.Calls.{lent}
+use Rattle.meter_rules.specs.Answer.{Outcome, answeredNumber, lengthIn, rateIn, frameCheck, actedOn, answerOutcome}
 
 -- ---- the meters of the table
 
@@ -204,13 +206,13 @@ buffer room = replicate room 0xA5
 -- an outcome is what a row says, "buffer beyond as before"
 abbrev isOutcome : Outcome → Row → Bool
 isOutcome outcome row =
-    eqb (numberOf (outcome .answered)) (row .number) && eqb (lengthOf (outcome .answered)) (row .length)
+    eqb (answeredNumber (outcome .answered)) (row .number) && eqb (lengthIn (outcome .answered)) (row .length)
     && eqb (rateIn (outcome .answered)) (row .rate)
     && samePlaces (outcome .buffer) (row .reply ++ drop (length (row .reply)) (buffer (row .room)))
     && samePlaces (outcome .bank) (row .after)
 
 unfoldable pub right : Row → Bool
-right row = isOutcome (answerOutcome (row .sheet) (row .bank) (row .frame) (buffer (row .room))) row
+right row = isOutcome (answerOutcome (lent (row .sheet) (row .bank)) (row .frame) (buffer (row .room))) row
 
 pub table : List Row
 table =
@@ -512,5 +514,5 @@ table =
 
 -- every row is right
 pub frame-limits : each right table ≡ true
-unfolding allOpen table right changed bytesOf answerOutcome actedOn judgedFrame firstCase replyTo storesOf bankRun withCheck runStores stopPlace stopIn badItem someBad goodBy bankSound stored passes valueOf sound headerSound areasSound itemsSound settingsSound each some upFrom samePlaces itemPlaces writablePlaces placesFollow areasAscend lengthsSum areas items liesIn wordAt withWord inRange
+unfolding allOpen table right changed bytesOf answerOutcome frameCheck actedOn judgedFrame firstCase replyTo storesOf withCheck runStores stopPlace stopIn badItem someBad goodBy bankSound stored passes valueOf sound headerSound areasSound itemsSound settingsSound each some upFrom samePlaces itemPlaces writablePlaces placesFollow areasAscend lengthsSum areas items liesIn wordAt withWord inRange
 frame-limits = refl

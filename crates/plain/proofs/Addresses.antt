@@ -96,7 +96,7 @@ module _ (sheet : List ℕ) (keeps : sound sheet ≡ true) (bytes : Bytes sheet)
       go true e f = inl (eqb-true (one .access) 1 e)
       go false e f = inr (eqb-true (one .access) 3 f)
 
-  so-readable : {at : ℕ} → Readable sheet at → Open Read at
+  pub so-readable : {at : ℕ} → Readable sheet at → Open Read at
   so-readable one =
       record { small = one .small; place = one .place; access = one .access; lies = one .lies; permitted = go (one .permitted) }
     where

@@ -9,3 +9,5 @@ pub mod Printed
 pub mod Once
 pub mod ReadOnly
 pub mod Words
+pub mod Replies
+pub mod Meets

@@ -5,31 +5,12 @@ use mathlib.Core.Bool.{Bool, true, not}
 use mathlib.Core.List.{List, [], _∷_, _++_}
 use Prim.Native.Nat.{ℕ, zero, suc, _+_, _-_, _*_}
 use lib.ListN.{set, take}
-use Rattle.words.specs.Words.{wordAt, upper, lower}
+use Rattle.words.specs.Words.{wordAt, bytesOf}
+use Rattle.words.specs.Changes.{Change, at, changed}
 use Rattle.range.specs.Range.{inRange}
 use Rattle.sheet_rules.specs.Rows.{areas, items}
 use Rattle.sheet_rules.specs.Rules.{sound, headerSound, areasSound, itemsSound, settingsSound, itemPlaces, writablePlaces, placesFollow, areasAscend, lengthsSum}
 use Rattle.lists.specs.Lists.{each, some, upFrom, samePlaces}
-
--- ---- words with some of them changed
-
--- another word at a number: an index, or an address
-pub record Change : Type 0 where
-  pub number : ℕ
-  pub word : ℕ
-
-abbrev pub at : ℕ → ℕ → Change
-at number word = record { number = number; word = word }
-
--- words with others in their places, where the first one has the number of the origin
-unfoldable pub changed : ℕ → List ℕ → List Change → List ℕ
-changed origin words [] = words
-changed origin words (this ∷ behind) = changed origin (set words (this .number - origin) (this .word)) behind
-
--- words as bytes, upper byte first
-unfoldable pub bytesOf : List ℕ → List ℕ
-bytesOf [] = []
-bytesOf (word ∷ behind) = upper word ∷ lower word ∷ bytesOf behind
 
 -- ---- the sheet that is changed: three areas, six items, nine words of the bank, all functions, clear address 0040
 abbrev base : List ℕ
