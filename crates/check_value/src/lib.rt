@@ -9,7 +9,9 @@ const START_STATE: u16 = 0xFFFF;
 
 // "4 to 100 bytes", the last two of which hold the check.
 pub const SHORTEST: usize = 4;
+
 pub const LONGEST: usize = 100;
+
 pub const CHECK_BYTES: usize = 2;
 
 // The running state.

@@ -10,8 +10,8 @@ use native.Mathlib.Omega.{arith}
 use lib.Dec.{ltb, eqb}
 use lib.ListN.{length, take, drop}
 use lib.Seq.{take-at, drop-append-seam}
-use borrow.Author.Tests.{eqb-true, le-ltb, ltb-false, not-false}
-use Rattle.words.specs.Words.{byteAt, wordBytes}
+use borrow.Author.Tests.{ne-eqb, eqb-true, le-ltb, ltb-false, not-false}
+use Rattle.words.specs.Words.{byteAt, wordBytes, bytesOf}
 use Rattle.check_value.specs.Frame.{passes}
 use Rattle.lists.specs.Lists.{each, upFrom}
 use Rattle.bank_rules.specs.Bank.{rateOf}
@@ -25,11 +25,12 @@ use Rattle.frame.specs.Frame.{reads, clears, writesOne, writesMany, station, fu
 use Rattle.meter_rules.specs.Steps.{functionAllowed}
 use Rattle.meter_rules.specs.Write.{firstPlace}
 use Rattle.meter_rules.specs.Steps as meter
-use Rattle.meter_rules.specs.Reply.{bankRun, replyTo, storesOf}
-use Rattle.frame.specs.Reply.{echo, writeReply, errorReply, topBitSet, withCheck, laid}
-use Rattle.meter_rules.specs.Answer.{numberOf, leastBuffer, outcome, answeredWith, actedOn, answerOutcome}
-use Rattle.meter_rules.proofs.Closing.{judged-fits, reply-length, reply-passes}
-use Rattle.meter_rules.proofs.Outcomes.{quiet, quiet-changes-nothing, outcome-cases}
+use Rattle.meter_rules.specs.Reply.{replyTo, storesOf}
+use Rattle.frame.specs.Reply.{echo, writeReply, errorReply, topBitSet, withCheck, laid, wordsFrom}
+use Rattle.meter_rules.specs.Answer.{numberOf, leastBuffer, outcome, answeredBy, actedOn, answerOutcome}
+use Rattle.meter_rules.proofs.Outcomes.{quiet, quiet-changes-nothing, outcome-cases, answered-some, answered-length, answered-rate}
+use Rattle.meter_rules.proofs.Closing.{judged-fits, reply-sized, reply-passes}
+use Rattle.frame.proofs.Reading.{write-echo, check-length}
 use Rattle.meter_rules.proofs.Soundness.{writes}
 use Rattle.cedarskein.specs.Door.{Handed, handed, handedOf}
 use Rattle.demands.specs.Verdict.{Accepted, Silent, IsError, IsGood, Verdict, silence, error, good, steps, verdict, earlierSteps}
@@ -120,16 +121,6 @@ top-bit byte = go (ltb byte 0x80) refl
     go true e = omega arith
     go false e = ltb-false byte 0x80 e
 
--- the reply to 10 is its first six bytes again, as the echo of 06 is
-pub write-echo : (frame : List ℕ) → writeReply frame ≡ echo frame
-write-echo frame = go (eqb (function frame) writesMany) refl
-  where
-    go : (many : Bool) → eqb (function frame) writesMany ≡ many
-        → cond many (station frame ∷ writesMany ∷ wordBytes (start frame) ++ wordBytes (second frame)) (echo frame) ≡ echo frame
-    go true e =
-        ap (λ (code : ℕ). station frame ∷ code ∷ wordBytes (start frame) ++ wordBytes (second frame)) (sym (eqb-true (function frame) writesMany e))
-    go false e = refl
-
 module _ (sheet bank frame buffer : List ℕ) where
   Shown : Verdict → Handed → Type 0
   Shown silence left = Silent bank buffer left
@@ -158,11 +149,13 @@ module _ (sheet bank frame buffer : List ℕ) where
   stopped-shown (GoodWrite first many) e = absurd (true≢false e)
 
   abbrev replied : List ℕ → List ℕ → Handed
-  replied reply after = handedOf (outcome (answeredWith (withCheck reply) (rateOf sheet bank)) after (laid (withCheck reply) buffer))
+  replied reply after = handedOf (outcome (answeredBy 0 (length (withCheck reply)) (rateOf sheet bank)) after (laid (withCheck reply) buffer))
 
   reply-shown : (code : ℕ) (more after : List ℕ) → code < 0x80 → IsGood (replied (station frame ∷ code ∷ more) after)
   unfolding withCheck
-  reply-shown code more after low = record { replied = refl; noErrorBit = low }
+  reply-shown code more after low =
+      let reply : List ℕ = station frame ∷ code ∷ more in
+      record { replied = simp (ne-eqb (length (withCheck reply)) 0 (λ e. omega (arith, check-length reply))); noErrorBit = low }
 
   writes-low : isWrite frame ≡ true → function frame < 0x80
   writes-low write = go (eqb (function frame) writesOne) refl write
@@ -175,11 +168,11 @@ module _ (sheet bank frame buffer : List ℕ) where
   unfolding actedOn replyTo
   good-shown permitted =
       good-sorts sheet bank frame (λ judged. IsGood (becomes judged)) permitted
-      (λ read. reply-shown reads (2 * count frame ∷ bankRun bank (upFrom (firstPlace sheet frame) (count frame)))
+      (λ read. reply-shown reads (2 * count frame ∷ bytesOf (wordsFrom bank (firstPlace sheet frame) (count frame)))
       (stored bank (storesOf (GoodRead (firstPlace sheet frame) (count frame)) sheet frame)) (omega arith))
       (λ clear. reply-shown (function frame) (wordBytes (start frame) ++ wordBytes (second frame)) (stored bank (storesOf GoodClear sheet frame)) (omega arith))
       (λ write. let after : List ℕ = stored bank (storesOf (GoodWrite (firstPlace sheet frame) (count frame)) sheet frame) in
-      subst (λ (reply : List ℕ). IsGood (replied reply after)) (sym (write-echo frame))
+      subst (λ (reply : List ℕ). IsGood (replied reply after)) (write-echo frame)
       (reply-shown (function frame) (wordBytes (start frame) ++ wordBytes (second frame)) after (writes-low write)))
 
   -- the first step that holds says what is seen
@@ -262,34 +255,25 @@ pub record Replied (sheet bank buffer : List ℕ) (left : Handed) : Type 0 where
   pub beyond : drop (left .length) (left .buffer) ≡ drop (left .length) buffer
   pub rateBefore : left .rate ≡ rateOf sheet bank
 
-reply-has : (sheet bank buffer reply after : List ℕ) → (reply ≡ []) ⊎ ((5 ≤ length reply) × (length reply ≤ 99))
-    → ((reply ≡ [] → ⊥) → passes reply ≡ true) → numberOf (answeredWith reply (rateOf sheet bank)) ≡ 0
-    → Replied sheet bank buffer (handedOf (outcome (answeredWith reply (rateOf sheet bank)) after (laid reply buffer)))
-reply-has sheet bank buffer [] after long right e = absurd (omega (arith, e))
-reply-has sheet bank buffer (byte ∷ bytes) after (inl none) right e = absurd (some none)
-  where
-    some : byte ∷ bytes ≡ [] → ⊥
-    some none = omega (arith, ap length none)
-reply-has sheet bank buffer (byte ∷ bytes) after (inr long) right e =
-    let reply : List ℕ = byte ∷ bytes in
-    record {
-      least = long .0;
-      most = long .1;
-      checked = ap passes (take-at reply (drop (length reply) buffer) (length reply) refl) ∙ right (λ none. omega (arith, ap length none));
-      beyond = drop-append-seam reply (drop (length reply) buffer);
-      rateBefore = refl;
-    }
-
 pub reply-sent : (sheet bank frame buffer : List ℕ) {left : Handed} → Accepted sheet bank buffer → Answers sheet bank frame buffer left
     → left .number ≡ 0 → Replied sheet bank buffer left
 unfolding actedOn
 reply-sent sheet bank frame buffer {left} accepted call replied =
     let judged : Judged = meter.judgedFrame sheet bank frame in
+    let reply : List ℕ = replyTo judged bank frame in
     let is = acted sheet bank frame buffer accepted call in
-    let fits = judged-fits sheet bank frame in
+    let some = answered-some judged bank frame (rateOf sheet bank) (ap (λ (h : Handed). h .number) (sym is) ∙ replied) in
+    let long = answered-length judged bank frame (rateOf sheet bank) in
+    let sized = reply-sized judged bank frame (judged-fits sheet bank frame) some in
     subst (Replied sheet bank buffer) (sym is)
-    (reply-has sheet bank buffer (replyTo judged bank frame) (stored bank (storesOf judged sheet frame)) (reply-length judged bank frame fits)
-    (reply-passes judged bank frame fits) (ap (λ (h : Handed). h .number) (sym is) ∙ replied))
+    record {
+      least = omega (arith, sized .0);
+      most = omega (arith, sized .1);
+      checked = ap passes (take-at reply (drop (length reply) buffer) _ (sym long)) ∙ reply-passes judged bank frame (judged-fits sheet bank frame) some;
+      beyond = ap (λ (n : ℕ). drop n (laid reply buffer)) long ∙ drop-append-seam reply (drop (length reply) buffer)
+          ∙ ap (λ (n : ℕ). drop n buffer) (sym long);
+      rateBefore = answered-rate judged bank frame (rateOf sheet bank) (ap (λ (h : Handed). h .number) (sym is) ∙ replied);
+    }
 
 -- ---- a step in front of the judgement of items leaves the bank: an error by it, like silence, stores nothing
 

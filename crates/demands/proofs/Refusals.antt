@@ -8,6 +8,7 @@ use mathlib.Core.List.{List, [], _∷_}
 use mathlib.Core.Logic.{_↔_}
 use Prim.Native.Nat.{ℕ, _≤_}
 use native.Mathlib.Omega.{arith}
+use lib.ListN.{length}
 use Rattle.sheet_rules.specs.Rules.{sound, soundOrBroken, sheetNumber}
 use Rattle.lists.proofs.Among.{Among, here, there}
 use Rattle.bank_rules.specs.declared.Answer.{Answer}
@@ -19,9 +20,9 @@ use Rattle.lists.proofs.Cases.{told-among, told-in-order, differ}
 use Rattle.bank_rules.proofs.Numbers.{check-numbers, fresh-numbers, post-numbers, mark-numbers}
 use Rattle.bank_rules.proofs.Changes.{refused-as-before}
 use Rattle.meter_rules.specs.declared.Answered.{Answered}
-use Rattle.meter_rules.specs.declared.Answered.the-variants.{Reply, Silence, SheetBreaksRule, BankMisfits, BankNotSound, SmallBuffer}
+use Rattle.meter_rules.specs.declared.Answered.the-variants.{Reply, Error, Silence, SheetBreaksRule, BankMisfits, BankNotSound, SmallBuffer}
 use Rattle.meter_rules.specs.Steps.{judgedFrame}
-use Rattle.meter_rules.specs.Reply.{replyTo}
+use Rattle.meter_rules.specs.Reply.{replyTo, errorCode}
 use Rattle.meter_rules.specs.Answer as meter
 use Rattle.meter_rules.proofs.Outcomes as outcomes
 use Rattle.meter_rules.proofs.Outcomes.{outcome-cases}
@@ -109,6 +110,7 @@ pub record RefusesFrame (sheet bank buffer : List ℕ) (left : Handed) : Type 0 
 -- the number of an answer, as far as it refuses
 refusal : Answered → ℕ
 refusal (Reply length rate) = 0
+refusal (Error code rate) = 0
 refusal Silence = 0
 refusal SheetBreaksRule = 2
 refusal BankMisfits = 3
@@ -118,6 +120,7 @@ refusal SmallBuffer = 5
 refusal-is : (answered : Answered) (k : ℕ) → 2 ≤ k → (meter.numberOf answered ≡ k) ↔ (refusal answered ≡ k)
 unfolding refusal
 refusal-is (Reply length rate) k some = (λ e. e, λ e. e)
+refusal-is (Error code rate) k some = (λ e. e, λ e. e)
 refusal-is Silence k some = (λ e. absurd (omega arith), λ e. absurd (omega arith))
 refusal-is SheetBreaksRule k some = (λ e. e, λ e. e)
 refusal-is BankMisfits k some = (λ e. e, λ e. e)
@@ -126,6 +129,7 @@ refusal-is SmallBuffer k some = (λ e. e, λ e. e)
 
 one-of : (answered : Answered) → Among (meter.numberOf answered) (0 ∷ 1 ∷ 2 ∷ 3 ∷ 4 ∷ 5 ∷ [])
 one-of (Reply length rate) = here
+one-of (Error code rate) = here
 one-of Silence = there here
 one-of SheetBreaksRule = there (there here)
 one-of BankMisfits = there (there (there here))
@@ -145,11 +149,8 @@ module _ (sheet bank frame buffer : List ℕ) where
       ∷ when (unsoundBank sheet bank) (meter.outcome BankNotSound bank buffer)
       ∷ when (meter.smallBuffer buffer) (meter.outcome SmallBuffer bank buffer) ∷ [])
       (meter.actedOn (judgedFrame sheet bank frame) sheet bank frame buffer)
-      (none (replyTo (judgedFrame sheet bank frame) bank frame)) refl
-    where
-      none : (reply : List ℕ) → refusal (meter.answeredWith reply (rateOf sheet bank)) ≡ 0
-      none [] = refl
-      none (byte ∷ bytes) = refl
+      (outcomes.answered-cases (λ a. refusal a ≡ 0) (errorCode (judgedFrame sheet bank frame))
+      (length (replyTo (judgedFrame sheet bank frame) bank frame)) (rateOf sheet bank) (λ fine none. refl) (λ fine some. refl) (λ some. refl)) refl
 
   exactly : {condition : Type 0} (k : ℕ) → 2 ≤ k → (refusal (result .answered) ≡ k) ↔ condition → (meter.numberOf (result .answered) ≡ k) ↔ condition
   exactly k some told =
@@ -161,7 +162,11 @@ module _ (sheet bank frame buffer : List ℕ) where
   nothing-written =
       outcome-cases
       (λ o. 2 ≤ meter.numberOf (o .answered) → handedOf o ≡ handed (meter.numberOf (o .answered)) 0 0 bank buffer)
-      sheet bank frame buffer refused (λ right fitting whole some. absurd (taken (replyTo (judgedFrame sheet bank frame) bank frame) some))
+      sheet bank frame buffer refused
+      (λ right fitting whole some. absurd (omega (
+        arith,
+        outcomes.answered-takes (judgedFrame sheet bank frame) bank frame (rateOf sheet bank),
+      )))
     where
       refused : (answered : Answered) → outcomes.Refuses answered → 2 ≤ meter.numberOf answered
           → handedOf (meter.outcome answered bank buffer) ≡ handed (meter.numberOf answered) 0 0 bank buffer
@@ -171,10 +176,7 @@ module _ (sheet bank frame buffer : List ℕ) where
       refused SmallBuffer refuses some = refl
       refused Silence refuses some = absurd (omega arith)
       refused (Reply length rate) refuses some = absurd (omega arith)
-
-      taken : (reply : List ℕ) → 2 ≤ meter.numberOf (meter.answeredWith reply (rateOf sheet bank)) → ⊥
-      taken [] some = omega arith
-      taken (byte ∷ bytes) some = omega arith
+      refused (Error code rate) refuses some = absurd (omega arith)
 
   pub frame-refuses : {left : Handed} → Answers sheet bank frame buffer left → RefusesFrame sheet bank buffer left
   frame-refuses call =

@@ -9,8 +9,8 @@ use Prim.Native.Nat.{ℕ, zero, suc, _+_, _-_, _*_, _≤_, _<_}
 use native.Mathlib.Omega.{arith}
 use lib.Dec.{ltb, eqb}
 use lib.ListN.{length, take}
-use borrow.Author.Tests.{eq-eqb, eqb-true, lt-ltb, ltb-true, not-true, not-false}
-use Rattle.words.specs.Words.{byteAt, wordAt, upper, lower}
+use borrow.Author.Tests.{eq-eqb, eqb-true, lt-ltb, ltb-true, not-true, not-false, ne-eqb}
+use Rattle.words.specs.Words.{byteAt, wordAt, upper, lower, bytesOf}
 use Rattle.sheet_rules.specs.declared.Lies.the-variants.{At}
 use Rattle.sheet_rules.specs.declared.Item.{Item}
 use Rattle.sheet_rules.specs.Rows.{areas, items}
@@ -26,23 +26,25 @@ use Rattle.bank_rules.proofs.Changes.{mark-there, mark-apart}
 use Rattle.meter_rules.specs.declared.Judged.{Judged}
 use Rattle.meter_rules.specs.declared.Judged.the-variants.{BadItem, GoodRead, GoodClear, GoodWrite}
 use Rattle.meter_rules.specs.declared.Purpose.the-variants.{Read, Write}
-use Rattle.frame.specs.Frame.{reads, clears, writesOne, writesMany, station, function, start, second, isWrite, count, run, sent}
+use Rattle.frame.specs.Frame.{reads, clears, writesOne, writesMany, station, function, start, second, isWrite, count, run, sent, mostRead}
 use Rattle.meter_rules.specs.Runs.{allOpen}
 use Rattle.meter_rules.specs.Write.{firstPlace, inRun, wouldBe, touched, badItem, someBad, stopIn, stopPlace, runStores}
 use Rattle.meter_rules.specs.Steps as meter
-use Rattle.meter_rules.specs.Reply.{bankRun, replyTo, storesOf}
-use Rattle.frame.specs.Reply.{readReply, echo, withCheck, laid}
-use Rattle.meter_rules.specs.Answer.{outcome, answeredWith, actedOn}
+use Rattle.meter_rules.specs.Reply.{replyTo, storesOf}
+use Rattle.frame.specs.Reply.{readReply, echo, withCheck, laid, wordsFrom}
+use Rattle.meter_rules.specs.Answer.{outcome, answeredBy, actedOn}
 use Rattle.frame.proofs.Reading.{check-length, read-length}
 use Rattle.meter_rules.proofs.Written.{run-place, each-open}
 use Rattle.meter_rules.proofs.Judging.{run-test, run-above}
 use Rattle.meter_rules.proofs.Stopping.{run-below, stop-some}
+use Rattle.meter_rules.proofs.Outcomes.{answered-length}
 use Rattle.meter_rules.proofs.Soundness.{OpenWrite, open-write, stops-at-end}
 use Rattle.meter_rules.proofs.Keeping as keeping
 use Rattle.cedarskein.specs.Door.{Handed, handedOf}
 use Rattle.demands.specs.Verdict.{Accepted, IsError, error, good, steps, verdict, earlierSteps}
 use Rattle.demands.proofs.Calls.{Answers}
-use Rattle.demands.proofs.Frames.{acted, good-none, judged-good, write-echo, frame-answered}
+use Rattle.demands.proofs.Frames.{acted, good-none, judged-good, frame-answered}
+use Rattle.frame.proofs.Reading.{write-echo}
 
 -- the address of the k-th register of a run lies at a place of the bank
 abbrev pub LiesAt : List ℕ → List ℕ → ℕ → ℕ → Type 0
@@ -58,28 +60,28 @@ unfolding wordAt
 word-skip a l n = ap (λ (k : ℕ). byteAt l n * 256 + byteAt (a ∷ l) k) (let next : suc n + 1 ≡ suc (n + 1) = omega arith in next)
 
 run-word : (bank : List ℕ) (first many i : ℕ) (rest : List ℕ) → i < many
-    → wordAt (bankRun bank (upFrom first many) ++ rest) (2 * i) ≡ wordOf bank (first + i)
-unfolding bankRun upFrom wordAt
+    → wordAt (bytesOf (wordsFrom bank first many) ++ rest) (2 * i) ≡ wordOf bank (first + i)
+unfolding bytesOf upFrom wordAt
 run-word bank first zero i rest less = absurd (omega arith)
 run-word bank first (suc many) zero rest less = word-halves (wordOf bank first) ∙ ap (wordOf bank) (let same : first ≡ first + 0 = omega arith in same)
 run-word bank first (suc many) (suc i) rest less =
-    ap (wordAt (bankRun bank (upFrom first (suc many)) ++ rest)) (let next : 2 * suc i ≡ suc (suc (2 * i)) = omega arith in next)
-    ∙ word-skip (upper (wordOf bank first)) (lower (wordOf bank first) ∷ bankRun bank (upFrom (suc first) many) ++ rest) (suc (2 * i))
-    ∙ word-skip (lower (wordOf bank first)) (bankRun bank (upFrom (suc first) many) ++ rest) (2 * i)
+    ap (wordAt (bytesOf (wordsFrom bank first (suc many)) ++ rest)) (let next : 2 * suc i ≡ suc (suc (2 * i)) = omega arith in next)
+    ∙ word-skip (upper (wordOf bank first)) (lower (wordOf bank first) ∷ bytesOf (wordsFrom bank (suc first) many) ++ rest) (suc (2 * i))
+    ∙ word-skip (lower (wordOf bank first)) (bytesOf (wordsFrom bank (suc first) many) ++ rest) (2 * i)
     ∙ run-word bank (suc first) many i rest (omega arith)
     ∙ ap (wordOf bank) (let same : suc first + i ≡ first + suc i = omega arith in same)
 
 -- .. behind the three bytes in front of them, whatever follows
 sent-word : (bank : List ℕ) (first many i a b c : ℕ) (check rest : List ℕ) → i < many
-    → wordAt (a ∷ b ∷ c ∷ ((bankRun bank (upFrom first many) ++ check) ++ rest)) (3 + 2 * i) ≡ wordOf bank (first + i)
+    → wordAt (a ∷ b ∷ c ∷ ((bytesOf (wordsFrom bank first many) ++ check) ++ rest)) (3 + 2 * i) ≡ wordOf bank (first + i)
 sent-word bank first many i a b c check rest less =
     ap (wordAt (a ∷ b ∷ c ∷ all)) (let third : 3 + 2 * i ≡ suc (suc (suc (2 * i))) = omega arith in third)
     ∙ word-skip a (b ∷ c ∷ all) (suc (suc (2 * i))) ∙ word-skip b (c ∷ all) (suc (2 * i)) ∙ word-skip c all (2 * i)
-    ∙ ap (λ (l : List ℕ). wordAt l (2 * i)) (append-assoc (bankRun bank (upFrom first many)) check rest)
+    ∙ ap (λ (l : List ℕ). wordAt l (2 * i)) (append-assoc (bytesOf (wordsFrom bank first many)) check rest)
     ∙ run-word bank first many i (check ++ rest) less
   where
     all : List ℕ
-    all = (bankRun bank (upFrom first many) ++ check) ++ rest
+    all = (bytesOf (wordsFrom bank first many) ++ check) ++ rest
 
 -- ---- which judgement a good frame has, by its function
 
@@ -133,9 +135,9 @@ module _ (sheet bank frame buffer : List ℕ) where
   good-read-sends {left} accepted call fine read =
       subst (ReadSent sheet bank frame) (sym is)
       record {
-        replied = refl;
-        long = check-length (readReply bank frame first many) ∙ (let sum : length (readReply bank frame first many) + 2 ≡ 5 + 2 * many = omega (arith, read-length bank frame first many) in sum);
-        rateBefore = refl;
+        replied = simp some;
+        long = answered-length (GoodRead first many) bank frame (rateOf sheet bank) ∙ check-length (readReply bank frame first many) ∙ (let sum : length (readReply bank frame first many) + 2 ≡ 5 + 2 * many = omega (arith, read-length bank frame first many) in sum);
+        rateBefore = simp some;
         stationSent = refl;
         functionSent = refl;
         countSent = refl;
@@ -154,6 +156,9 @@ module _ (sheet bank frame buffer : List ℕ) where
       many : ℕ
       many = count frame
 
+      some : eqb (length (withCheck (readReply bank frame first many))) 0 ≡ false
+      some = ne-eqb (length (withCheck (readReply bank frame first many))) 0 (λ e. omega (arith, check-length (readReply bank frame first many)))
+
       none : NoneOf (conditions (steps sheet bank frame))
       none = good-none sheet bank frame fine
 
@@ -164,7 +169,7 @@ module _ (sheet bank frame buffer : List ℕ) where
 
       all : allOpen Read sheet (run frame) ≡ true
       all =
-          read-open (eqb (function frame) reads) (ltb meter.mostRead (second frame)) (allOpen Read sheet (run frame)) _ _
+          read-open (eqb (function frame) reads) (ltb mostRead (second frame)) (allOpen Read sheet (run frame)) _ _
           (none .1 .1 .1 .1 .1 .0) (eq-eqb (function frame) reads read)
 
 -- ---- the words that a write leaves
@@ -239,10 +244,10 @@ pub record WriteStored (sheet bank frame buffer : List ℕ) (left : Handed) : Ty
 
 -- what is left by a judgement whose reply is the echo
 echoes : (sheet bank frame buffer after : List ℕ) {reply : List ℕ} → reply ≡ echo frame
-    → Echoed frame buffer (handedOf (outcome (answeredWith (withCheck reply) (rateOf sheet bank)) after (laid (withCheck reply) buffer)))
+    → Echoed frame buffer (handedOf (outcome (answeredBy 0 (length (withCheck reply)) (rateOf sheet bank)) after (laid (withCheck reply) buffer)))
 unfolding withCheck
 echoes sheet bank frame buffer after same =
-    subst (λ (r : List ℕ). Echoed frame buffer (handedOf (outcome (answeredWith (withCheck r) (rateOf sheet bank)) after (laid (withCheck r) buffer))))
+    subst (λ (r : List ℕ). Echoed frame buffer (handedOf (outcome (answeredBy 0 (length (withCheck r)) (rateOf sheet bank)) after (laid (withCheck r) buffer))))
     (sym same) record { replied = refl; eight = refl; sent = refl }
 
 module _ (sheet bank frame buffer : List ℕ) {left : Handed} (accepted : Accepted sheet bank buffer)
@@ -252,7 +257,7 @@ module _ (sheet bank frame buffer : List ℕ) {left : Handed} (accepted : Accept
   good-write-stores fine write =
       record {
         echoed = subst (Echoed frame buffer) (sym whole)
-            (echoes sheet bank frame buffer (stored bank (storesOf (GoodWrite (firstPlace sheet frame) (count frame)) sheet frame)) (write-echo frame));
+            (echoes sheet bank frame buffer (stored bank (storesOf (GoodWrite (firstPlace sheet frame) (count frame)) sheet frame)) (sym (write-echo frame)));
         stored = λ k less. let place : ℕ = firstPlace sheet frame + k in
             let lies = lies-there sheet bank frame buffer accepted opened k less in
             (place, lies, here place ∙ in-front sheet bank frame buffer accepted opened k place less lies (omega (arith, end)));

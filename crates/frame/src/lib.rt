@@ -10,8 +10,11 @@ ghost use Rattle.frame.specs.Reply.{topBitSet, wordsFrom, readReply, ech
 
 // The functions: 03 reads, 05 clears the mark, 06 writes one register, 10 writes several.
 pub const READS: u8 = 0x03;
+
 pub const CLEARS: u8 = 0x05;
+
 pub const WRITES_ONE: u8 = 0x06;
+
 pub const WRITES_MANY: u8 = 0x10;
 
 // The most words that a read has room for in the longest frame.
@@ -19,6 +22,7 @@ pub const MOST_READ: u16 = 47;
 
 // How many bytes an error and an echo have with their check.
 pub const ERROR_LENGTH: u32 = 5;
+
 pub const ECHO_LENGTH: u32 = 8;
 
 // The parts of a frame that the order of judgement speaks of.
@@ -96,7 +100,8 @@ pub fn reply_echo(frame: &[u8], buffer: &mut [u8]) -> u32
     ECHO_LENGTH
 }
 
-// Lays so many words of a source, from a place on, behind the first three bytes of a buffer.
+// Lays so many words of a source, from a place on, behind the first three bytes of a buffer, which has room for them: so no word is tested
+// for it.
 fn lay_words(source: &[u8], buffer: &mut [u8], first: u32, many: u32)
     requires { ⌜ 3 + 2 * many ≤ length (now buffer) ⌝ }
     ensures { λ _. ⌜ now (buffer .exit) ≡ laid (take 3 (now (buffer .entry)) ++ bytesOf (wordsFrom (now (source .entry)) first many)) (now (buffer .entry)) ⌝ }
@@ -104,7 +109,9 @@ fn lay_words(source: &[u8], buffer: &mut [u8], first: u32, many: u32)
     let mut k: u32 = 0;
     while k < many {
         let word = words::word_at(source, 2 * (first as usize + k as usize));
-        words::store_word(buffer, 3 + 2 * (k as usize), word);
+        let at = 3 + 2 * (k as usize);
+        buffer[at] = (word / 256) as u8;
+        buffer[at + 1] = (word % 256) as u8;
         k += 1;
     }
 }

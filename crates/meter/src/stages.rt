@@ -15,8 +15,11 @@ use meter_rules::Purpose;
 
 // The bits that allow the functions 03, 05, 06 and 10, of whose sum the sheet has one word.
 const BIT_OF_03: u16 = 1;
+
 const BIT_OF_05: u16 = 2;
+
 const BIT_OF_06: u16 = 4;
+
 const BIT_OF_10: u16 = 8;
 
 // What step 2 answers: a frame for the bank's station, taken apart, or that it is for another.

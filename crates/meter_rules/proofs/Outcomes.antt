@@ -20,7 +20,7 @@ use Rattle.meter_rules.specs.declared.Judged.{Judged}
 use Rattle.meter_rules.specs.declared.Judged.the-variants.{FailsCheck, OtherStation, FunctionNotAllowed, WrongLength, WrongCount, WrongAddress, WrongValue, BadItem, GoodRead, GoodClear, GoodWrite}
 use Rattle.meter_rules.specs.Steps.{judgedFrame}
 use Rattle.meter_rules.specs.Reply.{errorCode, goodReply, replyTo, storesOf}
-use Rattle.meter_rules.specs.Answer.{Outcome, outcome, numberOf, lengthIn, answeredBy, smallBuffer, actedOn, answerOutcome}
+use Rattle.meter_rules.specs.Answer.{Outcome, outcome, numberOf, lengthIn, rateIn, answeredBy, smallBuffer, actedOn, answerOutcome}
 use Rattle.frame.specs.Reply.{errorReply, withCheck, laid}
 use Rattle.meter_rules.proofs.Closing.{readFits, judged-fits, reply-sized, reply-passes}
 
@@ -91,6 +91,11 @@ module _ (judged : Judged) (bank frame : List ℕ) where
         answered-cases (λ a. numberOf a ≡ 0 → replyTo judged bank frame ≡ [] → ⊥) (errorCode judged) (length (replyTo judged bank frame)) rate
         (λ fine none e. absurd (omega arith)) (λ fine some e none. some (ap length none))
         (λ some e none. omega (arith, ap length (error-reply some), ap length none))
+
+    pub answered-rate : numberOf answer ≡ 0 → rateIn answer ≡ rate
+    answered-rate =
+        answered-cases (λ a. numberOf a ≡ 0 → rateIn a ≡ rate) (errorCode judged) (length (replyTo judged bank frame)) rate
+        (λ fine none e. absurd (omega arith)) (λ fine some e. refl) (λ some e. refl)
 
     -- it refuses nothing
     pub answered-takes : numberOf answer ≤ 1

@@ -64,7 +64,7 @@ returns-3 c =
     (then-sealed entry reply laid-all (3 + 2 * a .many) (read-length source frame (a .first) (a .many)) (omega arith) (c .before .before .seal .ensures))
 
 pub reply-read-spec : {M : Type 1} → statement M
-reply-read-spec = 
+reply-read-spec =
     tie.close
     (tie.spec
     (λ c. search needs)

@@ -1,4 +1,4 @@
--- `meter::replies::acted` meets its contract: what was laid, stored and answered. Assumes nothing.
+-- `meter::replies::acted` meets its contract: what was laid, and what was stored. Assumes nothing.
 use mathlib.Core.Path.{_∙_, ap}
 use Prim.Native.Nat.{ℕ, _*_}
 use denote.Ref.{now}
@@ -10,14 +10,13 @@ use Rattle.meter.proofs.replies.acted.Tie as tie
 
 returns : tie.Need-returns
 returns c =
-    let stores = c .before .before .before .before in
+    let stores = c .before .before in
     let lays = stores .before .before .before .before in
     let reads = lays .before .before .before in
-    let start = reads .before .before .before .before .before .before .before in
-    let a = start .args in
-    acts (a .judged) (now (a .sheet)) (now (a .bank)) (now (a .frame)) (now (a .buffer)) (start .pre)
+    let a = reads .before .before .before .before .before .before .before .args in
+    acts (a .judged) (now (a .sheet)) (now (a .bank)) (now (a .frame)) (now (a .buffer))
     (reads .word-at .ensures ∙ ap (λ (n : ℕ). wordAt (now (a .bank)) (2 * n)) (reads .before .rate-place .ensures))
-    (lays .lay-reply .ensures) (stores .make-stores .ensures) (c .before .error-code .ensures) (c .answered-by .ensures)
+    (lays .lay-reply .ensures) (stores .make-stores .ensures)
 
 pub acted-spec : {M : Type 1} → statement M
 acted-spec =
@@ -26,8 +25,6 @@ acted-spec =
     (λ c κs. search needs)
     (λ c. search needs)
     (λ c. search needs)
-    (λ c κs. search needs)
-    (λ c κs. search needs)
     (λ c κs. search needs)
     (λ c κs. search needs)
     (λ c κs. search needs)
