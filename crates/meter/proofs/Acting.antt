@@ -11,8 +11,8 @@ use types.Run.{OneOf, miss}
 use Rattle.lists.specs.Lists.{upFrom}
 use Rattle.bank_rules.specs.Stores.{stored}
 use Rattle.bank_rules.specs.Bank.{rateOf}
-use Rattle.frame.proofs.Reading.{check-length}
-use Rattle.frame.specs.Reply.{errorReply, withCheck, laid, hasRoom, Filled, fill, layReply}
+use Rattle.frame.proofs.Reading.{write-echo, check-length}
+use Rattle.frame.specs.Reply.{echo, errorReply, withCheck, laid, hasRoom, Filled, fill, layReply}
 use Rattle.meter_rules.specs.declared.Answered.{Answered}
 use Rattle.meter_rules.specs.declared.Answered.the-variants.{Reply, Error, Silence}
 use Rattle.meter_rules.specs.declared.Judged.{Judged}
@@ -83,6 +83,37 @@ no-good-reply (GoodRead first many) bank frame k = absurd (miss (0 ∷ 1 ∷ 2 �
 no-good-reply GoodClear bank frame k = absurd (miss (0 ∷ 1 ∷ 2 ∷ 3 ∷ 4 ∷ 5 ∷ 6 ∷ 7 ∷ []) 9 tt k)
 no-good-reply (GoodWrite first many) bank frame k = absurd (miss (0 ∷ 1 ∷ 2 ∷ 3 ∷ 4 ∷ 5 ∷ 6 ∷ 7 ∷ []) 10 tt k)
 
+-- a good clear and a good write are answered by the frame's first six bytes
+pub echo-reply : (judged : Judged) (bank frame : List ℕ) → OneOf (9 ∷ 10 ∷ []) (tagOf the-type judged)
+    → goodReply judged bank frame ≡ withCheck (echo frame)
+echo-reply FailsCheck bank frame k = absurd (miss (9 ∷ 10 ∷ []) 0 tt k)
+echo-reply OtherStation bank frame k = absurd (miss (9 ∷ 10 ∷ []) 1 tt k)
+echo-reply FunctionNotAllowed bank frame k = absurd (miss (9 ∷ 10 ∷ []) 2 tt k)
+echo-reply WrongLength bank frame k = absurd (miss (9 ∷ 10 ∷ []) 3 tt k)
+echo-reply WrongCount bank frame k = absurd (miss (9 ∷ 10 ∷ []) 4 tt k)
+echo-reply WrongAddress bank frame k = absurd (miss (9 ∷ 10 ∷ []) 5 tt k)
+echo-reply WrongValue bank frame k = absurd (miss (9 ∷ 10 ∷ []) 6 tt k)
+echo-reply (BadItem first stop) bank frame k = absurd (miss (9 ∷ 10 ∷ []) 7 tt k)
+echo-reply (GoodRead first many) bank frame k = absurd (miss (9 ∷ 10 ∷ []) 8 tt k)
+echo-reply GoodClear bank frame k = refl
+echo-reply (GoodWrite first many) bank frame k = ap withCheck (sym (write-echo frame))
+
+-- no reply is of a word that the frame stored
+pub reply-before : (judged : Judged) (sheet bank frame : List ℕ)
+    → replyTo judged (stored bank (storesOf judged sheet frame)) frame ≡ replyTo judged bank frame
+unfolding replyTo storesOf stored
+reply-before FailsCheck sheet bank frame = refl
+reply-before OtherStation sheet bank frame = refl
+reply-before FunctionNotAllowed sheet bank frame = refl
+reply-before WrongLength sheet bank frame = refl
+reply-before WrongCount sheet bank frame = refl
+reply-before WrongAddress sheet bank frame = refl
+reply-before WrongValue sheet bank frame = refl
+reply-before (BadItem first stop) sheet bank frame = refl
+reply-before (GoodRead first many) sheet bank frame = refl
+reply-before GoodClear sheet bank frame = refl
+reply-before (GoodWrite first many) sheet bank frame = refl
+
 -- ---- the stores
 
 -- a judgement is a write with a bad item, a good clear or a good write, or stores nothing
@@ -119,11 +150,18 @@ many-stores frame first many = run-stores frame first (first + many) many (omega
 
 -- ---- both
 
-pub acts : (judged : Judged) (sheet bank frame buffer : List ℕ) {answered : Answered} {made after : List ℕ} {rate : ℕ} → rate ≡ rateOf sheet bank
-    → outcome answered bank after ≡ replied judged rate bank frame buffer → made ≡ stored bank (storesOf judged sheet frame)
-    → outcome answered made after ≡ actedOn judged sheet bank frame buffer
-unfolding actedOn replied
-acts judged sheet bank frame buffer {answered} {made} {after} rated answers stores =
-    ap₂ (λ (o : Outcome) (b : List ℕ). outcome (o .answered) b (o .buffer)) answers stores
-    ∙ ap (λ (r : ℕ). outcome (answeredBy (errorCode judged) (length (replyTo judged bank frame)) r) (stored bank (storesOf judged sheet frame))
-    (laid (replyTo judged bank frame) buffer)) rated
+module _ (judged : Judged) (sheet bank frame buffer : List ℕ) {made : List ℕ} (stores : made ≡ stored bank (storesOf judged sheet frame)) where
+  reply-same : replyTo judged made frame ≡ replyTo judged bank frame
+  reply-same = ap (λ (b : List ℕ). replyTo judged b frame) stores ∙ reply-before judged sheet bank frame
+
+  pub room-same : hasRoom (replyTo judged bank frame) buffer ≡ true → hasRoom (replyTo judged made frame) buffer ≡ true
+  room-same room = ap (λ (reply : List ℕ). hasRoom reply buffer) reply-same ∙ room
+
+  pub acts : {answered : Answered} {after : List ℕ} {rate : ℕ} → rate ≡ rateOf sheet bank
+      → outcome answered made after ≡ replied judged rate made frame buffer → outcome answered made after ≡ actedOn judged sheet bank frame buffer
+  unfolding actedOn replied
+  acts {answered} {after} {rate} rated answers =
+      answers
+      ∙ ap₂ (λ (reply b : List ℕ). outcome (answeredBy (errorCode judged) (length reply) rate) b (laid reply buffer)) reply-same stores
+      ∙ ap (λ (r : ℕ). outcome (answeredBy (errorCode judged) (length (replyTo judged bank frame)) r) (stored bank (storesOf judged sheet frame))
+      (laid (replyTo judged bank frame) buffer)) rated

@@ -45,11 +45,7 @@ fn lay_reply(judged: Judged, rate: u16, bank: &[u8], frame: &[u8], buffer: &mut 
             let length = frame::reply_read(bank, frame, buffer, first, many);
             Answered::Reply { length, rate }
         }
-        Judged::GoodClear => {
-            let length = frame::reply_echo(frame, buffer);
-            Answered::Reply { length, rate }
-        }
-        Judged::GoodWrite { first: _, many: _ } => {
+        Judged::GoodClear | Judged::GoodWrite { first: _, many: _ } => {
             let length = frame::reply_echo(frame, buffer);
             Answered::Reply { length, rate }
         }
@@ -82,7 +78,8 @@ fn make_stores(judged: Judged, sheet: &[u8], bank: &mut [u8], frame: &[u8])
     }
 }
 
-// Acts on a judgement: lays its reply in the buffer, at the rate before the frame, and then makes its stores.
+// Acts on a judgement: makes its stores, and lays its reply in the buffer, at the rate before the frame. A frame that reads stores nothing,
+// so no reply is of a word that the frame itself stored.
 pub(crate) fn acted(
     judged: Judged,
     sheet: &[u8],
@@ -94,7 +91,6 @@ pub(crate) fn acted(
     ensures { λ r. ⌜ outcome r (now (bank .exit)) (now (buffer .exit)) ≡ actedOn judged (now (sheet .entry)) (now (bank .entry)) (now (frame .entry)) (now (buffer .entry)) ⌝ }
 {
     let rate = words::word_at(bank, 2 * (sheet::rate_place(sheet) as usize));
-    let answered = lay_reply(judged, rate, bank, frame, buffer);
     make_stores(judged, sheet, bank, frame);
-    answered
+    lay_reply(judged, rate, bank, frame, buffer)
 }

@@ -1,11 +1,8 @@
 -- `meter::replies::lay_reply` meets its contract: an error, the reply to a good frame, or none. Assumes nothing.
-use mathlib.Core.Path.{refl, sym, ap}
-use Prim.Native.Nat.{ℕ}
-use mathlib.Core.List.{List}
+use mathlib.Core.Path.{refl}
 use denote.Ref.{now}
-use Rattle.frame.specs.Reply.{readReply, echo, withCheck}
-use Rattle.frame.proofs.Reading.{write-echo}
-use Rattle.meter.proofs.Acting.{answers-error, answers-good, answers-none, no-good-reply}
+use Rattle.frame.specs.Reply.{readReply, echo}
+use Rattle.meter.proofs.Acting.{answers-error, answers-good, answers-none, no-good-reply, echo-reply}
 use borrow.Author.Needs.{needs}
 use Rattle.meter.proofs.replies.lay_reply.Statement.{statement}
 use Rattle.meter.proofs.replies.lay_reply.Tie as tie
@@ -26,23 +23,16 @@ returns-2 c =
 
 returns-3 : tie.Need-returns-3
 returns-3 c =
-    let d = c .before .before .before .before .before .before .before in
+    let d = c .before .before .before .before .before .before in
     let a = d .before .before .before .before .args in
     answers-good (a .judged) (now (a .bank)) (now (a .frame)) (now (a .buffer)) (a .rate) (d .before .before .before .before .pre) (d .error-code .ensures)
-    (echo (now (a .frame))) (c .before .before .before .before .before .before .if1 .left) (c .before .before .before .before .enum-told .given .1) refl (c .before .before .reply-echo .ensures)
+    (echo (now (a .frame))) (c .before .before .before .before .before .if1 .left) refl (echo-reply (a .judged) (now (a .bank)) (now (a .frame)) (c .before .before .before .before .match .keys2)) (c .before .before .reply-echo .ensures)
 
 returns-4 : tie.Need-returns-4
 returns-4 c =
-    let d = c .before .before .before .before .before .before .before in
-    let a = d .before .before .before .before .args in
-    answers-good (a .judged) (now (a .bank)) (now (a .frame)) (now (a .buffer)) (a .rate) (d .before .before .before .before .pre) (d .error-code .ensures)
-    (echo (now (a .frame))) (c .before .before .before .before .before .before .if1 .left) (c .before .before .before .before .enum-told2 .given .1) (ap withCheck (sym (write-echo (now (a .frame))))) (c .before .before .reply-echo2 .ensures)
-
-returns-5 : tie.Need-returns-5
-returns-5 c =
     let d = c .before .before in
     let a = d .before .before .before .before .args in
-    answers-none (a .judged) (now (a .bank)) (now (a .frame)) (now (a .buffer)) (a .rate) (d .error-code .ensures) (c .before .if1 .left) (no-good-reply (a .judged) (now (a .bank)) (now (a .frame)) (c .match .keys4))
+    answers-none (a .judged) (now (a .bank)) (now (a .frame)) (now (a .buffer)) (a .rate) (d .error-code .ensures) (c .before .if1 .left) (no-good-reply (a .judged) (now (a .bank)) (now (a .frame)) (c .match .keys3))
 
 pub lay-reply-spec : {M : Type 1} → statement M
 lay-reply-spec =
@@ -54,14 +44,9 @@ lay-reply-spec =
     returns
     (λ c. search needs)
     (λ c κs. search needs)
-    (λ c. search needs)
-    (λ c κs. search needs)
-    (λ c. search needs)
     (λ c κs. search needs)
     (λ c. search needs)
     returns-2
     (λ c. search needs)
     returns-3
-    (λ c. search needs)
-    returns-4
-    returns-5)
+    returns-4)
