@@ -118,6 +118,11 @@ fn numbers_of(answered: Answered) -> Got {
             length: length as usize,
             rate: rate,
         },
+        Answered::Error { code: _, rate } => Got {
+            number: 0,
+            length: frame::ERROR_LENGTH as usize,
+            rate: rate,
+        },
         Answered::Silence => Got {
             number: 1,
             length: 0,

@@ -100,7 +100,8 @@ pub fn reply_echo(frame: &[u8], buffer: &mut [u8]) -> u32
     ECHO_LENGTH
 }
 
-// Lays so many words of a source, from a place on, behind the first three bytes of a buffer.
+// Lays so many words of a source, from a place on, behind the first three bytes of a buffer, which has room for them: so no word is tested
+// for it.
 fn lay_words(source: &[u8], buffer: &mut [u8], first: u32, many: u32)
     requires { ⌜ 3 + 2 * many ≤ length (now buffer) ⌝ }
     ensures { λ _. ⌜ now (buffer .exit) ≡ laid (take 3 (now (buffer .entry)) ++ bytesOf (wordsFrom (now (source .entry)) first many)) (now (buffer .entry)) ⌝ }
@@ -108,7 +109,9 @@ fn lay_words(source: &[u8], buffer: &mut [u8], first: u32, many: u32)
     let mut k: u32 = 0;
     while k < many {
         let word = words::word_at(source, 2 * (first as usize + k as usize));
-        words::store_word(buffer, 3 + 2 * (k as usize), word);
+        let at = 3 + 2 * (k as usize);
+        buffer[at] = (word / 256) as u8;
+        buffer[at + 1] = (word % 256) as u8;
         k += 1;
     }
 }

@@ -1,46 +1,72 @@
--- What becomes of a judged frame, from what was laid, stored and answered. Assumes nothing.
+-- What becomes of a judged frame, from what was laid and what was stored. Assumes nothing.
 use mathlib.Core.Path.{_≡_, refl, sym, ap, ap₂, _∙_}
 use mathlib.Core.Bool.{true}
 use mathlib.Core.List.{List, [], _∷_, map}
 use Prim.Native.Nat.{ℕ, _+_, _-_}
 use native.Mathlib.Omega.{arith}
 use lib.ListN.{length}
+use borrow.Author.Tests.{eq-eqb, ne-eqb}
 use denote.Enum.Declared.{tagOf}
 use types.Run.{OneOf, miss}
 use Rattle.lists.specs.Lists.{upFrom}
 use Rattle.bank_rules.specs.Stores.{stored}
 use Rattle.bank_rules.specs.Bank.{rateOf}
-use Rattle.frame.proofs.Laying.{lays}
-use Rattle.frame.specs.Reply.{errorReply, withCheck, laid, hasRoom, Filled, fill, layReply}
+use Rattle.frame.proofs.Reading.{write-echo, check-length}
+use Rattle.frame.specs.Reply.{echo, errorReply, withCheck, laid, hasRoom, Filled, fill, layReply}
 use Rattle.meter_rules.specs.declared.Answered.{Answered}
+use Rattle.meter_rules.specs.declared.Answered.the-variants.{Reply, Error, Silence}
 use Rattle.meter_rules.specs.declared.Judged.{Judged}
 use Rattle.meter_rules.specs.declared.Judged.the-variants.{FailsCheck, OtherStation, FunctionNotAllowed, WrongLength, WrongCount, WrongAddress, WrongValue, BadItem, GoodRead, GoodClear, GoodWrite}
 use Rattle.meter_rules.proofs.Judged.{the-type}
 use Rattle.meter_rules.specs.Write.{runStore, runStores}
 use Rattle.meter_rules.specs.Reply.{errorCode, goodReply, replyTo, storesOf}
-use Rattle.meter_rules.specs.Answer.{outcome, answeredBy, actedOn}
+use Rattle.meter_rules.specs.Answer.{Outcome, outcome, answeredBy, actedOn}
+use Rattle.meter.specs.Acting.{replied}
 use Rattle.meter_rules.proofs.Outcomes.{quiet, quiet-stores, good-reply, error-reply}
 
 -- ---- the reply that is laid
 
-module _ (judged : Judged) (bank frame buffer : List ℕ) {code : ℕ} (coded : code ≡ errorCode judged) {left : Filled} where
-  pub laid-error : (code ≡ 0 → ⊥) → left ≡ layReply (withCheck (errorReply frame code)) buffer → left ≡ layReply (replyTo judged bank frame) buffer
-  laid-error some made =
-      made ∙ ap (λ (n : ℕ). layReply (withCheck (errorReply frame n)) buffer) coded
-      ∙ ap (λ (reply : List ℕ). layReply reply buffer) (sym (error-reply judged bank frame (λ e. some (coded ∙ e))))
+module _ (judged : Judged) (bank frame buffer : List ℕ) (rate : ℕ) (room : hasRoom (replyTo judged bank frame) buffer ≡ true) {code : ℕ}
+    (coded : code ≡ errorCode judged) {n : ℕ} {after : List ℕ} where
+  -- a reply that has room is laid as it is, and then answered by its length
+  lies : {reply : List ℕ} → replyTo judged bank frame ≡ reply → fill n after ≡ layReply reply buffer
+      → (n ≡ length (replyTo judged bank frame)) × (after ≡ laid (replyTo judged bank frame) buffer)
+  unfolding layReply
+  lies is made =
+      let reply : List ℕ = replyTo judged bank frame in
+      let there : fill n after ≡ layReply reply buffer = made ∙ ap (λ (l : List ℕ). layReply l buffer) (sym is) in
+      let whole : fill n after ≡ fill (length reply) (laid reply buffer) = simp room at there in
+      (ap (λ (f : Filled). f .length) whole, ap (λ (f : Filled). f .buffer) whole)
 
-  pub laid-good : {told : Judged} → code ≡ 0 → judged ≡ told → left ≡ layReply (goodReply told bank frame) buffer
-      → left ≡ layReply (replyTo judged bank frame) buffer
-  laid-good none is made =
-      made ∙ ap (λ (j : Judged). layReply (goodReply j bank frame) buffer) (sym is)
-      ∙ ap (λ (reply : List ℕ). layReply reply buffer) (sym (good-reply judged bank frame (sym coded ∙ none)))
+  answers : {answered : Answered} {reply : List ℕ} → replyTo judged bank frame ≡ reply → fill n after ≡ layReply reply buffer
+      → answered ≡ answeredBy code (length reply) rate → outcome answered bank after ≡ replied judged rate bank frame buffer
+  unfolding replied
+  answers {answered} {reply} is made told =
+      ap₂ (λ (a : Answered) (b : List ℕ). outcome a bank b)
+      (told ∙ ap₂ (λ (k : ℕ) (l : List ℕ). answeredBy k (length l) rate) coded (sym is)) (lies is made .1)
+
+  pub answers-error : (code ≡ 0 → ⊥) → fill n after ≡ layReply (withCheck (errorReply frame code)) buffer
+      → outcome (Error code rate) bank after ≡ replied judged rate bank frame buffer
+  answers-error some made =
+      answers (error-reply judged bank frame (λ e. some (coded ∙ e)) ∙ ap (λ (k : ℕ). withCheck (errorReply frame k)) (sym coded)) made
+      (simp (ne-eqb code 0 some))
+
+  -- a good frame, whose reply is some bytes and their check
+  pub answers-good : {told : Judged} (bytes : List ℕ) → code ≡ 0 → judged ≡ told → goodReply told bank frame ≡ withCheck bytes
+      → fill n after ≡ layReply (withCheck bytes) buffer → outcome (Reply n rate) bank after ≡ replied judged rate bank frame buffer
+  answers-good bytes none is reply made =
+      let whole = good-reply judged bank frame (sym coded ∙ none) ∙ ap (λ (j : Judged). goodReply j bank frame) is ∙ reply in
+      let long : n ≡ length (withCheck bytes) = lies whole made .0 ∙ ap length whole in
+      answers whole made
+      (ap (λ (m : ℕ). Reply m rate) long ∙ simp (eq-eqb code 0 none, ne-eqb (length (withCheck bytes)) 0 (λ e. omega (arith, check-length bytes))))
 
 -- a frame that is met with silence
-pub laid-none : (judged : Judged) (bank frame buffer : List ℕ) {code : ℕ} → code ≡ errorCode judged → code ≡ 0 → goodReply judged bank frame ≡ []
-    → fill 0 buffer ≡ layReply (replyTo judged bank frame) buffer
-laid-none judged bank frame buffer coded none silent =
-    laid-good judged bank frame buffer coded none refl
-    (lays [] buffer (omega arith) (omega arith) refl refl ∙ ap (λ (l : List ℕ). layReply l buffer) (sym silent))
+pub answers-none : (judged : Judged) (bank frame buffer : List ℕ) (rate : ℕ) {code : ℕ} → code ≡ errorCode judged → code ≡ 0
+    → goodReply judged bank frame ≡ [] → outcome Silence bank buffer ≡ replied judged rate bank frame buffer
+unfolding replied
+answers-none judged bank frame buffer rate coded none silent =
+    ap₂ (λ (k : ℕ) (l : List ℕ). outcome (answeredBy k (length l) rate) bank (laid l buffer)) (sym none ∙ coded)
+    (sym (good-reply judged bank frame (sym coded ∙ none) ∙ silent))
 
 -- a judgement that is not good has no reply but an error's
 pub no-good-reply : (judged : Judged) (bank frame : List ℕ)
@@ -56,6 +82,37 @@ no-good-reply (BadItem first stop) bank frame k = refl
 no-good-reply (GoodRead first many) bank frame k = absurd (miss (0 ∷ 1 ∷ 2 ∷ 3 ∷ 4 ∷ 5 ∷ 6 ∷ 7 ∷ []) 8 tt k)
 no-good-reply GoodClear bank frame k = absurd (miss (0 ∷ 1 ∷ 2 ∷ 3 ∷ 4 ∷ 5 ∷ 6 ∷ 7 ∷ []) 9 tt k)
 no-good-reply (GoodWrite first many) bank frame k = absurd (miss (0 ∷ 1 ∷ 2 ∷ 3 ∷ 4 ∷ 5 ∷ 6 ∷ 7 ∷ []) 10 tt k)
+
+-- a good clear and a good write are answered by the frame's first six bytes
+pub echo-reply : (judged : Judged) (bank frame : List ℕ) → OneOf (9 ∷ 10 ∷ []) (tagOf the-type judged)
+    → goodReply judged bank frame ≡ withCheck (echo frame)
+echo-reply FailsCheck bank frame k = absurd (miss (9 ∷ 10 ∷ []) 0 tt k)
+echo-reply OtherStation bank frame k = absurd (miss (9 ∷ 10 ∷ []) 1 tt k)
+echo-reply FunctionNotAllowed bank frame k = absurd (miss (9 ∷ 10 ∷ []) 2 tt k)
+echo-reply WrongLength bank frame k = absurd (miss (9 ∷ 10 ∷ []) 3 tt k)
+echo-reply WrongCount bank frame k = absurd (miss (9 ∷ 10 ∷ []) 4 tt k)
+echo-reply WrongAddress bank frame k = absurd (miss (9 ∷ 10 ∷ []) 5 tt k)
+echo-reply WrongValue bank frame k = absurd (miss (9 ∷ 10 ∷ []) 6 tt k)
+echo-reply (BadItem first stop) bank frame k = absurd (miss (9 ∷ 10 ∷ []) 7 tt k)
+echo-reply (GoodRead first many) bank frame k = absurd (miss (9 ∷ 10 ∷ []) 8 tt k)
+echo-reply GoodClear bank frame k = refl
+echo-reply (GoodWrite first many) bank frame k = ap withCheck (sym (write-echo frame))
+
+-- no reply is of a word that the frame stored
+pub reply-before : (judged : Judged) (sheet bank frame : List ℕ)
+    → replyTo judged (stored bank (storesOf judged sheet frame)) frame ≡ replyTo judged bank frame
+unfolding replyTo storesOf stored
+reply-before FailsCheck sheet bank frame = refl
+reply-before OtherStation sheet bank frame = refl
+reply-before FunctionNotAllowed sheet bank frame = refl
+reply-before WrongLength sheet bank frame = refl
+reply-before WrongCount sheet bank frame = refl
+reply-before WrongAddress sheet bank frame = refl
+reply-before WrongValue sheet bank frame = refl
+reply-before (BadItem first stop) sheet bank frame = refl
+reply-before (GoodRead first many) sheet bank frame = refl
+reply-before GoodClear sheet bank frame = refl
+reply-before (GoodWrite first many) sheet bank frame = refl
 
 -- ---- the stores
 
@@ -93,15 +150,18 @@ many-stores frame first many = run-stores frame first (first + many) many (omega
 
 -- ---- both
 
-pub acts : (judged : Judged) (sheet bank frame buffer : List ℕ) {answered : Answered} {made after : List ℕ} {code n rate : ℕ}
-    → hasRoom (replyTo judged bank frame) buffer ≡ true → rate ≡ rateOf sheet bank → fill n after ≡ layReply (replyTo judged bank frame) buffer
-    → made ≡ stored bank (storesOf judged sheet frame) → code ≡ errorCode judged → answered ≡ answeredBy code n rate
-    → outcome answered made after ≡ actedOn judged sheet bank frame buffer
-unfolding actedOn layReply
-acts judged sheet bank frame buffer {answered} {made} {after} {code} {n} {rate} room rated replied stores coded answers =
-    let reply : List ℕ = replyTo judged bank frame in
-    let whole : fill n after ≡ fill (length reply) (laid reply buffer) = simp room at replied in
-    let long : n ≡ length reply = ap (λ (f : Filled). f .length) whole in
-    let lies : after ≡ laid reply buffer = ap (λ (f : Filled). f .buffer) whole in
-    ap₂ (λ (a : Answered) (b : List ℕ). outcome a b after) (answers ∙ ap₂ (λ (k m : ℕ). answeredBy k m rate) coded long) stores
-    ∙ ap₂ (λ (r : ℕ) (b : List ℕ). outcome (answeredBy (errorCode judged) (length reply) r) (stored bank (storesOf judged sheet frame)) b) rated lies
+module _ (judged : Judged) (sheet bank frame buffer : List ℕ) {made : List ℕ} (stores : made ≡ stored bank (storesOf judged sheet frame)) where
+  reply-same : replyTo judged made frame ≡ replyTo judged bank frame
+  reply-same = ap (λ (b : List ℕ). replyTo judged b frame) stores ∙ reply-before judged sheet bank frame
+
+  pub room-same : hasRoom (replyTo judged bank frame) buffer ≡ true → hasRoom (replyTo judged made frame) buffer ≡ true
+  room-same room = ap (λ (reply : List ℕ). hasRoom reply buffer) reply-same ∙ room
+
+  pub acts : {answered : Answered} {after : List ℕ} {rate : ℕ} → rate ≡ rateOf sheet bank
+      → outcome answered made after ≡ replied judged rate made frame buffer → outcome answered made after ≡ actedOn judged sheet bank frame buffer
+  unfolding actedOn replied
+  acts {answered} {after} {rate} rated answers =
+      answers
+      ∙ ap₂ (λ (reply b : List ℕ). outcome (answeredBy (errorCode judged) (length reply) rate) b (laid reply buffer)) reply-same stores
+      ∙ ap (λ (r : ℕ). outcome (answeredBy (errorCode judged) (length (replyTo judged bank frame)) r) (stored bank (storesOf judged sheet frame))
+      (laid (replyTo judged bank frame) buffer)) rated

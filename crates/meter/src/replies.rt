@@ -3,9 +3,10 @@ ghost use mathlib.Core.Path.{_≡_};
 ghost use Prim.Native.Nat.{_-_};
 ghost use mathlib.Core.Bool.{true};
 ghost use Rattle.bank_rules.specs.Stores.{stored};
-ghost use Rattle.frame.specs.Reply.{hasRoom, fill, layReply};
+ghost use Rattle.frame.specs.Reply.{hasRoom};
 ghost use Rattle.meter_rules.specs.Reply.{errorCode, replyTo, storesOf};
-ghost use Rattle.meter_rules.specs.Answer.{outcome, answeredBy, actedOn};
+ghost use Rattle.meter_rules.specs.Answer.{outcome, actedOn};
+ghost use Rattle.meter.specs.Acting.{replied};
 use crate::values;
 use meter_rules::Answered;
 use meter_rules::Judged;
@@ -29,19 +30,26 @@ fn error_code(judged: Judged) -> u8
     }
 }
 
-// Lays the reply to a judged frame in the buffer and gives its length; 0 for silence.
-fn lay_reply(judged: Judged, bank: &[u8], frame: &[u8], buffer: &mut [u8]) -> u32
-    ensures { λ r. ⌜ fill r (now (buffer .exit)) ≡ layReply (replyTo judged (now (bank .entry)) (now (frame .entry))) (now (buffer .entry)) ⌝ }
+// Lays the reply to a judged frame in the buffer, to be sent at a rate: an error by its code, the reply to a good frame, or none.
+fn lay_reply(judged: Judged, rate: u16, bank: &[u8], frame: &[u8], buffer: &mut [u8]) -> Answered
+    requires { ⌜ hasRoom (replyTo judged (now bank) (now frame)) (now buffer) ≡ true ⌝ }
+    ensures { λ r. ⌜ outcome r (now (bank .entry)) (now (buffer .exit)) ≡ replied judged rate (now (bank .entry)) (now (frame .entry)) (now (buffer .entry)) ⌝ }
 {
     let code = error_code(judged);
     if code != 0 {
-        return frame::reply_error(frame, buffer, code);
+        frame::reply_error(frame, buffer, code);
+        return Answered::Error { code, rate };
     }
     match judged {
-        Judged::GoodRead { first, many } => frame::reply_read(bank, frame, buffer, first, many),
-        Judged::GoodClear => frame::reply_echo(frame, buffer),
-        Judged::GoodWrite { first: _, many: _ } => frame::reply_echo(frame, buffer),
-        _ => 0,
+        Judged::GoodRead { first, many } => {
+            let length = frame::reply_read(bank, frame, buffer, first, many);
+            Answered::Reply { length, rate }
+        }
+        Judged::GoodClear | Judged::GoodWrite { first: _, many: _ } => {
+            let length = frame::reply_echo(frame, buffer);
+            Answered::Reply { length, rate }
+        }
+        _ => Answered::Silence,
     }
 }
 
@@ -70,20 +78,8 @@ fn make_stores(judged: Judged, sheet: &[u8], bank: &mut [u8], frame: &[u8])
     }
 }
 
-// An error by its code; else a reply by its length, or silence where there is none.
-fn answered_by(code: u8, length: u32, rate: u16) -> Answered
-    ensures { λ r. ⌜ r ≡ answeredBy code length rate ⌝ }
-{
-    if code != 0 {
-        return Answered::Error { code, rate };
-    }
-    if length == 0 {
-        return Answered::Silence;
-    }
-    Answered::Reply { length, rate }
-}
-
-// Acts on a judgement: lays its reply in the buffer, at the rate before the frame, and then makes its stores.
+// Acts on a judgement: makes its stores, and lays its reply in the buffer, at the rate before the frame. A frame that reads stores nothing,
+// so no reply is of a word that the frame itself stored.
 pub(crate) fn acted(
     judged: Judged,
     sheet: &[u8],
@@ -95,7 +91,6 @@ pub(crate) fn acted(
     ensures { λ r. ⌜ outcome r (now (bank .exit)) (now (buffer .exit)) ≡ actedOn judged (now (sheet .entry)) (now (bank .entry)) (now (frame .entry)) (now (buffer .entry)) ⌝ }
 {
     let rate = words::word_at(bank, 2 * (sheet::rate_place(sheet) as usize));
-    let length = lay_reply(judged, bank, frame, buffer);
     make_stores(judged, sheet, bank, frame);
-    answered_by(error_code(judged), length, rate)
+    lay_reply(judged, rate, bank, frame, buffer)
 }

@@ -1,13 +1,13 @@
 -- `frame::lay_words` meets its contract. The loop's invariant: the words passed lie behind the first three bytes. Assumes nothing.
 use native.Mathlib.Omega.{arith}
-use Prim.Native.Nat.{ℕ, _+_, _*_, _-_, _≤_}
+use Prim.Native.Nat.{ℕ, _+_, _*_, _-_, _≤_, _<_}
 use mathlib.Core.Path.{_≡_, _∙_, sym, ap, ap₂}
 use mathlib.Core.List.{List, _++_, append-assoc, append-nil}
 use denote.Ref.{now}
-use lib.ListN.{length, take, length-append}
+use lib.ListN.{length, take, set, length-append, length-set}
 use lib.Seq.{length-take-le}
-use Rattle.words.specs.Words.{wordAt, withWord, wordBytes, bytesOf}
-use Rattle.words.proofs.Stores.{word-length}
+use Rattle.words.specs.Words.{wordAt, upper, lower, wordBytes, bytesOf}
+use Rattle.words.proofs.Stores.{word-fits, word-length}
 use Rattle.lists.specs.Lists.{upFrom}
 use Rattle.frame.specs.Reply.{wordsFrom, laid}
 use Rattle.frame.proofs.Laying.{then-word, laid-first}
@@ -31,14 +31,15 @@ loop-holds c =
 
 loop-again : tie.Need-loop-again Inv-loop μ-loop
 loop-again c =
-    let loop = c .before .before .before .before .before .before .loop in
-    let start = c .before .before .before .before .before .before .before .before .before in
+    let loop = c .before .before .loop in
+    let start = c .before .before .before .before .before in
     let buffer = now (start .args .buffer) in
     let first = start .args .first in
     let words = wordsFrom (now (start .args .source)) first (loop .k) in
     let word = wordAt (now (start .args .source)) (2 * (first + loop .k)) in
-    let made = c .before .before .store-word .ensures
-    ∙ ap (withWord (loop .buffer) (3 + 2 * loop .k)) (c .before .before .before .before .word-at .ensures) in
+    let room : 3 + 2 * loop .k + 1 < length (loop .buffer) = omega (arith, start .pre, loop .inv .1) in
+    let made = ap (λ (w : ℕ). set (set (loop .buffer) (3 + 2 * loop .k) (upper w)) (3 + 2 * loop .k + 1) (lower w)) (c .word-at .ensures)
+    ∙ sym (word-fits (loop .buffer) (3 + 2 * loop .k) word room) in
     let long : length (take 3 buffer ++ bytesOf words) ≡ 3 + 2 * loop .k
     = length-append (take 3 buffer) (bytesOf words)
     ∙ ap₂ _+_ (length-take-le 3 buffer (omega (arith, start .pre))) (words-length (now (start .args .source)) first (loop .k)) in (
@@ -71,7 +72,11 @@ lay-words-spec =
     (λ c. omega arith)
     (λ c. omega arith)
     (λ c. omega arith)
-    (λ c κs. search needs)
+    (λ c. omega arith)
+    (λ c. omega arith)
+    (λ c. omega arith)
+    (λ c. omega arith)
+    (λ c. simp length-set (omega arith))
     (λ c. omega arith)
     (λ c. omega arith)
     loop-again

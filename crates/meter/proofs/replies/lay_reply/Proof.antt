@@ -1,10 +1,8 @@
 -- `meter::replies::lay_reply` meets its contract: an error, the reply to a good frame, or none. Assumes nothing.
-use mathlib.Core.Path.{ap, _∙_}
-use mathlib.Core.List.{List}
+use mathlib.Core.Path.{refl}
 use denote.Ref.{now}
-use Rattle.frame.specs.Reply.{withCheck, layReply}
-use Rattle.frame.proofs.Reading.{write-echo}
-use Rattle.meter.proofs.Acting.{laid-error, laid-good, laid-none, no-good-reply}
+use Rattle.frame.specs.Reply.{readReply, echo}
+use Rattle.meter.proofs.Acting.{answers-error, answers-good, answers-none, no-good-reply, echo-reply}
 use borrow.Author.Needs.{needs}
 use Rattle.meter.proofs.replies.lay_reply.Statement.{statement}
 use Rattle.meter.proofs.replies.lay_reply.Tie as tie
@@ -13,35 +11,28 @@ returns : tie.Need-returns
 returns c =
     let d = c .before .before .before .before .before in
     let a = d .before .before .before .before .args in
-    laid-error (a .judged) (now (a .bank)) (now (a .frame)) (now (a .buffer)) (d .error-code .ensures) (c .before .before .before .before .if1 .taken) (c .before .before .reply-error .ensures)
+    answers-error (a .judged) (now (a .bank)) (now (a .frame)) (now (a .buffer)) (a .rate) (d .before .before .before .before .pre) (d .error-code .ensures) (c .before .before .before .before .if1 .taken) (c .before .before .reply-error .ensures)
 
 returns-2 : tie.Need-returns-2
 returns-2 c =
     let d = c .before .before .before .before .before .before .before .before in
     let a = d .before .before .before .before .args in
-    laid-good (a .judged) (now (a .bank)) (now (a .frame)) (now (a .buffer)) (d .error-code .ensures) (c .before .before .before .before .before .before .before .if1 .left) (c .before .before .before .before .before .judged .given .1)
-    (c .before .before .reply-read .ensures)
+    let told = c .before .before .before .before .before .judged .given in
+    answers-good (a .judged) (now (a .bank)) (now (a .frame)) (now (a .buffer)) (a .rate) (d .before .before .before .before .pre) (d .error-code .ensures)
+    (readReply (now (a .bank)) (now (a .frame)) (told .0 .0) (told .0 .1 .0)) (c .before .before .before .before .before .before .before .if1 .left) (told .1) refl (c .before .before .reply-read .ensures)
 
 returns-3 : tie.Need-returns-3
 returns-3 c =
-    let d = c .before .before .before .before .before .before .before in
+    let d = c .before .before .before .before .before .before in
     let a = d .before .before .before .before .args in
-    laid-good (a .judged) (now (a .bank)) (now (a .frame)) (now (a .buffer)) (d .error-code .ensures) (c .before .before .before .before .before .before .if1 .left) (c .before .before .before .before .enum-told .given .1)
-    (c .before .before .reply-echo .ensures)
+    answers-good (a .judged) (now (a .bank)) (now (a .frame)) (now (a .buffer)) (a .rate) (d .before .before .before .before .pre) (d .error-code .ensures)
+    (echo (now (a .frame))) (c .before .before .before .before .before .if1 .left) refl (echo-reply (a .judged) (now (a .bank)) (now (a .frame)) (c .before .before .before .before .match .keys2)) (c .before .before .reply-echo .ensures)
 
 returns-4 : tie.Need-returns-4
 returns-4 c =
-    let d = c .before .before .before .before .before .before .before in
-    let a = d .before .before .before .before .args in
-    laid-good (a .judged) (now (a .bank)) (now (a .frame)) (now (a .buffer)) (d .error-code .ensures) (c .before .before .before .before .before .before .if1 .left) (c .before .before .before .before .enum-told2 .given .1)
-    (c .before .before .reply-echo2 .ensures ∙ ap (λ (l : List _). layReply (withCheck l) (now (a .buffer))) (write-echo (now (a .frame))))
-
-returns-5 : tie.Need-returns-5
-returns-5 c =
     let d = c .before .before in
     let a = d .before .before .before .before .args in
-    laid-none (a .judged) (now (a .bank)) (now (a .frame)) (now (a .buffer)) (d .error-code .ensures) (c .before .if1 .left)
-    (no-good-reply (a .judged) (now (a .bank)) (now (a .frame)) (c .match .keys4))
+    answers-none (a .judged) (now (a .bank)) (now (a .frame)) (now (a .buffer)) (a .rate) (d .error-code .ensures) (c .before .if1 .left) (no-good-reply (a .judged) (now (a .bank)) (now (a .frame)) (c .match .keys3))
 
 pub lay-reply-spec : {M : Type 1} → statement M
 lay-reply-spec =
@@ -53,14 +44,9 @@ lay-reply-spec =
     returns
     (λ c. search needs)
     (λ c κs. search needs)
-    (λ c. search needs)
-    (λ c κs. search needs)
-    (λ c. search needs)
     (λ c κs. search needs)
     (λ c. search needs)
     returns-2
     (λ c. search needs)
     returns-3
-    (λ c. search needs)
-    returns-4
-    returns-5)
+    returns-4)
