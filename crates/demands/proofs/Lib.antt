@@ -1,6 +1,4 @@
 pub mod Calls
 pub mod Refusals
 pub mod Frames
-pub mod Registers
-pub mod Silence
 pub mod Witness

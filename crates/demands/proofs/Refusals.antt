@@ -26,9 +26,8 @@ use Rattle.bank_rules.specs.Calls.{Lent, misfittingBank, unsoundBank, badMark, 
 use Rattle.bank_rules.proofs.Numbers.{check-numbers, fresh-numbers, post-numbers, mark-numbers}
 use Rattle.bank_rules.proofs.Changes.{refused-as-before}
 use Rattle.meter_rules.specs.Steps.{judgedFrame}
-use Rattle.meter_rules.specs.Reply.{replyTo}
-use Rattle.meter_rules.specs.Answer.{Outcome, answeredNumber, answeredWith, smallBuffer, frameRefusals, frameCheck, unlessRefused, actedOn, answerOutcome}
-use Rattle.meter_rules.proofs.Outcomes.{outcome-cases, frame-numbers}
+use Rattle.meter_rules.specs.Answer.{Outcome, answeredNumber, smallBuffer, frameRefusals, frameCheck, unlessRefused, actedOn, answerOutcome}
+use Rattle.meter_rules.proofs.Outcomes.{outcome-cases, frame-numbers, answered-takes}
 use Rattle.cedarskein.specs.Door.{Told, Handed, told, toldOf, handed, handedOf}
 use Rattle.demands.proofs.Calls.{ChecksSheet, ChecksBank, Freshens, Posts, Marks, Answers, checks-sheet-is, checks-bank-is, freshens-is, posts-is, marks-is, answers-is}
 
@@ -108,11 +107,7 @@ module _ (given : Lent) (frame buffer : List ℕ) where
   -- a frame that is acted on has the number 0 or 1
   acted-number : answeredNumber (acted .answered) ≤ 1
   unfolding actedOn
-  acted-number = go (replyTo (judgedFrame (given .sheet) (given .bank) frame) (given .bank) frame)
-    where
-      go : (reply : List ℕ) → answeredNumber (answeredWith reply (rateOf (given .sheet) (given .bank))) ≤ 1
-      go [] = omega arith
-      go (byte ∷ bytes) = omega arith
+  acted-number = answered-takes (judgedFrame (given .sheet) (given .bank) frame) (given .bank) frame (rateOf (given .sheet) (given .bank))
 
   one-of : Among (answeredNumber (result .answered)) (0 ∷ 1 ∷ 2 ∷ 3 ∷ 4 ∷ 5 ∷ [])
   unfolding answerOutcome each upFrom

@@ -27,12 +27,12 @@ use Rattle.meter_rules.specs.declared.Judged.the-variants.{FailsCheck, OtherSta
 use Rattle.meter_rules.specs.Runs.{allOpen}
 use Rattle.meter_rules.specs.Write.{badItem, someBad, stopIn, stopPlace, runStores}
 use Rattle.meter_rules.specs.Steps.{judgedFrame}
-use Rattle.meter_rules.specs.Reply.{bankRun, replyTo, storesOf}
+use Rattle.meter_rules.specs.Reply.{replyTo, storesOf}
 use Rattle.frame.specs.Reply.{withCheck}
 use Rattle.meter_rules.specs.Answer.{frameCheck, actedOn, answerOutcome}
 use Rattle.meter_rules.proofs.CaseSet.{uxMeter, ux-fresh-made}
 use Rattle.cedarskein.specs.Door.{Handed, handed, handedOf, toldOf}
-use Rattle.demands.specs.Verdict.{Accepted}
+use Rattle.demands.specs.Seen.{Accepted}
 
 abbrev uxSheet : List ℕ
 uxSheet = sheetOf ux
@@ -48,7 +48,7 @@ answerBuffer = replicate 100 0xA5
 pub fresh-bank-made : toldOf (freshOutcome (lent uxSheet (replicate 70 0xFF))) .bank ≡ freshBank
 fresh-bank-made = ap (λ o. toldOf o .bank) ux-fresh-made
 
-pub accepted : Accepted uxSheet freshBank answerBuffer
+pub accepted : Accepted (lent uxSheet freshBank) answerBuffer
 unfolding bytesOf firstCase bankSound goodBy sound headerSound areasSound itemsSound settingsSound each some upFrom samePlaces itemPlaces writablePlaces placesFollow areasAscend lengthsSum areas items wordAt withWord inRange sheetOf
 accepted = record { sheetSound = refl; bankFits = refl; bankWhole = refl; bufferLong = omega arith }
 
@@ -65,11 +65,11 @@ abbrev answerTo : List ℕ → Handed
 answerTo frame = handedOf (answerOutcome (lent uxSheet freshBank) frame answerBuffer)
 
 pub damaged-answers : map answerTo framesReceived ≡ map (λ frame. handed 1 0 0 freshBank answerBuffer) framesReceived
-unfolding allOpen answerOutcome frameCheck actedOn judgedFrame replyTo storesOf bankRun withCheck runStores stopPlace stopIn badItem someBad stored passes valueOf liesIn bytesOf firstCase bankSound goodBy sound headerSound areasSound itemsSound settingsSound each some upFrom samePlaces itemPlaces writablePlaces placesFollow areasAscend lengthsSum areas items wordAt withWord inRange sheetOf
+unfolding allOpen answerOutcome frameCheck actedOn judgedFrame replyTo storesOf withCheck runStores stopPlace stopIn badItem someBad stored passes valueOf liesIn bytesOf firstCase bankSound goodBy sound headerSound areasSound itemsSound settingsSound each some upFrom samePlaces itemPlaces writablePlaces placesFollow areasAscend lengthsSum areas items wordAt withWord inRange sheetOf
 damaged-answers = refl
 
 pub undamaged-answer : answerTo frameSent ≡ handed 0 9 1 freshBank ((0x01 ∷ 0x03 ∷ 0x04 ∷ 0x00 ∷ 0x00 ∷ 0x00 ∷ 0x00 ∷ 0xFA ∷ 0x33 ∷ []) ++ drop 9 answerBuffer)
-unfolding allOpen answerOutcome frameCheck actedOn judgedFrame replyTo storesOf bankRun withCheck runStores stopPlace stopIn badItem someBad stored passes valueOf liesIn bytesOf firstCase bankSound goodBy sound headerSound areasSound itemsSound settingsSound each some upFrom samePlaces itemPlaces writablePlaces placesFollow areasAscend lengthsSum areas items wordAt withWord inRange sheetOf
+unfolding allOpen answerOutcome frameCheck actedOn judgedFrame replyTo storesOf withCheck runStores stopPlace stopIn badItem someBad stored passes valueOf liesIn bytesOf firstCase bankSound goodBy sound headerSound areasSound itemsSound settingsSound each some upFrom samePlaces itemPlaces writablePlaces placesFollow areasAscend lengthsSum areas items wordAt withWord inRange sheetOf
 undamaged-answer = refl
 
 -- ---- demand 2: a frame for each step, and good ones
@@ -116,7 +116,7 @@ pub steps-met : map (judgedFrame uxSheet freshBank) judgedFrames
     ∷ GoodWrite 14 1
     ∷ GoodClear
     ∷ []
-unfolding allOpen answerOutcome frameCheck actedOn judgedFrame replyTo storesOf bankRun withCheck runStores stopPlace stopIn badItem someBad stored passes valueOf liesIn bytesOf firstCase bankSound goodBy sound headerSound areasSound itemsSound settingsSound each some upFrom samePlaces itemPlaces writablePlaces placesFollow areasAscend lengthsSum areas items wordAt withWord inRange sheetOf
+unfolding allOpen answerOutcome frameCheck actedOn judgedFrame replyTo storesOf withCheck runStores stopPlace stopIn badItem someBad stored passes valueOf liesIn bytesOf firstCase bankSound goodBy sound headerSound areasSound itemsSound settingsSound each some upFrom samePlaces itemPlaces writablePlaces placesFollow areasAscend lengthsSum areas items wordAt withWord inRange sheetOf
 steps-met = refl
 
 -- ---- demand 1: an input for each refusal of each call, and one that is not refused
@@ -187,5 +187,5 @@ frameCalls =
     ∷ handedOf (answerOutcome (lent uxSheet freshBank) frameSent answerBuffer) .number ∷ []
 
 pub frame-numbers : frameCalls ≡ 2 ∷ 3 ∷ 4 ∷ 5 ∷ 1 ∷ 0 ∷ []
-unfolding allOpen answerOutcome frameCheck actedOn judgedFrame replyTo storesOf bankRun withCheck runStores stopPlace stopIn badItem someBad stored passes valueOf liesIn bytesOf firstCase bankSound goodBy sound headerSound areasSound itemsSound settingsSound each some upFrom samePlaces itemPlaces writablePlaces placesFollow areasAscend lengthsSum areas items wordAt withWord inRange sheetOf
+unfolding allOpen answerOutcome frameCheck actedOn judgedFrame replyTo storesOf withCheck runStores stopPlace stopIn badItem someBad stored passes valueOf liesIn bytesOf firstCase bankSound goodBy sound headerSound areasSound itemsSound settingsSound each some upFrom samePlaces itemPlaces writablePlaces placesFollow areasAscend lengthsSum areas items wordAt withWord inRange sheetOf
 frame-numbers = refl

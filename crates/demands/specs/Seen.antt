@@ -1,0 +1,22 @@
+-- What the customer's demands suppose of a call with one frame, and what he sees of it. Assumes nothing.
+use mathlib.Core.Path.{_≡_}
+use mathlib.Core.Bool.{true}
+use mathlib.Core.List.{List}
+use Prim.Native.Nat.{_≤_, ℕ}
+use lib.ListN.{length}
+use Rattle.sheet_rules.specs.Rules.{sound}
+use Rattle.bank_rules.specs.Bank.{fits, bankSound}
+use Rattle.bank_rules.specs.Calls.{Lent}
+use Rattle.plain.specs.Left.{Left}
+use Rattle.cedarskein.specs.Door.{Handed}
+
+-- a sound sheet, a bank that fits it and is sound, and a buffer of at least 100 bytes: none of the refusals 2 to 5 applies
+pub record Accepted (given : Lent) (buffer : List ℕ) : Type 0 where
+  pub sheetSound : sound (given .sheet) ≡ true
+  pub bankFits : fits (given .sheet) (given .bank) ≡ true
+  pub bankWhole : bankSound (given .sheet) (given .bank) ≡ true
+  pub bufferLong : 100 ≤ length buffer
+
+-- what was handed back and left
+abbrev pub leftBy : Handed → Left
+leftBy left = record { number = left .number; size = left .length; rate = left .rate; bank = left .bank; buffer = left .buffer }
