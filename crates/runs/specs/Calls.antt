@@ -4,8 +4,9 @@ use mathlib.Core.List.{List, [], _∷_}
 use Prim.Native.Nat.{ℕ}
 use mir.Syntax.{w8, w16, w32}
 use Rattle.check_value.specs.Check.{startState, taken, valueOf}
-use Rattle.sheet_rules.specs.Rules.{judgedSheet, sheetNumber}
-use Rattle.bank_rules.specs.Calls.{numberOf, checkAnswer, freshOutcome, postOutcome, markOutcome}
+use Rattle.refusals.specs.Answers.{answerNumber}
+use Rattle.sheet_rules.specs.Rules.{sheetAnswer}
+use Rattle.bank_rules.specs.Calls.{lent, checkAnswer, freshOutcome, postOutcome, markOutcome}
 use Rattle.meter_rules.specs.Answer.{answerOutcome}
 use Rattle.cedarskein.specs.Door.{told, toldOf, handed, handedOf}
 use Rattle.cedarskein.proofs.cedarskein_check_start.Symbol as check-start-code
@@ -51,7 +52,7 @@ module _ (sheet-at : Place) (sheet : List ℕ) where
     function = sheet-check-code.routine;
     args = lends (toRead sheet-at sheet) ∷ [];
     width = w32;
-    promise = λ number left. number ≡ sheetNumber (judgedSheet sheet);
+    promise = λ number left. number ≡ answerNumber (sheetAnswer sheet);
   }
 
 module _ (sheet-at bank-at : Place) (sheet bank : List ℕ) where
@@ -60,7 +61,7 @@ module _ (sheet-at bank-at : Place) (sheet bank : List ℕ) where
     function = bank-check-code.routine;
     args = lends (toRead sheet-at sheet) ∷ lends (toRead bank-at bank) ∷ [];
     width = w32;
-    promise = λ number left. number ≡ numberOf (checkAnswer sheet bank);
+    promise = λ number left. number ≡ answerNumber (checkAnswer (lent sheet bank));
   }
 
 module _ (sheet-at bank-at : Place) (sheet bank : List ℕ) where
@@ -69,7 +70,7 @@ module _ (sheet-at bank-at : Place) (sheet bank : List ℕ) where
     function = bank-fresh-code.routine;
     args = lends (toRead sheet-at sheet) ∷ lends (toWrite bank-at bank) ∷ [];
     width = w32;
-    promise = λ number left. told number (left .1 .0) ≡ toldOf (freshOutcome sheet bank);
+    promise = λ number left. told number (left .1 .0) ≡ toldOf (freshOutcome (lent sheet bank));
   }
 
 module _ (sheet-at bank-at words-at : Place) (sheet bank words : List ℕ) (address : ℕ) where
@@ -78,7 +79,7 @@ module _ (sheet-at bank-at words-at : Place) (sheet bank words : List ℕ) (addr
     function = post-code.routine;
     args = lends (toRead sheet-at sheet) ∷ lends (toWrite bank-at bank) ∷ passes w32 address ∷ lends (toRead words-at words) ∷ [];
     width = w32;
-    promise = λ number left. told number (left .1 .0) ≡ toldOf (postOutcome sheet bank address words);
+    promise = λ number left. told number (left .1 .0) ≡ toldOf (postOutcome (lent sheet bank) address words);
   }
 
 module _ (sheet-at bank-at : Place) (sheet bank : List ℕ) (mark : ℕ) where
@@ -87,7 +88,7 @@ module _ (sheet-at bank-at : Place) (sheet bank : List ℕ) (mark : ℕ) where
     function = set-mark-code.routine;
     args = lends (toRead sheet-at sheet) ∷ lends (toWrite bank-at bank) ∷ passes w32 mark ∷ [];
     width = w32;
-    promise = λ number left. told number (left .1 .0) ≡ toldOf (markOutcome sheet bank mark);
+    promise = λ number left. told number (left .1 .0) ≡ toldOf (markOutcome (lent sheet bank) mark);
   }
 
 module _ (sheet-at bank-at frame-at buffer-at length-at rate-at : Place) (sheet bank frame buffer : List ℕ) (length rate : ℕ) where
@@ -96,5 +97,5 @@ module _ (sheet-at bank-at frame-at buffer-at length-at rate-at : Place) (sheet 
     function = answer-code.routine;
     args = lends (toRead sheet-at sheet) ∷ lends (toWrite bank-at bank) ∷ lends (toRead frame-at frame) ∷ lends (toWrite buffer-at buffer) ∷ lends (toCount length-at length) ∷ lends (toCount rate-at rate) ∷ [];
     width = w32;
-    promise = λ number left. handed number (left .1 .1 .1 .1 .0) (left .1 .1 .1 .1 .1 .0) (left .1 .0) (left .1 .1 .1 .0) ≡ handedOf (answerOutcome sheet bank frame buffer);
+    promise = λ number left. handed number (left .1 .1 .1 .1 .0) (left .1 .1 .1 .1 .1 .0) (left .1 .0) (left .1 .1 .1 .0) ≡ handedOf (answerOutcome (lent sheet bank) frame buffer);
   }
