@@ -10,7 +10,6 @@ use sheet_rules::SheetJudged;
 
 mod fresh_words;
 mod post_words;
-mod rows;
 
 use bank_rules::Answer;
 
@@ -31,24 +30,23 @@ fn sound(sheet: &[u8], bank: &[u8]) -> bool
     requires { ⌜ sound (now sheet) ≡ true ⌝ }
     ensures { λ r. ⌜ r ≡ bankSound (now (sheet .entry)) (now (bank .entry)) ⌝ }
 {
-    let areas = sheet::area_count(sheet);
-    let count = sheet::item_count(sheet);
+    let areas = rows::area_count(sheet);
     let mut k = 0;
-    while k < count {
-        let item = rows::item_inside(sheet, areas, k);
+    while rows::item_end(areas, k) <= sheet.len() {
+        let item = rows::item_row(sheet, areas, k);
         if !range::in_range(item.kind, item.low, item.high, value_in(bank, item)) {
             return false;
         }
         k += 1;
     }
-    words::word_at(bank, 2 * (sheet::bank_words(sheet) as usize)) <= 1
+    words::word_at(bank, 2 * (rows::bank_words(sheet) as usize)) <= 1
 }
 
 // Whether a bank has 2B + 2 bytes.
 fn fits(sheet: &[u8], bank: &[u8]) -> bool
     ensures { λ r. ⌜ r ≡ fits (now (sheet .entry)) (now (bank .entry)) ⌝ }
 {
-    bank.len() == 2 * (sheet::bank_words(sheet) as usize) + 2
+    bank.len() == 2 * (rows::bank_words(sheet) as usize) + 2
 }
 
 // The refusals that posting, setting the mark and answering share: a sheet that breaks a rule, a bank that does not fit it, a bank that is not sound.
@@ -115,7 +113,7 @@ pub fn set_mark(sheet: &[u8], bank: &mut [u8], mark: u32) -> Answer
     }
     words::store_word(
         bank,
-        2 * (sheet::bank_words(sheet) as usize),
+        2 * (rows::bank_words(sheet) as usize),
         (mark % 65536) as u16,
     );
     Answer::Done

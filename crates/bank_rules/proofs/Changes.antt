@@ -13,13 +13,13 @@ use Rattle.sheet_rules.specs.declared.Item.{Item}
 use Rattle.sheet_rules.specs.declared.Lies.the-variants.{At}
 use Rattle.sheet_rules.specs.Rows.{areas, items}
 use Rattle.sheet_rules.specs.Rules.{readOnly, sound}
-use Rattle.sheet_rules.specs.Lookup.{liesIn, holds}
+use Rattle.sheet_rules.specs.Lookup.{liesIn, holds, placeIn}
 use Rattle.lists.proofs.Among.{Among}
 use Rattle.sheet_rules.proofs.Addresses.{place-address, lies-below}
 use Rattle.bank_rules.specs.declared.Answer.{Answer}
 use Rattle.bank_rules.specs.declared.Answer.the-variants.{Done, SheetBreaksRule, BankMisfits, BankNotSound, NotReadOnly, BadInput}
 use Rattle.bank_rules.specs.Stores.{Store, wordOf, stored}
-use Rattle.bank_rules.specs.Bank.{fits, bankSound, markPlace, placeIn, postedRun, allReadOnly, emptyOrOdd, postStore, postStores, markStores}
+use Rattle.bank_rules.specs.Bank.{fits, bankSound, markPlace, postedRun, allReadOnly, emptyOrOdd, postStore, postStores, markStores}
 use Rattle.lists.specs.Cases.{NoneOf}
 use Rattle.bank_rules.specs.Calls.{numberOf, brokenSheet, misfittingBank, unsoundBank, badMark, badAddress, outcomeOf, checkAnswer, freshAnswer, postAnswer, markAnswer, postOutcome, markOutcome}
 use Rattle.bank_rules.proofs.Stores.{stored-length}

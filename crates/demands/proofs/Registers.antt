@@ -15,19 +15,19 @@ use Rattle.sheet_rules.specs.declared.Lies.the-variants.{At}
 use Rattle.sheet_rules.specs.declared.Item.{Item}
 use Rattle.sheet_rules.specs.Rows.{areas, items}
 use Rattle.lists.specs.Lists.{upFrom}
-use Rattle.sheet_rules.specs.Lookup.{liesIn}
+use Rattle.sheet_rules.specs.Lookup.{liesIn, placeIn}
 use Rattle.lists.proofs.Tests.{first-of, second-of}
 use Rattle.lists.proofs.Among.{Among}
 use Rattle.bank_rules.specs.Stores.{wordOf, stored}
 use Rattle.lists.specs.Cases.{when, NoneOf, FirstAfter, conditions}
-use Rattle.bank_rules.specs.Bank.{placeIn, rateOf, goodBy, markPlace, markStores}
+use Rattle.bank_rules.specs.Bank.{rateOf, goodBy, markPlace, markStores}
 use Rattle.lists.proofs.Cases.{first-after}
 use Rattle.bank_rules.proofs.Changes.{mark-there, mark-apart}
 use Rattle.meter_rules.specs.declared.Judged.{Judged}
 use Rattle.meter_rules.specs.declared.Judged.the-variants.{BadItem, GoodRead, GoodClear, GoodWrite}
-use Rattle.meter_rules.specs.declared.Purpose.the-variants.{Read, Write}
+use Rattle.sheet_rules.specs.declared.Purpose.the-variants.{Read, Write}
 use Rattle.meter_rules.specs.Frame.{reads, clears, writesOne, writesMany, station, function, start, second, isWrite, count, run, sent}
-use Rattle.meter_rules.specs.Runs.{allOpen}
+use Rattle.sheet_rules.specs.Runs.{allOpen}
 use Rattle.meter_rules.specs.Write.{firstPlace, inRun, wouldBe, touched, badItem, someBad, stopIn, stopPlace, runStores}
 use Rattle.meter_rules.specs.Steps as meter
 use Rattle.meter_rules.specs.Reply.{bankRun, readReply, echo, withCheck, replyTo, storesOf}

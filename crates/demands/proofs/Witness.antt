@@ -23,7 +23,7 @@ use Rattle.bank_rules.specs.Bank.{bankSound, goodBy, lowStores, freshStores, po
 use Rattle.lists.specs.Cases.{firstCase}
 use Rattle.bank_rules.specs.Calls.{numberOf, checkAnswer, freshAnswer, postAnswer, markAnswer, freshOutcome, postOutcome, markOutcome}
 use Rattle.meter_rules.specs.declared.Judged.the-variants.{FailsCheck, OtherStation, FunctionNotAllowed, WrongLength, WrongCount, WrongAddress, WrongValue, BadItem, GoodRead, GoodClear, GoodWrite}
-use Rattle.meter_rules.specs.Runs.{allOpen}
+use Rattle.sheet_rules.specs.Runs.{allOpen}
 use Rattle.meter_rules.specs.Write.{badItem, someBad, stopIn, stopPlace, runStores}
 use Rattle.meter_rules.specs.Steps.{judgedFrame}
 use Rattle.meter_rules.specs.Reply.{bankRun, withCheck, replyTo, storesOf}

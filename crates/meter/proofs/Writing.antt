@@ -8,13 +8,12 @@ use mathlib.Core.List.{List}
 use borrow.Author.Tests.{lt-ltb, le-ltb}
 use Rattle.sheet_rules.specs.Rows.{areas, items}
 use Rattle.lists.specs.Lists.{upFrom}
-use Rattle.sheet_rules.specs.Lookup.{liesIn}
-use Rattle.bank_rules.specs.Bank.{placeIn}
+use Rattle.sheet_rules.specs.Lookup.{liesIn, placeIn}
 use Rattle.meter_rules.specs.declared.Parts.{Parts}
 use Rattle.meter_rules.specs.declared.Judged.the-variants.{WrongAddress, BadItem, GoodWrite}
-use Rattle.meter_rules.specs.declared.Purpose.the-variants.{Write}
+use Rattle.sheet_rules.specs.declared.Purpose.the-variants.{Write}
 use Rattle.meter_rules.specs.Frame.{partsOf, manyOf, isWrite, count}
-use Rattle.meter_rules.specs.Runs.{allOpen}
+use Rattle.sheet_rules.specs.Runs.{allOpen}
 use Rattle.meter_rules.specs.Write.{firstPlace, someBad, stopIn, stopPlace}
 use Rattle.meter_rules.specs.Steps.{wrongAddress, judgedFrom}
 use Rattle.meter_rules.proofs.Staging.{stops-address, stops-item, good-write, write-address, write-value, write-bad}

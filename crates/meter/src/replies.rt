@@ -95,7 +95,7 @@ pub(crate) fn acted(
     requires { ⌜ readFits judged ≡ true ⌝ }
     ensures { λ r. ⌜ outcome r (now (bank .exit)) (now (buffer .exit)) ≡ actedOn judged (now (sheet .entry)) (now (bank .entry)) (now (frame .entry)) (now (buffer .entry)) ⌝ }
 {
-    let rate = words::word_at(bank, 2 * (sheet::rate_place(sheet) as usize));
+    let rate = words::word_at(bank, 2 * (rows::rate_place(sheet) as usize));
     match judged {
         Judged::FailsCheck => Answered::Silence,
         Judged::OtherStation => Answered::Silence,
@@ -110,7 +110,7 @@ pub(crate) fn acted(
         }
         Judged::GoodRead { first, many } => reply_read(bank, frame, buffer, first, many, rate),
         Judged::GoodClear => {
-            words::store_word(bank, 2 * (sheet::bank_words(sheet) as usize), 0);
+            words::store_word(bank, 2 * (rows::bank_words(sheet) as usize), 0);
             reply_echo(frame, buffer, rate)
         }
         Judged::GoodWrite { first, many } => {

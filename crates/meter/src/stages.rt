@@ -5,19 +5,18 @@ ghost use Rattle.sheet_rules.specs.Rules.{sound};
 ghost use Rattle.meter_rules.specs.Frame.{reads, clears, codeAllowed, isWrite, manyOf};
 ghost use Rattle.meter_rules.specs.Steps.{judgedFrom, judgedFrame};
 ghost use Rattle.meter.specs.Stages.{Known};
-use crate::runs;
 use crate::values;
 use crate::values::Write;
 use meter_rules::Judged;
 use meter_rules::Parts;
 use meter_rules::Passed;
-use meter_rules::Purpose;
+use sheet_rules::Purpose;
 
 // Whether a function is one of the four and the sheet allows it.
 fn function_allowed(sheet: &[u8], function: u8) -> bool
     ensures { λ r. ⌜ r ≡ codeAllowed (now (sheet .entry)) function ⌝ }
 {
-    let sum = sheet::functions(sheet);
+    let sum = rows::functions(sheet);
     if function == 0x03 {
         return sum / 1 % 2 == 1;
     }
@@ -41,7 +40,7 @@ pub(crate) fn judged(sheet: &[u8], bank: &[u8], frame: &[u8]) -> Judged
     let Passed::Frame(parts) = crate::taken_apart(frame) else {
         return Judged::FailsCheck;
     };
-    let address = words::word_at(bank, 2 * (sheet::address_place(sheet) as usize));
+    let address = words::word_at(bank, 2 * (rows::address_place(sheet) as usize));
     if parts.station as u16 != address {
         return Judged::OtherStation;
     }
@@ -106,11 +105,12 @@ fn judged_read(sheet: &[u8], bank: &[u8], frame: &[u8], parts: Parts) -> Judged
     if 47 < parts.second {
         return Judged::WrongAddress;
     }
-    if !runs::all_open(sheet, Purpose::Read, parts.start, parts.second) {
+    let run = lookup::reached(sheet, Purpose::Read, parts.start as u32);
+    if run.end < parts.start as u32 + parts.second as u32 {
         return Judged::WrongAddress;
     }
     Judged::GoodRead {
-        first: runs::place_of(sheet, parts.start),
+        first: run.place,
         many: parts.second as u32,
     }
 }
@@ -121,7 +121,7 @@ fn judged_clear(sheet: &[u8], bank: &[u8], frame: &[u8], parts: Parts) -> Judged
     requires { ⌜ parts .function ≡ clears ⌝ }
     ensures { λ r. ⌜ r ≡ judgedFrom 5 (now (sheet .entry)) (now (bank .entry)) (now (frame .entry)) ⌝ }
 {
-    if parts.start != sheet::clear_address(sheet) {
+    if parts.start != rows::clear_address(sheet) {
         return Judged::WrongAddress;
     }
     if parts.second != 0 {
@@ -148,12 +148,13 @@ fn judged_write(sheet: &[u8], bank: &[u8], frame: &[u8], parts: Parts) -> Judged
     ensures { λ r. ⌜ r ≡ judgedFrom 5 (now (sheet .entry)) (now (bank .entry)) (now (frame .entry)) ⌝ }
 {
     let many = many_of(parts);
-    if !runs::all_open(sheet, Purpose::Write, parts.start, many) {
+    let run = lookup::reached(sheet, Purpose::Write, parts.start as u32);
+    if run.end < parts.start as u32 + many as u32 {
         return Judged::WrongAddress;
     }
     let write = Write {
         values: values::values_at(frame),
-        first: runs::place_of(sheet, parts.start),
+        first: run.place,
         many: many as u32,
     };
     let stop = values::stop_place(sheet, bank, frame, write);

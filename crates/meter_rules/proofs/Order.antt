@@ -10,9 +10,9 @@ use borrow.Author.Tests.{ne-eqb, eqb-true}
 use Rattle.sheet_rules.specs.Rows.{clearAddress}
 use Rattle.sheet_rules.specs.Rules.{allowed, bitOf03, bitOf05, bitOf06, bitOf10}
 use Rattle.lists.specs.Cases.{Case, firstCase}
-use Rattle.meter_rules.specs.declared.Purpose.the-variants.{Read, Write}
+use Rattle.sheet_rules.specs.declared.Purpose.the-variants.{Read, Write}
 use Rattle.meter_rules.specs.Frame.{reads, clears, writesOne, writesMany, function, start, second, byteCount, isWrite, count, run, codeAllowed}
-use Rattle.meter_rules.specs.Runs.{allOpen}
+use Rattle.sheet_rules.specs.Runs.{allOpen}
 use Rattle.meter_rules.specs.Write.{someBad}
 use Rattle.meter_rules.specs.Steps.{wrongLength, wrongCount, wrongAddress, wrongValue, badWrite, mostRead}
 

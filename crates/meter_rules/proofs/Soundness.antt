@@ -14,9 +14,9 @@ use Rattle.bank_rules.specs.Bank.{fits, bankSound}
 use Rattle.lists.specs.Cases.{when, firstCase}
 use Rattle.meter_rules.specs.declared.Judged.{Judged}
 use Rattle.meter_rules.specs.declared.Judged.the-variants.{FailsCheck, OtherStation, FunctionNotAllowed, WrongLength, WrongCount, WrongAddress, WrongValue, BadItem, GoodRead, GoodClear, GoodWrite}
-use Rattle.meter_rules.specs.declared.Purpose.the-variants.{Read, Write}
+use Rattle.sheet_rules.specs.declared.Purpose.the-variants.{Read, Write}
 use Rattle.meter_rules.specs.Frame.{reads, clears, writesOne, writesMany, function, start, second, isWrite, count, run, functionAllowed}
-use Rattle.meter_rules.specs.Runs.{allOpen}
+use Rattle.sheet_rules.specs.Runs.{allOpen}
 use Rattle.meter_rules.specs.Write.{firstPlace, someBad, stopIn, stopPlace, runStores}
 use Rattle.meter_rules.specs.Steps.{failsCheck, otherStation, wrongLength, wrongCount, mostRead, wrongAddress, wrongValue, badWrite, goodFrame, judgedFrame}
 use Rattle.meter_rules.specs.Reply.{storesOf}

@@ -1,5 +1,4 @@
 pub mod Frame
-pub mod Runs
 pub mod Write
 pub mod Steps
 pub mod Reply

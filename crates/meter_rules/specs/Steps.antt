@@ -11,8 +11,8 @@ use Rattle.lists.specs.Cases.{Case, when, firstCase}
 use Rattle.meter_rules.specs.declared.Judged.{Judged}
 use Rattle.meter_rules.specs.declared.Judged.the-variants.{FailsCheck, OtherStation, FunctionNotAllowed, WrongLength, WrongCount, WrongAddress, WrongValue, BadItem, GoodRead, GoodClear, GoodWrite}
 use Rattle.meter_rules.specs.Frame.{reads, clears, writesMany, station, function, start, second, byteCount, isWrite, count, run, functionAllowed}
-use Rattle.meter_rules.specs.declared.Purpose.the-variants.{Read, Write}
-use Rattle.meter_rules.specs.Runs.{allOpen}
+use Rattle.sheet_rules.specs.declared.Purpose.the-variants.{Read, Write}
+use Rattle.sheet_rules.specs.Runs.{allOpen}
 use Rattle.meter_rules.specs.Write.{firstPlace, someBad, stopPlace}
 
 -- 1. "Length not 4..100, or wrong check: silence."

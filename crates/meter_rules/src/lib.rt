@@ -42,9 +42,3 @@ pub enum Answered {
     BankNotSound,
     SmallBuffer,
 }
-
-// What a run of addresses is for.
-pub enum Purpose {
-    Read,
-    Write,
-}

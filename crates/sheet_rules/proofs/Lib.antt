@@ -5,3 +5,4 @@ pub mod Sound
 pub mod Addresses
 pub mod Places
 pub mod Sides
+pub mod Reach

@@ -1,3 +1,4 @@
 pub mod Promise
+pub mod Small
 pub mod Stores
 pub mod Determined

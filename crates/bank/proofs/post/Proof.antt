@@ -13,7 +13,7 @@ use Rattle.bank_rules.specs.Bank.{emptyOrOdd, postStores}
 use Rattle.lists.specs.Cases.{Case, when, firstCase}
 use Rattle.bank_rules.specs.Calls.{badAddress, postAnswer, postOutcome}
 use Rattle.bank.proofs.Refusals.{not-done, check-refuses, check-passes, outcome-refused, outcome-done}
-use Rattle.bank_rules.proofs.Reach.{read-only-run}
+use Rattle.bank_rules.proofs.Posting.{read-only-run}
 use borrow.Author.Needs.{needs}
 use Rattle.bank.proofs.post.Statement.{statement}
 use Rattle.bank.proofs.post.Tie as tie

@@ -1,12 +1,15 @@
 -- `sheet::judged` meets its contract: each return by the tests that led there. Assumes nothing.
 use mathlib.Core.Path.{sym, ap, _∙_}
 use denote.Ref.{now}
-use Rattle.sheet_rules.specs.Rules.{areasSound, sound, soundOrBroken}
+use Rattle.sheet_rules.specs.Rules.{sound, soundOrBroken}
 use Rattle.lists.proofs.Tests.{refused, passed}
-use Rattle.sheet_rules.proofs.Sound.{follows, rows-length, rest-of}
+use Rattle.sheet_rules.proofs.Sound.{rest-of}
 use borrow.Author.Needs.{needs}
 use Rattle.sheet.proofs.judged.Statement.{statement}
 use Rattle.sheet.proofs.judged.Tie as tie
+
+header-requires : tie.Need-header-requires
+header-requires c κs = search needs
 
 header-sound-requires : tie.Need-header-sound-requires
 header-sound-requires c κs = search needs
@@ -16,33 +19,31 @@ unfolding sound
 returns c = simp (refused (c .before .header-sound .ensures) (c .if1 .taken))
 
 areas-sound-requires : tie.Need-areas-sound-requires
-areas-sound-requires c κs = rows-length (now (c .before .before .before .args .sheet)) (passed (c .before .header-sound .ensures) (c .if1 .left))
+areas-sound-requires c κs = search needs
 
 returns-2 : tie.Need-returns-2
 unfolding sound
-returns-2 c = simp (passed (c .before .before .before .header-sound .ensures) (c .before .before .if1 .left), refused (c .before .areas-sound .ensures) (c .if2 .taken))
+returns-2 c =
+    simp (passed (c .before .before .before .header-sound .ensures) (c .before .before .if1 .left), refused (c .before .areas-sound .ensures) (c .if2 .taken))
 
 items-and-settings-sound-requires : tie.Need-items-and-settings-sound-requires
-unfolding areasSound
-items-and-settings-sound-requires c κs = let s = now (c .before .before .before .before .before .args .sheet) in (
-  follows s (passed (c .before .areas-sound .ensures) (c .if2 .left)),
-  rows-length s (passed (c .before .before .before .header-sound .ensures) (c .before .before .if1 .left)),
-)
+items-and-settings-sound-requires c κs = (c .before .before .before .before .header .ensures, passed (c .before .areas-sound .ensures) (c .if2 .left))
 
 returns-3 : tie.Need-returns-3
-returns-3 c = let s = now (c .before .before .before .before .before .before .before .args .sheet) in
-    ap soundOrBroken (sym (rest-of s (passed (c .before .before .before .before .before .header-sound .ensures) (c .before .before .before .before .if1 .left))
+returns-3 c =
+    ap soundOrBroken (sym (rest-of (now (c .before .before .before .before .before .before .before .before .args .sheet)) (passed (c .before .before .before .before .before .header-sound .ensures) (c .before .before .before .before .if1 .left))
     (passed (c .before .before .before .areas-sound .ensures) (c .before .before .if2 .left)) ∙ refused (c .before .items-and-settings-sound .ensures) (c .if3 .taken)))
 
 returns-4 : tie.Need-returns-4
-returns-4 c = let s = now (c .before .before .before .before .before .before .before .args .sheet) in
-    ap soundOrBroken (sym (rest-of s (passed (c .before .before .before .before .before .header-sound .ensures) (c .before .before .before .before .if1 .left))
+returns-4 c =
+    ap soundOrBroken (sym (rest-of (now (c .before .before .before .before .before .before .before .before .args .sheet)) (passed (c .before .before .before .before .before .header-sound .ensures) (c .before .before .before .before .if1 .left))
     (passed (c .before .before .before .areas-sound .ensures) (c .before .before .if2 .left)) ∙ passed (c .before .items-and-settings-sound .ensures) (c .if3 .left)))
 
 pub judged-spec : {M : Type 1} → statement M
 judged-spec =
     tie.close
     (tie.spec
+    header-requires
     header-sound-requires
     returns
     areas-sound-requires

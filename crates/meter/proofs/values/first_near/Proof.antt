@@ -2,9 +2,10 @@
 -- Assumes nothing.
 use Prim.Native.Nat.{ℕ, _+_, _-_, _/_, _≤_, _<_}
 use native.Mathlib.Omega.{arith}
+use mathlib.Core.Path.{ap, _∙_}
 use denote.Ref.{now}
 use borrow.Author.Needs.{needs}
-use Rattle.sheet_rules.specs.Rows.{itemCount, itemAt}
+use Rattle.sheet_rules.specs.Rows.{itemCount, itemAt, itemRow}
 use Rattle.meter_rules.proofs.Stopping.{all-in-front}
 use Rattle.meter.proofs.values.first_near.Statement.{statement}
 use Rattle.meter.proofs.values.first_near.Tie as tie
@@ -31,8 +32,8 @@ sub-middle c = omega arith
 add-middle : tie.Need-add-middle Inv-loop μ-loop
 add-middle c = omega arith
 
-place-at-requires : tie.Need-place-at-requires Inv-loop μ-loop
-place-at-requires c κs = c .before .before .before .area-count .ensures
+item-place-requires : tie.Need-item-place-requires Inv-loop μ-loop
+item-place-requires c κs = search needs
 
 cast-if1 : tie.Need-cast-if1 Inv-loop μ-loop
 cast-if1 c = omega arith
@@ -54,7 +55,11 @@ loop-again c =
       omega arith,
       loop .inv .1,
       all-in-front (now (d .args .sheet)) (d .pre) (d .args .place) middle (omega (arith, loop .inv .1))
-          (omega (arith, c .if1 .taken, c .before .place-at .ensures)),
+          (omega (
+            arith,
+            c .if1 .taken,
+            c .before .item-place .ensures ∙ ap (λ (n : ℕ). itemRow (now (d .args .sheet)) n middle .place) (c .before .before .before .before .before .area-count .ensures),
+          )),
     )
 
 loop-less-2 : tie.Need-loop-less-2 Inv-loop μ-loop
@@ -81,7 +86,7 @@ first-near-spec =
     loop-holds
     sub-middle
     add-middle
-    place-at-requires
+    item-place-requires
     cast-if1
     add-if1
     add-near
