@@ -7,7 +7,6 @@ ghost use Rattle.sheet_rules.specs.Rules.{sound};
 ghost use Rattle.sheet_rules.specs.Rows.{items};
 ghost use Rattle.bank_rules.specs.Stores.{stored};
 ghost use Rattle.bank_rules.specs.Bank.{zeroAt, itemStores, lowStores, freshStores};
-use crate::rows;
 use sheet_rules::Item;
 
 // Stores 0 at the first so many places.
@@ -39,11 +38,10 @@ fn store_lows(sheet: &[u8], bank: &mut [u8])
     requires { ⌜ sound (now sheet) ≡ true ⌝ }
     ensures { λ _. ⌜ now (bank .exit) ≡ stored (now (bank .entry)) (lowStores (items (now (sheet .entry)))) ⌝ }
 {
-    let areas = sheet::area_count(sheet);
-    let count = sheet::item_count(sheet);
+    let areas = rows::area_count(sheet);
     let mut k = 0;
-    while k < count {
-        let item = rows::item_inside(sheet, areas, k);
+    while rows::item_end(areas, k) <= sheet.len() {
+        let item = rows::item_row(sheet, areas, k);
         store_item(bank, item, item.low);
         k += 1;
     }
@@ -54,8 +52,8 @@ pub(crate) fn store_fresh(sheet: &[u8], bank: &mut [u8])
     requires { ⌜ sound (now sheet) ≡ true ⌝ }
     ensures { λ _. ⌜ now (bank .exit) ≡ stored (now (bank .entry)) (freshStores (now (sheet .entry))) ⌝ }
 {
-    zero_words(bank, sheet::bank_words(sheet) as u32 + 1);
+    zero_words(bank, rows::bank_words(sheet) as u32 + 1);
     store_lows(sheet, bank);
-    words::store_word(bank, 2 * (sheet::address_place(sheet) as usize), 1);
-    words::store_word(bank, 2 * (sheet::rate_place(sheet) as usize), 1);
+    words::store_word(bank, 2 * (rows::address_place(sheet) as usize), 1);
+    words::store_word(bank, 2 * (rows::rate_place(sheet) as usize), 1);
 }

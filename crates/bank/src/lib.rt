@@ -11,7 +11,6 @@ use sheet_rules::Item;
 
 mod fresh_words;
 mod post_words;
-mod rows;
 
 // The value of an item: its word, or for a pair both, upper word first.
 pub fn value_in(bank: &[u8], item: Item) -> u32
@@ -30,17 +29,16 @@ fn sound(sheet: &[u8], bank: &[u8]) -> bool
     requires { ⌜ sound (now sheet) ≡ true ⌝ }
     ensures { λ r. ⌜ r ≡ bankSound (now (sheet .entry)) (now (bank .entry)) ⌝ }
 {
-    let areas = sheet::area_count(sheet);
-    let count = sheet::item_count(sheet);
+    let areas = rows::area_count(sheet);
     let mut k = 0;
-    while k < count {
-        let item = rows::item_inside(sheet, areas, k);
+    while rows::item_end(areas, k) <= sheet.len() {
+        let item = rows::item_row(sheet, areas, k);
         if !range::in_range(item.kind, item.low, item.high, value_in(bank, item)) {
             return false;
         }
         k += 1;
     }
-    words::word_at(bank, 2 * (sheet::bank_words(sheet) as usize)) <= 1
+    words::word_at(bank, 2 * (rows::bank_words(sheet) as usize)) <= 1
 }
 
 // The refusals that all calls on a bank share: a sheet that breaks a rule, and a bank that has not 2B + 2 bytes.
@@ -51,7 +49,7 @@ fn check_size(sheet: &[u8], bank: &[u8]) -> Answer
     let Answer::Done = checked else {
         return checked;
     };
-    if bank.len() != 2 * (sheet::bank_words(sheet) as usize) + 2 {
+    if bank.len() != 2 * (rows::bank_words(sheet) as usize) + 2 {
         return Answer::Refused(Refusal::MisfittingBank);
     }
     Answer::Done
@@ -117,7 +115,7 @@ pub fn set_mark(sheet: &[u8], bank: &mut [u8], mark: u32) -> Answer
     }
     words::store_word(
         bank,
-        2 * (sheet::bank_words(sheet) as usize),
+        2 * (rows::bank_words(sheet) as usize),
         (mark % 65536) as u16,
     );
     Answer::Done

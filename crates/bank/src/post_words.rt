@@ -4,9 +4,9 @@ ghost use Prim.Native.Nat.{_+_, _/_, _≤_};
 ghost use lib.ListN.{length};
 ghost use Rattle.sheet_rules.specs.Rows.{areas};
 ghost use Rattle.lists.specs.Lists.{upFrom};
-ghost use Rattle.sheet_rules.specs.Lookup.{liesIn};
+ghost use Rattle.sheet_rules.specs.Lookup.{liesIn, placeIn};
 ghost use Rattle.bank_rules.specs.Stores.{stored};
-ghost use Rattle.bank_rules.specs.Bank.{isReadOnly, placeIn, allReadOnly, postStores};
+ghost use Rattle.bank_rules.specs.Bank.{isReadOnly, allReadOnly, postStores};
 use sheet_rules::Lies;
 
 // Whether what lies somewhere is in an access 1 area.
@@ -36,7 +36,7 @@ pub(crate) fn all_read_only(sheet: &[u8], address: u32, count: usize) -> bool
     let mut next = address;
     let mut k = 0;
     while k < count {
-        if !is_read_only(sheet::lies_at(sheet, next)) {
+        if !is_read_only(lookup::lies_at(sheet, next)) {
             return false;
         }
         next += 1;
@@ -54,7 +54,7 @@ pub(crate) fn store_posted(sheet: &[u8], bank: &mut [u8], address: u32, bytes: &
     let mut next = address;
     let mut k = 0;
     while k < count {
-        let place = place_in(sheet::lies_at(sheet, next));
+        let place = place_in(lookup::lies_at(sheet, next));
         words::store_word(bank, 2 * (place as usize), words::word_at(bytes, 2 * k));
         next += 1;
         k += 1;

@@ -13,7 +13,7 @@ use Rattle.sheet_rules.specs.declared.Item.{Item}
 use Rattle.sheet_rules.specs.declared.Lies.the-variants.{At}
 use Rattle.sheet_rules.specs.Rows.{areas, items}
 use Rattle.sheet_rules.specs.Rules.{readOnly, sound}
-use Rattle.sheet_rules.specs.Lookup.{liesIn, holds}
+use Rattle.sheet_rules.specs.Lookup.{liesIn, holds, placeIn}
 use Rattle.lists.proofs.Among.{Among}
 use Rattle.sheet_rules.proofs.Addresses.{place-address, lies-below}
 use Rattle.refusals.specs.declared.Answer.{Answer}
@@ -21,7 +21,7 @@ use Rattle.refusals.specs.declared.Answer.the-variants.{Done, Refused}
 use Rattle.refusals.specs.Answers.{answerNumber}
 use Rattle.refusals.proofs.Answers.{done-none}
 use Rattle.bank_rules.specs.Stores.{Store, wordOf, stored}
-use Rattle.bank_rules.specs.Bank.{fits, bankSound, markPlace, placeIn, postedRun, allReadOnly, emptyOrOdd, postStore, postStores, markStores}
+use Rattle.bank_rules.specs.Bank.{fits, bankSound, markPlace, postedRun, allReadOnly, emptyOrOdd, postStore, postStores, markStores}
 use Rattle.lists.specs.Cases.{NoneOf, conditions}
 use Rattle.bank_rules.specs.Calls.{Lent, badMark, badAddress, checkRefusals, freshRefusals, postRefusals, markRefusals, effectOf, checkAnswer, freshAnswer, postAnswer, markAnswer, postOutcome, markOutcome}
 use Rattle.bank_rules.proofs.Latest.{latest, words-left, latest-none, latest-agreed}

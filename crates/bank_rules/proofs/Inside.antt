@@ -15,11 +15,11 @@ use Rattle.sheet_rules.specs.declared.Lies.the-variants.{At, Nowhere}
 use Rattle.sheet_rules.specs.Rows.{bankWords, addressPlace, ratePlace, areas, items, itemAt, itemCount}
 use Rattle.lists.specs.Lists.{upFrom}
 use Rattle.sheet_rules.specs.Rules.{isPair, readOnly, sound}
-use Rattle.sheet_rules.specs.Lookup.{liesIn, holds}
+use Rattle.sheet_rules.specs.Lookup.{liesIn, holds, placeIn}
 use Rattle.lists.proofs.Among.{Among, here, there, among-nil, among-cons, among-append, each-among, up-among, among-up}
 use Rattle.sheet_rules.proofs.Addresses.{lies-below}
 use Rattle.bank_rules.specs.Stores.{Store}
-use Rattle.bank_rules.specs.Bank.{fits, bankBytes, markPlace, zeroAt, itemStores, lowStores, freshStores, isReadOnly, placeIn, postedRun, allReadOnly, postStore, postStores, markStores}
+use Rattle.bank_rules.specs.Bank.{fits, bankBytes, markPlace, zeroAt, itemStores, lowStores, freshStores, isReadOnly, postedRun, allReadOnly, postStore, postStores, markStores}
 use Rattle.bank_rules.proofs.Latest.{PlaceInside, StoresInside}
 use Rattle.bank_rules.proofs.Held.{holds-first, holds-second, row-item, SettingItem, address-item, rate-item, held-below}
 

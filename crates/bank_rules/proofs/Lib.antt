@@ -7,4 +7,4 @@ pub mod Values
 pub mod FreshBank
 pub mod Changes
 pub mod Soundness
-pub mod Reach
+pub mod Posting

@@ -13,7 +13,7 @@ use Rattle.sheet_rules.specs.declared.Lies.the-variants.{At, Nowhere}
 use Rattle.sheet_rules.specs.Rows.{bankWords, addressPlace, ratePlace, areas, items}
 use Rattle.lists.specs.Lists.{each, upFrom}
 use Rattle.sheet_rules.specs.Rules.{isPair, readOnly}
-use Rattle.sheet_rules.specs.Lookup.{liesIn}
+use Rattle.sheet_rules.specs.Lookup.{liesIn, placeIn}
 use Rattle.bank_rules.specs.Stores.{Store, wordOf}
 
 -- "B words, then one word for the alarm mark: 2B + 2 bytes"
@@ -75,11 +75,6 @@ freshStores sheet =
 abbrev pub isReadOnly : Lies → Bool
 isReadOnly (At place access) = eqb access readOnly
 isReadOnly Nowhere = false
-
--- its place; 0 where nothing lies there
-abbrev pub placeIn : Lies → ℕ
-placeIn (At place access) = place
-placeIn Nowhere = 0
 
 -- the addresses that posted bytes are for, "words from a given address upward"
 abbrev pub postedRun : ℕ → List ℕ → List ℕ

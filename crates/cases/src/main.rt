@@ -12,7 +12,7 @@
 //   N number size frame name   the number that a frame without its check gets, with an answer buffer of so many bytes
 //   # ..         a remark
 mod fields;
-mod rows;
+mod results;
 
 use libc::STDIN_FILENO;
 
@@ -53,9 +53,9 @@ fn ask(line: &[u8], sheet: &[u8], bank: &mut [u8], whole: bool) {
     let mut reply = [0u8; 128];
     let told = fields::bytes_at(line, fields::after(line, asked.next), &mut reply);
     let name = rest(line, fields::after(line, told.next));
-    let rate = words::word_at(bank, 2 * (sheet::rate_place(sheet) as usize));
+    let rate = words::word_at(bank, 2 * (rows::rate_place(sheet) as usize));
     if whole {
-        rows::run_whole(
+        results::run_whole(
             name,
             sheet,
             bank,
@@ -64,7 +64,7 @@ fn ask(line: &[u8], sheet: &[u8], bank: &mut [u8], whole: bool) {
             rate,
         );
     } else {
-        rows::run_at(
+        results::run_at(
             name,
             sheet,
             bank,
@@ -78,7 +78,7 @@ fn ask(line: &[u8], sheet: &[u8], bank: &mut [u8], whole: bool) {
 // What a bank holds at a place.
 fn held(line: &[u8], bank: &[u8]) {
     let name = rest(line, 12);
-    rows::holds(name, bank, word_of(line, 2), word_of(line, 7));
+    results::holds(name, bank, word_of(line, 2), word_of(line, 7));
 }
 
 // Posts words from an address upward.
@@ -106,9 +106,9 @@ fn number_within(
     let expected = word_of(line, 2);
     let name = rest(line, fields::after(line, next));
     if size <= buffer.len() {
-        rows::number(name, sheet, bank, frame, &mut buffer[..size], expected);
+        results::number(name, sheet, bank, frame, &mut buffer[..size], expected);
     } else {
-        rows::say(b"a buffer that is too long, WRONG\n");
+        results::say(b"a buffer that is too long, WRONG\n");
     }
 }
 
@@ -120,7 +120,7 @@ fn number(line: &[u8], sheet: &[u8], bank: &mut [u8]) {
     check_value::seal(&mut frame, n);
     let mut buffer = [0xAAu8; 128];
     if 126 < n {
-        rows::say(b"a frame that is too long, WRONG\n");
+        results::say(b"a frame that is too long, WRONG\n");
         return;
     }
     number_within(
@@ -141,7 +141,7 @@ fn act(line: &[u8], sheet: &[u8], bank: &mut [u8]) {
         return;
     }
     if letter == b'P' {
-        rows::put(bank, word_of(line, 2), word_of(line, 7));
+        results::put(bank, word_of(line, 2), word_of(line, 7));
         return;
     }
     if letter == b'T' {
@@ -174,8 +174,8 @@ fn act_within(line: &[u8], sheet: &[u8], bank: &mut [u8], n: usize) {
 
 // Takes a sheet, and makes a bank of its size fresh.
 fn start(source: &[u8], sheet: &mut [u8], bank: &mut [u8]) -> Sizes {
-    rows::fill(sheet, source);
-    let n = 2 * (sheet::bank_words(source) as usize) + 2;
+    results::fill(sheet, source);
+    let n = 2 * (rows::bank_words(source) as usize) + 2;
     if n <= bank.len() {
         bank::fresh(source, &mut bank[..n]);
     }

@@ -24,7 +24,7 @@ use Rattle.lists.specs.Cases.{firstCase}
 use Rattle.refusals.specs.Answers.{answerNumber}
 use Rattle.bank_rules.specs.Calls.{lent, checkAnswer, freshAnswer, postAnswer, markAnswer, freshOutcome, postOutcome, markOutcome}
 use Rattle.meter_rules.specs.declared.Judged.the-variants.{FailsCheck, OtherStation, FunctionNotAllowed, WrongLength, WrongCount, WrongAddress, WrongValue, BadItem, GoodRead, GoodClear, GoodWrite}
-use Rattle.meter_rules.specs.Runs.{allOpen}
+use Rattle.sheet_rules.specs.Runs.{allOpen}
 use Rattle.meter_rules.specs.Write.{badItem, someBad, stopIn, stopPlace, runStores}
 use Rattle.meter_rules.specs.Steps.{judgedFrame}
 use Rattle.meter_rules.specs.Reply.{replyTo, storesOf}

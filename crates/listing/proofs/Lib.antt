@@ -1,7 +1,6 @@
 pub mod Digits
 pub mod Lines
 pub mod Signs
-pub mod Addresses
 pub mod Fits
 pub mod Example
 pub mod Determined

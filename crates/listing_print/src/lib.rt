@@ -20,7 +20,7 @@ fn print_line(line: Line) {
 
 // The line of each item.
 fn print_items(sheet: &[u8]) {
-    let count = sheet::item_count(sheet);
+    let count = rows::item_count(sheet);
     let mut k: u16 = 0;
     while k < count {
         print_line(listing::item_line(sheet, k));

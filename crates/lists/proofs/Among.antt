@@ -1,6 +1,6 @@
 -- A row among rows, and a place among places. Assumes nothing.
-use mathlib.Core.Path.{_≡_, refl, ap, subst, _∙_}
-use mathlib.Core.Bool.{Bool, true, false, _||_, false≢true}
+use mathlib.Core.Path.{_≡_, refl, ap, subst, _∙_, ap₂, sym}
+use mathlib.Core.Bool.{Bool, true, false, _||_, false≢true, _&&_}
 use mathlib.Core.List.{List, [], _∷_, _++_}
 use mathlib.Core.Logic.{_⊎_, inl, inr}
 use Prim.Native.Nat.{ℕ, zero, suc, _+_, _≤_, _<_}
@@ -111,3 +111,12 @@ among-up first (suc count) m = go m (λ r. among-up (suc first) count r)
     go (there r) rest =
         let found = rest r in
         (omega arith, omega arith)
+
+pub up-each : (rule : ℕ → Bool) (first count : ℕ) → ((k : ℕ) → k < count → rule (first + k) ≡ true) → each rule (upFrom first count) ≡ true
+unfolding each upFrom
+up-each rule first zero all = refl
+up-each rule first (suc count) all =
+    let here : first + 0 ≡ first = omega arith in
+    let later : (k : ℕ) → first + suc k ≡ suc first + k = λ k. omega arith in
+    ap₂ (λ (a b : Bool). a && b) (ap rule (sym here) ∙ all 0 (omega arith))
+    (up-each rule (suc first) count (λ k less. ap rule (sym (later k)) ∙ all (suc k) (omega arith)))

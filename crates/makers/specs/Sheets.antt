@@ -8,11 +8,9 @@ use Rattle.words.specs.Words.{bytesOf}
 use Rattle.range.specs.Range.{unsignedPair}
 use Rattle.sheet_rules.specs.declared.Area.{Area}
 use Rattle.sheet_rules.specs.declared.Item.{Item}
-use Rattle.sheet_rules.specs.declared.Lies.{Lies}
-use Rattle.sheet_rules.specs.declared.Lies.the-variants.{At, Nowhere}
 use Rattle.sheet_rules.specs.Rows.{areaRows}
 use Rattle.sheet_rules.specs.Rules.{readOnly, readAndWrite, lengthsSum}
-use Rattle.sheet_rules.specs.Lookup.{liesIn}
+use Rattle.sheet_rules.specs.Lookup.{liesIn, placeIn}
 use Rattle.makers.specs.Maps.{Row, Map}
 
 -- ---- areas: one for each unbroken run of addresses
@@ -59,15 +57,11 @@ areasOf map = placed 0 (runs map)
 
 -- ---- items: each row at the place of its first address
 
-abbrev pub placeOf : Lies → ℕ
-placeOf (At place access) = place
-placeOf Nowhere = 0x10000
-
 unfoldable pub itemsAt : List Area → List Row → List Item
 unfolding liesIn
 itemsAt all [] = []
 itemsAt all (row ∷ behind) =
-    record { kind = row .kind; place = placeOf (liesIn all (row .first)); low = row .low; high = row .high }
+    record { kind = row .kind; place = placeIn (liesIn all (row .first)); low = row .low; high = row .high }
     ∷ itemsAt all behind
 
 unfoldable pub itemsOf : Map → List Item
@@ -87,8 +81,8 @@ headerWords map =
     ∷ lengthsSum (areasOf map)
     ∷ map .functions
     ∷ (areaRows + 4 * length (areasOf map) + 6 * length (map .rows))
-    ∷ placeOf (liesIn (areasOf map) (map .address))
-    ∷ placeOf (liesIn (areasOf map) (map .rate))
+    ∷ placeIn (liesIn (areasOf map) (map .address))
+    ∷ placeIn (liesIn (areasOf map) (map .rate))
     ∷ map .clearAddress
     ∷ 0
     ∷ []

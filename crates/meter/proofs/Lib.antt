@@ -1,5 +1,4 @@
 pub mod Acting
-pub mod Reaching
 pub mod Writing
 pub mod Answering
 pub mod Determined

@@ -10,17 +10,17 @@ use borrow.Author.Tests.{not-false}
 use Rattle.lists.specs.Lists.{upFrom}
 use Rattle.lists.specs.Cases.{when}
 use Rattle.sheet_rules.specs.Rows.{areas, clearAddress}
-use Rattle.sheet_rules.specs.Lookup.{liesIn}
+use Rattle.sheet_rules.specs.Lookup.{liesIn, placeIn}
 use Rattle.sheet_rules.specs.Rules.{sound}
-use Rattle.bank_rules.specs.Bank.{stationOf, placeIn}
+use Rattle.bank_rules.specs.Bank.{stationOf}
 use Rattle.frame.specs.declared.Parts.{Parts}
 use Rattle.frame.specs.declared.Passed.{Passed}
 use Rattle.frame.specs.declared.Passed.the-variants.{Frame, Fails}
 use Rattle.frame.proofs.Passing.{passed-parts, passed-true, passed-false}
 use Rattle.frame.specs.Frame.{reads, clears, writesOne, writesMany, function, start, second, isWrite, count, mostRead, partsOf, passedFrame}
 use Rattle.meter_rules.specs.declared.Judged.the-variants.{FailsCheck, OtherStation, FunctionNotAllowed, WrongLength, WrongCount, WrongAddress, WrongValue, BadItem, GoodRead, GoodClear, GoodWrite}
-use Rattle.meter_rules.specs.declared.Purpose.the-variants.{Read}
-use Rattle.meter_rules.specs.Runs.{allOpen}
+use Rattle.sheet_rules.specs.declared.Purpose.the-variants.{Read}
+use Rattle.sheet_rules.specs.Runs.{allOpen}
 use Rattle.meter_rules.specs.Write.{firstPlace, someBad, stopPlace}
 use Rattle.meter_rules.specs.Steps.{failsCheck, otherStation, codeAllowed, functionAllowed, functionNotAllowed, wrongLength, wrongCount, wrongAddress, wrongValue, badWrite, goodFrame, judgedFrame}
 use Rattle.meter_rules.proofs.Order.{step-stops, step-passes, step-none, asks-for, value-is, bad-is, write-is, many-is, last-function, asks-write, read-address, clear-address, clear-value, write-value, write-bad}

@@ -8,13 +8,12 @@ use mathlib.Core.List.{List}
 use borrow.Author.Tests.{lt-ltb, le-ltb}
 use Rattle.sheet_rules.specs.Rows.{areas, items}
 use Rattle.lists.specs.Lists.{upFrom}
-use Rattle.sheet_rules.specs.Lookup.{liesIn}
-use Rattle.bank_rules.specs.Bank.{placeIn}
+use Rattle.sheet_rules.specs.Lookup.{liesIn, placeIn}
 use Rattle.frame.specs.declared.Parts.{Parts}
 use Rattle.meter_rules.specs.declared.Judged.the-variants.{WrongAddress, BadItem, GoodWrite}
-use Rattle.meter_rules.specs.declared.Purpose.the-variants.{Write}
+use Rattle.sheet_rules.specs.declared.Purpose.the-variants.{Write}
 use Rattle.frame.specs.Frame.{partsOf, manyOf, isWrite, count}
-use Rattle.meter_rules.specs.Runs.{allOpen}
+use Rattle.sheet_rules.specs.Runs.{allOpen}
 use Rattle.meter_rules.specs.Write.{firstPlace, someBad, stopIn, stopPlace}
 use Rattle.meter_rules.specs.Steps.{wrongAddress}
 use Rattle.meter.specs.Stages.{judgedFrom}
@@ -23,21 +22,20 @@ use Rattle.meter_rules.proofs.Order.{write-address, write-value, write-bad}
 use Rattle.meter_rules.proofs.Stopping.{stop-some}
 
 module _ (sheet bank frame : List ℕ) (write : isWrite frame ≡ true) (parts : Parts) (apart : parts ≡ partsOf frame) {many : ℕ}
-    (counts : many ≡ manyOf (parts .function) (parts .second)) {open-to : Bool}
-    (opens : open-to ≡ allOpen Write sheet (upFrom (parts .start) many)) where
+    (counts : many ≡ manyOf (parts .function) (parts .second)) where
   counted : many ≡ count frame
   counted = counts ∙ ap (λ (p : Parts). manyOf (p .function) (p .second)) apart
 
-  address-is : wrongAddress sheet frame ≡ not open-to
+  address-is : wrongAddress sheet frame ≡ not (allOpen Write sheet (upFrom (parts .start) many))
   address-is =
       write-address sheet bank frame write
-      ∙ ap not (sym (opens ∙ ap₂ (λ (s n : ℕ). allOpen Write sheet (upFrom s n)) (ap (λ (p : Parts). p .start) apart) counted))
+      ∙ ap not (sym (ap₂ (λ (s n : ℕ). allOpen Write sheet (upFrom s n)) (ap (λ (p : Parts). p .start) apart) counted))
 
   -- an address is shut
-  pub write-shut : open-to ≡ false → WrongAddress ≡ judgedFrom 5 sheet bank frame
+  pub write-shut : allOpen Write sheet (upFrom (parts .start) many) ≡ false → WrongAddress ≡ judgedFrom 5 sheet bank frame
   write-shut shut = stops-address sheet bank frame (address-is ∙ ap not shut)
 
-  module _ (all : open-to ≡ true) {first stop : ℕ} (places : first ≡ placeIn (liesIn (areas sheet) (parts .start)))
+  module _ (all : allOpen Write sheet (upFrom (parts .start) many) ≡ true) {first stop : ℕ} (places : first ≡ placeIn (liesIn (areas sheet) (parts .start)))
       (stops : stop ≡ stopIn first many bank frame (items sheet)) where
     placed : first ≡ firstPlace sheet frame
     placed = places ∙ ap (λ (p : Parts). placeIn (liesIn (areas sheet) (p .start))) apart

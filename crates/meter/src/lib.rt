@@ -4,7 +4,6 @@ ghost use Rattle.bank_rules.specs.Calls.{lent};
 ghost use Rattle.meter_rules.specs.Answer.{outcome, answerOutcome};
 
 mod replies;
-mod runs;
 mod stages;
 mod values;
 

@@ -69,7 +69,7 @@ fn make_stores(judged: Judged, sheet: &[u8], bank: &mut [u8], frame: &[u8])
             values::store_run(bank, frame, first, count_to(first, stop));
         }
         Judged::GoodClear => {
-            words::store_word(bank, 2 * (sheet::bank_words(sheet) as usize), 0);
+            words::store_word(bank, 2 * (rows::bank_words(sheet) as usize), 0);
         }
         Judged::GoodWrite { first, many } => {
             values::store_run(bank, frame, first, many);
@@ -90,7 +90,7 @@ pub(crate) fn acted(
     requires { ⌜ hasRoom (replyTo judged (now bank) (now frame)) (now buffer) ≡ true ⌝ }
     ensures { λ r. ⌜ outcome r (now (bank .exit)) (now (buffer .exit)) ≡ actedOn judged (now (sheet .entry)) (now (bank .entry)) (now (frame .entry)) (now (buffer .entry)) ⌝ }
 {
-    let rate = words::word_at(bank, 2 * (sheet::rate_place(sheet) as usize));
+    let rate = words::word_at(bank, 2 * (rows::rate_place(sheet) as usize));
     make_stores(judged, sheet, bank, frame);
     lay_reply(judged, rate, bank, frame, buffer)
 }

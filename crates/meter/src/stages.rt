@@ -5,13 +5,12 @@ ghost use Rattle.meter.specs.Stages.{addressedTo, judgedFrom, Known};
 ghost use Rattle.sheet_rules.specs.Rules.{sound};
 ghost use Rattle.frame.specs.Frame.{reads, clears, isWrite, manyOf};
 ghost use Rattle.meter_rules.specs.Steps.{codeAllowed, judgedFrame};
-use crate::runs;
 use crate::values;
 use crate::values::Write;
 use frame::Parts;
 use frame::Passed;
 use meter_rules::Judged;
-use meter_rules::Purpose;
+use sheet_rules::Purpose;
 
 // The bits that allow the functions 03, 05, 06 and 10, of whose sum the sheet has one word.
 const BIT_OF_03: u16 = 1;
@@ -32,7 +31,7 @@ pub enum Addressed {
 fn for_station(sheet: &[u8], bank: &[u8], parts: Parts) -> Addressed
     ensures { λ r. ⌜ r ≡ addressedTo (now (sheet .entry)) (now (bank .entry)) parts ⌝ }
 {
-    let address = words::word_at(bank, 2 * (sheet::address_place(sheet) as usize));
+    let address = words::word_at(bank, 2 * (rows::address_place(sheet) as usize));
     if parts.station as u16 != address {
         return Addressed::Elsewhere;
     }
@@ -43,7 +42,7 @@ fn for_station(sheet: &[u8], bank: &[u8], parts: Parts) -> Addressed
 fn function_allowed(sheet: &[u8], function: u8) -> bool
     ensures { λ r. ⌜ r ≡ codeAllowed (now (sheet .entry)) function ⌝ }
 {
-    let sum = sheet::functions(sheet);
+    let sum = rows::functions(sheet);
     if function == frame::READS {
         return sum / BIT_OF_03 % 2 == 1;
     }
@@ -131,11 +130,12 @@ fn judged_read(sheet: &[u8], bank: &[u8], frame: &[u8], parts: Parts) -> Judged
     if frame::MOST_READ < parts.second {
         return Judged::WrongAddress;
     }
-    if !runs::all_open(sheet, Purpose::Read, parts.start, parts.second) {
+    let run = lookup::reached(sheet, Purpose::Read, parts.start as u32);
+    if run.end < parts.start as u32 + parts.second as u32 {
         return Judged::WrongAddress;
     }
     Judged::GoodRead {
-        first: runs::place_of(sheet, parts.start),
+        first: run.place,
         many: parts.second as u32,
     }
 }
@@ -146,7 +146,7 @@ fn judged_clear(sheet: &[u8], bank: &[u8], frame: &[u8], parts: Parts) -> Judged
     requires { ⌜ parts .function ≡ clears ⌝ }
     ensures { λ r. ⌜ r ≡ judgedFrom 5 (now (sheet .entry)) (now (bank .entry)) (now (frame .entry)) ⌝ }
 {
-    if parts.start != sheet::clear_address(sheet) {
+    if parts.start != rows::clear_address(sheet) {
         return Judged::WrongAddress;
     }
     if parts.second != 0 {
@@ -173,12 +173,13 @@ fn judged_write(sheet: &[u8], bank: &[u8], frame: &[u8], parts: Parts) -> Judged
     ensures { λ r. ⌜ r ≡ judgedFrom 5 (now (sheet .entry)) (now (bank .entry)) (now (frame .entry)) ⌝ }
 {
     let many = many_of(parts);
-    if !runs::all_open(sheet, Purpose::Write, parts.start, many) {
+    let run = lookup::reached(sheet, Purpose::Write, parts.start as u32);
+    if run.end < parts.start as u32 + many as u32 {
         return Judged::WrongAddress;
     }
     let write = Write {
         values: values::values_at(frame),
-        first: runs::place_of(sheet, parts.start),
+        first: run.place,
         many: many as u32,
     };
     let stop = values::stop_place(sheet, bank, frame, write);

@@ -3,7 +3,7 @@ ghost use mathlib.Core.Path.{_≡_};
 ghost use mathlib.Core.Bool.{true};
 ghost use mathlib.Core.List.{map};
 ghost use Prim.Native.Nat.{ℕ, _+_, _≤_, _<_};
-ghost use Rattle.sheet_rules.specs.Rows.{areaCount, itemCount, itemAt, items};
+ghost use Rattle.sheet_rules.specs.Rows.{itemCount, itemAt, items};
 ghost use Rattle.lists.specs.Lists.{upFrom};
 ghost use Rattle.sheet_rules.specs.Rules.{sound};
 ghost use Rattle.bank_rules.specs.Stores.{stored};
@@ -98,28 +98,17 @@ fn is_bad(bank: &[u8], frame: &[u8], write: Write, item: Item) -> bool
     )
 }
 
-// The place of the item row at an index, read alone, for a search needs no more of the row.
-fn place_at(sheet: &[u8], areas: u16, k: u16) -> u16
-    requires { ⌜ areas ≡ areaCount (now sheet) ⌝ }
-    ensures { λ r. ⌜ r ≡ itemAt (now (sheet .entry)) k .place ⌝ }
-{
-    words::word_at(
-        sheet,
-        2 * (12 + 4 * (areas as usize) + 6 * (k as usize) + 1),
-    )
-}
-
 // An index with every item in front of it wholly in front of a place: items ascend, so halving finds the last such index.
 fn first_near(sheet: &[u8], place: u32) -> u16
     requires { ⌜ sound (now sheet) ≡ true ⌝ }
     ensures { λ r. ⌜ (r ≤ itemCount (now (sheet .entry))) × ((k : ℕ) → k < r → itemAt (now (sheet .entry)) k .place + 1 < place) ⌝ }
 {
-    let areas = sheet::area_count(sheet);
+    let areas = rows::area_count(sheet);
     let mut near: u16 = 0;
-    let mut past = sheet::item_count(sheet);
+    let mut past = rows::item_count(sheet);
     while near < past {
         let middle = near + (past - near) / 2;
-        if place_at(sheet, areas, middle) as u32 + 1 < place {
+        if rows::item_place(sheet, areas, middle) as u32 + 1 < place {
             near = middle + 1;
         } else {
             past = middle;
@@ -135,11 +124,11 @@ pub(crate) fn stop_place(sheet: &[u8], bank: &[u8], frame: &[u8], write: Write) 
     requires { ⌜ write .first + write .many < 0x100000000 ⌝ }
     ensures { λ r. ⌜ r ≡ stopIn (write .first) (write .many) (now (bank .entry)) (now (frame .entry)) (items (now (sheet .entry))) ⌝ }
 {
-    let count = sheet::item_count(sheet);
+    let areas = rows::area_count(sheet);
     let end = write.first + write.many;
     let mut k = first_near(sheet, write.first);
-    while k < count {
-        let item = sheet::item_at(sheet, k);
+    while rows::item_end(areas, k) <= sheet.len() {
+        let item = rows::item_row(sheet, areas, k);
         if end <= item.place as u32 {
             return end;
         }

@@ -20,15 +20,14 @@ use Rattle.makers.specs.Sheets.{sheetOf}
 use Rattle.bank_rules.specs.Stores.{stored}
 use Rattle.bank_rules.specs.Bank.{bankSound, goodBy, lowStores, freshStores}
 use Rattle.refusals.specs.declared.Answer.the-variants.{Done}
-use Rattle.bank_rules.specs.Calls.{bankOutcome, freshAnswer, freshOutcome}
+use Rattle.bank_rules.specs.Calls.{bankOutcome, freshAnswer, freshOutcome, lent}
 use Rattle.lists.specs.Cases.{firstCase}
-use Rattle.meter_rules.specs.Runs.{allOpen}
+use Rattle.sheet_rules.specs.Runs.{allOpen}
 use Rattle.meter_rules.specs.Write.{badItem, someBad, stopIn, stopPlace, runStores}
 use Rattle.meter_rules.specs.Steps.{judgedFrame}
 use Rattle.meter_rules.specs.Reply.{replyTo, storesOf}
 use Rattle.frame.specs.Reply.{withCheck}
 use Rattle.meter_rules.specs.Answer.{Outcome, answeredNumber, lengthIn, rateIn, frameCheck, actedOn, answerOutcome}
-use Rattle.bank_rules.specs.Calls.{lent}
 
 -- ---- the two meters of the table
 

@@ -13,7 +13,7 @@ use Rattle.meter_rules.specs.declared.Judged.{Judged}
 use Rattle.meter_rules.specs.declared.Judged.the-variants.{FailsCheck, OtherStation, FunctionNotAllowed, WrongLength, WrongCount, WrongAddress, WrongValue, BadItem, GoodRead, GoodClear, GoodWrite}
 use Rattle.frame.specs.Frame.{mostRead, function, reads, count, run, second, clears}
 use Rattle.frame.specs.Reply.{errorReply, readReply, echo, withCheck, hasRoom}
-use Rattle.meter_rules.specs.declared.Purpose.the-variants.{Read}
+use Rattle.sheet_rules.specs.declared.Purpose.the-variants.{Read}
 use Rattle.meter_rules.specs.Reply.{replyTo}
 use Rattle.frame.proofs.Reading.{write-echo, check-length, read-length}
 use Rattle.lists.specs.Cases.{firstCase, when}
@@ -22,7 +22,7 @@ use Rattle.frame.proofs.Closing.{closed-length, closed-checked, Closed, error-c
 use Rattle.meter_rules.specs.Answer.{leastBuffer}
 use lib.Dec.{leb, ltb, eqb}
 use Rattle.frame.proofs.Laying.{has-room}
-use Rattle.meter_rules.specs.Runs.{allOpen}
+use Rattle.sheet_rules.specs.Runs.{allOpen}
 use Rattle.meter_rules.specs.Write.{firstPlace, stopPlace}
 use Rattle.meter_rules.proofs.Order.{asks-for, read-address}
 

@@ -19,7 +19,7 @@ use Rattle.sheet_rules.specs.Lookup.{liesIn}
 use Rattle.bank_rules.specs.Stores.{stored}
 use Rattle.bank_rules.specs.Bank.{bankSound, goodBy}
 use Rattle.lists.specs.Cases.{firstCase}
-use Rattle.meter_rules.specs.Runs.{allOpen}
+use Rattle.sheet_rules.specs.Runs.{allOpen}
 use Rattle.meter_rules.specs.Write.{badItem, someBad, stopIn, stopPlace, runStores}
 use Rattle.meter_rules.specs.Steps.{judgedFrame}
 use Rattle.frame.specs.Reply.{withCheck}

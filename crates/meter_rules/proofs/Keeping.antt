@@ -21,9 +21,9 @@ use Rattle.bank_rules.proofs.Changes.{mark-there, mark-apart}
 use Rattle.bank_rules.proofs.Held.{holds-first, item-row, held-below, holder-alone}
 use Rattle.bank_rules.proofs.Inside.{below-inside}
 use Rattle.bank_rules.proofs.Values.{good-same, sound-bank, sound-items, sound-mark, sound-kept}
-use Rattle.meter_rules.specs.declared.Purpose.the-variants.{Write}
+use Rattle.sheet_rules.specs.declared.Purpose.the-variants.{Write}
 use Rattle.frame.specs.Frame.{start, count, run, sent}
-use Rattle.meter_rules.specs.Runs.{allOpen}
+use Rattle.sheet_rules.specs.Runs.{allOpen}
 use Rattle.meter_rules.specs.Write.{firstPlace, inRun, wouldBe, touched, badItem, stopIn, stopPlace, runStores}
 use Rattle.meter_rules.proofs.Judging.{run-above}
 use Rattle.meter_rules.proofs.Stopping.{run-below, stop-bound}

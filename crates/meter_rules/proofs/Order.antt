@@ -10,10 +10,10 @@ use borrow.Author.Tests.{ne-eqb, eqb-true}
 use Rattle.sheet_rules.specs.Rows.{clearAddress}
 use Rattle.sheet_rules.specs.Rules.{allowed, bitOf03, bitOf05, bitOf06, bitOf10}
 use Rattle.lists.specs.Cases.{Case, firstCase}
-use Rattle.meter_rules.specs.declared.Purpose.the-variants.{Read, Write}
+use Rattle.sheet_rules.specs.declared.Purpose.the-variants.{Read, Write}
 use Rattle.frame.specs.Frame.{reads, clears, writesOne, writesMany, function, start, second, byteCount, isWrite, count, run, mostRead}
 use Rattle.meter_rules.specs.Steps.{codeAllowed, wrongLength, wrongCount, wrongAddress, wrongValue, badWrite}
-use Rattle.meter_rules.specs.Runs.{allOpen}
+use Rattle.sheet_rules.specs.Runs.{allOpen}
 use Rattle.meter_rules.specs.Write.{someBad}
 
 module _ {A : Type 0} (this : Case A) (behind : List (Case A)) (good : A) where

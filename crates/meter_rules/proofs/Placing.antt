@@ -8,10 +8,9 @@ use Rattle.sheet_rules.specs.declared.Lies.{Lies}
 use Rattle.sheet_rules.specs.declared.Lies.the-variants.{At, Nowhere}
 use Rattle.sheet_rules.specs.Rows.{areas}
 use Rattle.sheet_rules.specs.Rules.{sound}
-use Rattle.sheet_rules.specs.Lookup.{liesIn}
+use Rattle.sheet_rules.specs.Lookup.{liesIn, placeIn}
 use Rattle.sheet_rules.proofs.Sound.{sound-numbers}
 use Rattle.sheet_rules.proofs.Addresses.{lies-below}
-use Rattle.bank_rules.specs.Bank.{placeIn}
 
 pub place-small : (sheet : List ℕ) → sound sheet ≡ true → (address : ℕ) → placeIn (liesIn (areas sheet) address) ≤ 256
 place-small sheet right address = go (liesIn (areas sheet) address) refl

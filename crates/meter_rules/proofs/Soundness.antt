@@ -15,10 +15,10 @@ use Rattle.bank_rules.specs.Calls.{Lent}
 use Rattle.lists.specs.Cases.{when, firstCase}
 use Rattle.meter_rules.specs.declared.Judged.{Judged}
 use Rattle.meter_rules.specs.declared.Judged.the-variants.{FailsCheck, OtherStation, FunctionNotAllowed, WrongLength, WrongCount, WrongAddress, WrongValue, BadItem, GoodRead, GoodClear, GoodWrite}
-use Rattle.meter_rules.specs.declared.Purpose.the-variants.{Read, Write}
+use Rattle.sheet_rules.specs.declared.Purpose.the-variants.{Read, Write}
 use Rattle.frame.specs.Frame.{reads, clears, writesOne, writesMany, function, start, second, isWrite, count, run, mostRead}
 use Rattle.meter_rules.specs.Steps.{functionAllowed, failsCheck, otherStation, wrongLength, wrongCount, wrongAddress, wrongValue, badWrite, goodFrame, judgedFrame}
-use Rattle.meter_rules.specs.Runs.{allOpen}
+use Rattle.sheet_rules.specs.Runs.{allOpen}
 use Rattle.meter_rules.specs.Write.{firstPlace, someBad, stopIn, stopPlace, runStores}
 use Rattle.meter_rules.specs.Reply.{storesOf}
 use Rattle.meter_rules.specs.Answer.{actedOn, answerOutcome}

@@ -12,16 +12,15 @@ use Rattle.sheet_rules.specs.declared.Lies.the-variants.{At, Nowhere}
 use Rattle.sheet_rules.specs.Rows.{bankWords, areas}
 use Rattle.lists.specs.Lists.{upFrom}
 use Rattle.sheet_rules.specs.Rules.{sound}
-use Rattle.sheet_rules.specs.Lookup.{liesIn}
+use Rattle.sheet_rules.specs.Lookup.{liesIn, placeIn}
 use Rattle.lists.proofs.Among.{Among, each-among, up-among}
 use Rattle.sheet_rules.proofs.Addresses.{run-consecutive, lies-below}
 use Rattle.bank_rules.specs.Stores.{Store, wordOf, stored}
-use Rattle.bank_rules.specs.Bank.{placeIn}
 use Rattle.bank_rules.proofs.Latest.{latest, StoresInside, words-left, latest-none, latest-agreed}
 use Rattle.bank_rules.proofs.Inside.{among-map, map-among, number-among, among-number}
-use Rattle.meter_rules.specs.declared.Purpose.{Purpose}
+use Rattle.sheet_rules.specs.declared.Purpose.{Purpose}
 use Rattle.frame.specs.Frame.{sent}
-use Rattle.meter_rules.specs.Runs.{permits, opens, allOpen}
+use Rattle.sheet_rules.specs.Runs.{permits, opens, allOpen}
 use Rattle.meter_rules.specs.Write.{inRun, wouldBe, runStore, runStores}
 use Rattle.meter_rules.proofs.Judging.{run-above}
 use Rattle.meter_rules.proofs.Stopping.{run-below}

@@ -1,4 +1,3 @@
-pub mod Runs
 pub mod Write
 pub mod Steps
 pub mod Reply

@@ -12,8 +12,8 @@ use Rattle.meter_rules.specs.declared.Judged.{Judged}
 use Rattle.meter_rules.specs.declared.Judged.the-variants.{FailsCheck, OtherStation, FunctionNotAllowed, WrongLength, WrongCount, WrongAddress, WrongValue, BadItem, GoodRead, GoodClear, GoodWrite}
 use Rattle.frame.specs.Frame.{reads, clears, writesOne, writesMany, mostRead, station, function, start, second, byteCount, isWrite, count, run}
 use Rattle.sheet_rules.specs.Rules.{allowed, bitOf03, bitOf05, bitOf06, bitOf10}
-use Rattle.meter_rules.specs.declared.Purpose.the-variants.{Read, Write}
-use Rattle.meter_rules.specs.Runs.{allOpen}
+use Rattle.sheet_rules.specs.declared.Purpose.the-variants.{Read, Write}
+use Rattle.sheet_rules.specs.Runs.{allOpen}
 use Rattle.meter_rules.specs.Write.{firstPlace, someBad, stopPlace}
 
 -- 1. "Length not 4..100, or wrong check: silence."

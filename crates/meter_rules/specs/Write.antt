@@ -7,9 +7,9 @@ use Rattle.sheet_rules.specs.declared.Item.{Item}
 use Rattle.sheet_rules.specs.Rows.{areas, items}
 use Rattle.lists.specs.Lists.{some, upFrom}
 use Rattle.sheet_rules.specs.Rules.{isPair}
-use Rattle.sheet_rules.specs.Lookup.{liesIn}
+use Rattle.sheet_rules.specs.Lookup.{liesIn, placeIn}
 use Rattle.bank_rules.specs.Stores.{Store, wordOf}
-use Rattle.bank_rules.specs.Bank.{goodBy, placeIn}
+use Rattle.bank_rules.specs.Bank.{goodBy}
 use Rattle.frame.specs.Frame.{start, count, sent}
 
 -- the place of the run's first address; the places of a run of addresses that all lie in areas follow each other from there

@@ -25,9 +25,3 @@ pub enum Answered {
     Silence,
     Refused(Refusal),
 }
-
-// What a run of addresses is for.
-pub enum Purpose {
-    Read,
-    Write,
-}

@@ -11,12 +11,11 @@ use Rattle.lists.specs.Lists.{each, upFrom}
 use Rattle.sheet_rules.specs.declared.Lies.the-variants.{At}
 use Rattle.sheet_rules.specs.Rows.{areas, clearAddress}
 use Rattle.sheet_rules.specs.Rules.{sound}
-use Rattle.sheet_rules.specs.Lookup.{liesIn}
+use Rattle.sheet_rules.specs.Lookup.{liesIn, placeIn}
 use Rattle.sheet_rules.proofs.Addresses.{lies-word}
-use Rattle.bank_rules.specs.Bank.{placeIn}
-use Rattle.meter_rules.specs.declared.Purpose.{Purpose}
-use Rattle.meter_rules.specs.declared.Purpose.the-variants.{Read, Write}
-use Rattle.meter_rules.specs.Runs.{permits, opens, allOpen}
+use Rattle.sheet_rules.specs.declared.Purpose.{Purpose}
+use Rattle.sheet_rules.specs.declared.Purpose.the-variants.{Read, Write}
+use Rattle.sheet_rules.specs.Runs.{permits, opens, allOpen}
 use Rattle.frame.specs.Frame.{function, start, second, isWrite, count, run}
 use Rattle.meter_rules.specs.Steps.{wrongAddress}
 use Rattle.meter_rules.proofs.Written.{each-open}
@@ -73,7 +72,7 @@ module _ (sheet : List ℕ) (keeps : sound sheet ≡ true) (bytes : Bytes sheet)
         let one = each-open purpose sheet keeps (start frame) (count frame) all k (omega (arith, registers-same frame)) in
         let at = ap (liesIn (areas sheet)) (address-same frame k) ∙ one .at in
         record {
-          small = omega (arith, lies-word sheet keeps bytes (address frame k) (placeIn (liesIn (areas sheet) (start frame + k))) (one .access) at);
+          small = omega (arith, lies-word sheet bytes (address frame k) (placeIn (liesIn (areas sheet) (start frame + k))) (one .access) at);
           place = placeIn (liesIn (areas sheet) (start frame + k));
           access = one .access;
           lies = lies-plain sheet keeps at;

@@ -7,8 +7,8 @@ use mathlib.Core.Logic.{_↔_}
 use Prim.Native.Nat.{ℕ}
 use Rattle.sheet_rules.specs.Rules.{sound}
 use Rattle.lists.specs.Cases.{when, firstCase}
-use Rattle.meter_rules.specs.declared.Purpose.the-variants.{Write}
-use Rattle.meter_rules.specs.Runs.{allOpen}
+use Rattle.sheet_rules.specs.declared.Purpose.the-variants.{Write}
+use Rattle.sheet_rules.specs.Runs.{allOpen}
 use Rattle.frame.specs.Frame.{isWrite, run}
 use Rattle.meter_rules.specs.Steps.{failsCheck, otherStation, functionNotAllowed, wrongLength, wrongCount, wrongAddress, wrongValue, badWrite}
 use Rattle.meter_rules.proofs.Soundness.{open-write}

@@ -11,9 +11,9 @@ use Rattle.words.specs.Words.{wordAt}
 use Rattle.lists.specs.Cases.{when, firstCase}
 use Rattle.sheet_rules.specs.Rows.{areas}
 use Rattle.sheet_rules.specs.Rules.{sound}
-use Rattle.sheet_rules.specs.Lookup.{liesIn}
+use Rattle.sheet_rules.specs.Lookup.{liesIn, placeIn}
 use Rattle.bank_rules.specs.Stores.{stored}
-use Rattle.bank_rules.specs.Bank.{fits, bankSound, rateOf, placeIn}
+use Rattle.bank_rules.specs.Bank.{fits, bankSound, rateOf}
 use Rattle.bank_rules.proofs.Stores.{stored-length}
 use Rattle.frame.specs.Frame.{function, start, count, run}
 use Rattle.frame.specs.Reply.{readReply, echo, writeReply, errorReply, withCheck, laid}
@@ -22,8 +22,8 @@ use Rattle.meter_rules.specs.declared.Judged.{Judged}
 use Rattle.meter_rules.specs.declared.Judged.the-variants.{FailsCheck, OtherStation, FunctionNotAllowed, WrongLength, WrongCount, WrongAddress, WrongValue, BadItem, GoodRead, GoodClear, GoodWrite}
 use Rattle.meter_rules.specs.declared.Answered as meter
 use Rattle.meter_rules.specs.declared.Answered.the-variants.{Reply, Silence}
-use Rattle.meter_rules.specs.declared.Purpose.the-variants.{Read}
-use Rattle.meter_rules.specs.Runs.{allOpen}
+use Rattle.sheet_rules.specs.declared.Purpose.the-variants.{Read}
+use Rattle.sheet_rules.specs.Runs.{allOpen}
 use Rattle.meter_rules.specs.Write.{firstPlace, stopPlace}
 use Rattle.meter_rules.specs.Steps.{failsCheck, otherStation, functionNotAllowed, wrongLength, wrongCount, wrongAddress, wrongValue, badWrite, goodFrame, judgedFrame}
 use Rattle.meter_rules.specs.Reply.{errorCode, replyTo, storesOf}

@@ -12,8 +12,8 @@ use lib.Seq.{ext-getD, getD-take, length-take-le}
 use borrow.Author.Tests.{ltb-true, ltb-false}
 use Rattle.check_value.specs.Check.{valueOf}
 use Rattle.sheet_rules.specs.Rules.{sound}
-use Rattle.meter_rules.specs.declared.Purpose.the-variants.{Write}
-use Rattle.meter_rules.specs.Runs.{allOpen}
+use Rattle.sheet_rules.specs.declared.Purpose.the-variants.{Write}
+use Rattle.sheet_rules.specs.Runs.{allOpen}
 use Rattle.frame.specs.Frame.{run}
 use Rattle.meter_rules.proofs.Soundness.{open-write}
 use Rattle.plain.specs.Numbers.{byte, word, Bytes}

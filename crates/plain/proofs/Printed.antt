@@ -46,7 +46,7 @@ module _ (sheet bank : List ℕ) (keeps : sound sheet ≡ true) (bytes : Bytes s
       (writable-access sheet keeps first (item .place) (found .0) (found .1) (held-writable sheet keeps (item .place) among (holds-first item (item .place) refl)))
 
   small : first ≤ 0xFFFF
-  small = omega (arith, lies-word sheet keeps bytes first (item .place) 3 item-lies)
+  small = omega (arith, lies-word sheet bytes first (item .place) 3 item-lies)
 
   pair-rule : pairRule (areas sheet) item ≡ true
   unfolding itemsSound
@@ -84,7 +84,7 @@ module _ (sheet bank : List ℕ) (keeps : sound sheet ≡ true) (bytes : Bytes s
             (held-writable sheet keeps (p + 1) among (holds-second item (p + 1) (eq-eqb (item .kind) 2 pair) refl)))
 
     small-next : first + 1 ≤ 0xFFFF
-    small-next = omega (arith, lies-word sheet keeps bytes (first + 1) (item .place + 1) 3 next-lies)
+    small-next = omega (arith, lies-word sheet bytes (first + 1) (item .place + 1) 3 next-lies)
 
   -- ---- the word that would be at the place written, and at another
 

@@ -19,8 +19,8 @@ use Rattle.sheet_rules.specs.Rules.{sound}
 use Rattle.sheet_rules.specs.Lookup.{holds}
 use Rattle.bank_rules.specs.Bank.{valueBy}
 use Rattle.bank_rules.proofs.Held.{holds-first, holds-second, holder-alone}
-use Rattle.meter_rules.specs.declared.Purpose.the-variants.{Write}
-use Rattle.meter_rules.specs.Runs.{allOpen}
+use Rattle.sheet_rules.specs.declared.Purpose.the-variants.{Write}
+use Rattle.sheet_rules.specs.Runs.{allOpen}
 use Rattle.frame.specs.Frame.{count, run}
 use Rattle.meter_rules.specs.Write.{firstPlace, wouldBe}
 use Rattle.meter_rules.proofs.Soundness.{open-write}

@@ -8,7 +8,7 @@ use Rattle.words.specs.Words.{wordAt}
 use Rattle.sheet_rules.specs.declared.Area.{Area}
 use Rattle.sheet_rules.specs.declared.Item.{Item}
 use Rattle.sheet_rules.specs.declared.Lies.the-variants.{At}
-use Rattle.sheet_rules.specs.Rows.{areaCount, itemCount, areaAt, itemAt, areas, items}
+use Rattle.sheet_rules.specs.Rows.{areaCount, itemCount, areaAt, itemAt, areas, items, itemFrom}
 use Rattle.sheet_rules.specs.Rules.{sound}
 use Rattle.sheet_rules.specs.Lookup.{liesIn}
 use Rattle.sheet_rules.proofs.Sound.{sound-areas}
@@ -88,7 +88,7 @@ module _ (sheet : List ℕ) where
   -- ---- item rows
 
   pub item-row : (item : Item) → Among item (items sheet) → ItemRow sheet (item .kind) (item .place) (item .low) (item .high)
-  unfolding items itemAt
+  unfolding items itemFrom
   item-row item m =
       let found = among-row (itemAt sheet) 0 (itemCount sheet) m in
       let same = found .2 in
@@ -108,7 +108,7 @@ module _ (sheet : List ℕ) where
   itemOf {kind} {place} {low} {high} row = record { kind = kind; place = place; low = low; high = high }
 
   pub row-item : {kind place low high : ℕ} (row : ItemRow sheet kind place low high) → Among (itemOf row) (items sheet)
-  unfolding items itemAt
+  unfolding items itemFrom
   row-item {kind} {place} {low} {high} row =
       subst (λ (i : Item). Among i (items sheet)) same
       (row-among (itemAt sheet) 0 (itemCount sheet) (row .index) (rw word-same at (row .counted)))

@@ -16,8 +16,8 @@ use Rattle.sheet_rules.specs.Rules.{sound}
 use Rattle.bank_rules.specs.Stores.{wordOf, stored}
 use Rattle.bank_rules.specs.Bank.{fits, bankSound, valueBy, goodBy, markPlace, markStores}
 use Rattle.bank_rules.proofs.Changes.{mark-there, mark-apart}
-use Rattle.meter_rules.specs.declared.Purpose.the-variants.{Write}
-use Rattle.meter_rules.specs.Runs.{allOpen}
+use Rattle.sheet_rules.specs.declared.Purpose.the-variants.{Write}
+use Rattle.sheet_rules.specs.Runs.{allOpen}
 use Rattle.frame.specs.Frame.{function, second, isWrite, count, run, sent}
 use Rattle.meter_rules.specs.Steps.{functionAllowed, failsCheck, otherStation, functionNotAllowed, wrongLength, wrongCount, wrongAddress, wrongValue, badWrite, goodFrame, judgedFrame}
 use Rattle.lists.specs.Cases.{when, firstCase}

@@ -10,13 +10,14 @@ use Rattle.sheet_rules.specs.declared.Area.{Area}
 use Rattle.sheet_rules.specs.declared.Item.{Item}
 use Rattle.sheet.specs.declared.item_rows.Cover.{Cover}
 use Rattle.sheet_rules.specs.Rows.{areaCount, areaAt, areas, areasFrom, items}
-use Rattle.lists.specs.Lists.{upFrom, samePlaces}
-use Rattle.sheet_rules.specs.Rules.{lengthOf, placesFollow, writable, writablePlaces, isPair, pairWithin}
+use Rattle.lists.specs.Lists.{upFrom, samePlaces, each}
+use Rattle.sheet_rules.specs.Rules.{lengthOf, placesFollow, writable, writablePlaces, isPair, pairWithin, areasSound, firstLastRule}
 use Rattle.sheet.specs.Cover.{placesLeft, UnderWay, sizeOf}
 use Rattle.lists.proofs.Walks.{rows-on, rows-end}
 use Rattle.sheet_rules.proofs.Rows.{areas-rows}
 use Rattle.lists.proofs.Among.{Among, row-among}
 use Rattle.sheet_rules.proofs.Within.{pair-within}
+use Rattle.sheet_rules.proofs.Sound.{areas-rules}
 
 abbrev pub cover : ℕ → ℕ → ℕ → Cover
 cover next end area = record { next = next; end = end; area = area }
@@ -78,10 +79,11 @@ module _ (sheet : List ℕ) where
         none : end - next ≡ 0
         none = omega arith
 
-    pub way-open : placesFollow 0 (areas sheet) ≡ true → area .place < 0x10000 → area .last < 0x10000
+    pub way-open : each firstLastRule (areas sheet) ≡ true → placesFollow 0 (areas sheet) ≡ true → area .place < 0x10000 → area .last < 0x10000
         → UnderWay sheet (cover (area .place) (area .place + size) (k + 1))
-    way-open follow place-small last-small =
+    way-open order follow place-small last-small =
         record {
+          order = order;
           follow = follow;
           ordered = omega arith;
           within = omega arith;
@@ -101,10 +103,11 @@ module _ (sheet : List ℕ) where
             rw all (pair-within 0 (area-among sheet k area row inside) follow place low (rw all at high))
 
   -- a walk begins, and goes on within the area at hand
-  pub way-start : placesFollow 0 (areas sheet) ≡ true → UnderWay sheet (cover 0 0 0)
-  way-start follow =
+  pub way-start : areasSound sheet ≡ true → UnderWay sheet (cover 0 0 0)
+  way-start keeps =
       record {
-        follow = follow;
+        order = areas-rules sheet keeps .firstLast;
+        follow = areas-rules sheet keeps .follow;
         ordered = omega arith;
         within = omega arith;
         small = omega arith;
@@ -114,6 +117,7 @@ module _ (sheet : List ℕ) where
   pub way-on : (c : Cover) (size : ℕ) → UnderWay sheet c → c .next + size ≤ c .end → UnderWay sheet (cover (c .next + size) (c .end) (c .area))
   way-on c size way fits =
       record {
+        order = way .order;
         follow = way .follow;
         ordered = fits;
         within = way .within;

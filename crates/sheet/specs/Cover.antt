@@ -9,8 +9,8 @@ use Rattle.sheet_rules.specs.declared.Area.{Area}
 use Rattle.sheet_rules.specs.declared.Item.{Item}
 use Rattle.sheet.specs.declared.item_rows.Cover.{Cover}
 use Rattle.sheet_rules.specs.Rows.{areaCount, areas, areasFrom}
-use Rattle.lists.specs.Lists.{some, upFrom}
-use Rattle.sheet_rules.specs.Rules.{placeInArea, placesFollow, isPair, writablePlaces, pairWithin}
+use Rattle.lists.specs.Lists.{each, upFrom}
+use Rattle.sheet_rules.specs.Rules.{firstLastRule, placesFollow, isPair, writablePlaces, pairWithin}
 
 -- how many places an item has
 abbrev pub sizeOf : Item → ℕ
@@ -24,6 +24,7 @@ placesLeft sheet cover =
 -- a cover that is under way: a pair at a place that is left of the area at hand lies within one area just where the next place is left
 -- of that area too
 pub record UnderWay (sheet : List ℕ) (cover : Cover) : Type 0 where
+  pub order : each firstLastRule (areas sheet) ≡ true
   pub follow : placesFollow 0 (areas sheet) ≡ true
   pub ordered : cover .next ≤ cover .end
   pub within : cover .area ≤ areaCount sheet

@@ -1,12 +1,12 @@
 // The rules of the area rows, in one walk over them.
 ghost use mathlib.Core.Path.{_≡_};
 ghost use mathlib.Core.Bool.{not, _&&_, _||_};
-ghost use Prim.Native.Nat.{_*_, _/_, _%_};
+ghost use Prim.Native.Nat.{_/_, _%_};
 ghost use lib.Dec.{leb, eqb};
-ghost use lib.ListN.{length};
-ghost use Rattle.sheet_rules.specs.Rows.{rowsEnd};
+ghost use Rattle.sheet_rules.specs.Rows.{headerOf};
 ghost use Rattle.sheet_rules.specs.Rules.{bitOf05, readable, accessRule, firstLastRule, inArea, lengthOf, areasSound};
 use sheet_rules::Area;
+use sheet_rules::Header;
 
 // "1 for 03, 2 for 05, 4 for 06, 8 for 10, summed": whether 05 is in the sum.
 fn sums_05(functions: u16) -> bool
@@ -40,13 +40,13 @@ fn clear_outside(allowed: bool, clear: u16, area: Area) -> bool
     ensures { λ r. ⌜ r ≡ not (allowed && inArea clear area) ⌝ }
 {
     if allowed {
-        return !crate::in_area(clear as u32, area);
+        return !lookup::in_area(clear as u32, area);
     }
     true
 }
 
 // How many addresses an area has; none where first is above last.
-pub(crate) fn length_of(area: Area) -> u32
+fn length_of(area: Area) -> u32
     ensures { λ r. ⌜ r ≡ lengthOf area ⌝ }
 {
     if area.last < area.first {
@@ -71,13 +71,13 @@ fn area_sound(area: Area, lowest: u32, places: u32) -> bool
     area.place as u32 == places
 }
 
-pub(crate) fn areas_sound(sheet: &[u8]) -> bool
-    requires { ⌜ length (now sheet) ≡ 2 * rowsEnd (now sheet) ⌝ }
+pub(crate) fn areas_sound(sheet: &[u8], header: Header) -> bool
+    requires { ⌜ header ≡ headerOf (now sheet) ⌝ }
     ensures { λ r. ⌜ r ≡ areasSound (now (sheet .entry)) ⌝ }
 {
-    let count = crate::area_count(sheet);
-    let clear = crate::clear_address(sheet);
-    let allowed = sums_05(crate::functions(sheet));
+    let count = header.areas;
+    let clear = header.clear;
+    let allowed = sums_05(header.functions);
     if !word_sound_without_05(allowed, clear) {
         return false;
     }
@@ -85,7 +85,7 @@ pub(crate) fn areas_sound(sheet: &[u8]) -> bool
     let mut places: u32 = 0;
     let mut k: u16 = 0;
     while k < count {
-        let area = crate::area_inside(sheet, k);
+        let area = rows::area_row(sheet, k);
         if !area_sound(area, lowest, places) {
             return false;
         }
@@ -96,5 +96,5 @@ pub(crate) fn areas_sound(sheet: &[u8]) -> bool
         places = places + length_of(area);
         k += 1;
     }
-    places == crate::bank_words(sheet) as u32
+    places == header.bank as u32
 }

@@ -1,8 +1,9 @@
 // The header's rules. 01: "Header, 12 words: 0 version, 1; 1 number of areas A, 1 to 8; ..".
 ghost use mathlib.Core.Path.{_≡_};
 ghost use Rattle.lists.specs.Lists.{between};
+ghost use Rattle.sheet_rules.specs.Rows.{headerOf};
 ghost use Rattle.sheet_rules.specs.Rules.{headerSound};
-use crate::word;
+use sheet_rules::Header;
 
 // Whether a number is one of "1 to 8" and the like.
 fn between(low: u16, high: u16, n: u16) -> bool
@@ -11,20 +12,21 @@ fn between(low: u16, high: u16, n: u16) -> bool
     low <= n && n <= high
 }
 
-pub(crate) fn header_sound(sheet: &[u8]) -> bool
+pub(crate) fn header_sound(sheet: &[u8], header: Header) -> bool
+    requires { ⌜ header ≡ headerOf (now sheet) ⌝ }
     ensures { λ r. ⌜ r ≡ headerSound (now (sheet .entry)) ⌝ }
 {
-    let areas = word(sheet, 1);
-    let items = word(sheet, 3);
-    let words = word(sheet, 7);
-    word(sheet, 0) == 1
+    let areas = header.areas;
+    let items = header.items;
+    let words = header.words;
+    header.version == 1
         && between(1, 8, areas)
-        && word(sheet, 2) == 12
+        && header.area_offset == 12
         && between(2, 64, items)
-        && word(sheet, 4) as u32 == 12 + 4 * (areas as u32)
-        && between(2, 256, word(sheet, 5))
-        && between(0, 15, word(sheet, 6))
+        && header.item_offset as u32 == 12 + 4 * (areas as u32)
+        && between(2, 256, header.bank)
+        && between(0, 15, header.functions)
         && words as u32 == 12 + 4 * (areas as u32) + 6 * (items as u32)
-        && word(sheet, 11) == 0
+        && header.spare == 0
         && sheet.len() == 2 * (words as usize)
 }

@@ -1,13 +1,13 @@
 // The rules of the item rows, with those of the address and the rate, in one walk over them.
 ghost use mathlib.Core.Path.{_≡_};
 ghost use mathlib.Core.Bool.{true, cond, _&&_, _||_};
-ghost use Prim.Native.Nat.{_+_, _*_, _<_};
+ghost use Prim.Native.Nat.{_+_, _<_};
 ghost use lib.Dec.{leb, eqb};
-ghost use lib.ListN.{length};
-ghost use Rattle.sheet_rules.specs.Rows.{areaCount, rowsEnd, areas};
-ghost use Rattle.sheet_rules.specs.Rules.{writable, lengthOf, placesFollow, kindRule, boundsRule, lowHighRule, settingAt, addressItem, rateItem, itemsSound, settingsSound};
+ghost use Rattle.sheet_rules.specs.Rows.{areaCount, headerOf};
+ghost use Rattle.sheet_rules.specs.Rules.{writable, lengthOf, firstLastRule, areasSound, kindRule, boundsRule, lowHighRule, settingAt, addressItem, rateItem, itemsSound, settingsSound};
 ghost use Rattle.sheet.specs.Cover.{UnderWay, Opened, sizeOf};
 use sheet_rules::Area;
+use sheet_rules::Header;
 use sheet_rules::Item;
 
 // How far the places of the access 3 areas are covered: `next` is the next place, `end` ends the places of its area, and `area` is
@@ -18,53 +18,34 @@ struct Cover {
     area: u16,
 }
 
-// How many of an area's places are covered by items: all of an access 3 area's, and none of another's.
+// How many of an area's places are covered by items: all of an access 3 area's, and none of another's. Its first address is not above
+// its last.
 fn writable_length(area: Area) -> u32
+    requires { ⌜ firstLastRule area ≡ true ⌝ }
     ensures { λ r. ⌜ r ≡ cond (writable (area .access)) (lengthOf area) 0 ⌝ }
 {
     if area.access != 3 {
         return 0;
     }
-    crate::area_rows::length_of(area)
-}
-
-// The same cover, but at the next area that has places left, if there is one.
-fn walked(sheet: &[u8], count: u16, cover: Cover) -> Cover
-    requires { ⌜ count ≡ areaCount (now sheet) ⌝ }
-    requires { ⌜ UnderWay (now sheet) cover ⌝ }
-    requires { ⌜ length (now sheet) ≡ 2 * rowsEnd (now sheet) ⌝ }
-    ensures { λ r. ⌜ Opened (now (sheet .entry)) cover r ⌝ }
-{
-    let mut next = cover.next;
-    let mut end = cover.end;
-    let mut area = cover.area;
-    while area < count {
-        if next < end {
-            return Cover { next, end, area };
-        }
-        let row = crate::area_inside(sheet, area);
-        next = row.place as u32;
-        end = next + writable_length(row);
-        area += 1;
-    }
-    Cover { next, end, area }
+    area.last as u32 + 1 - area.first as u32
 }
 
 // The same cover, but at an area that has places left, if there is one. Mostly the area at hand has some: then nothing is walked over.
 fn opened(sheet: &[u8], count: u16, cover: Cover) -> Cover
     requires { ⌜ count ≡ areaCount (now sheet) ⌝ }
     requires { ⌜ UnderWay (now sheet) cover ⌝ }
-    requires { ⌜ length (now sheet) ≡ 2 * rowsEnd (now sheet) ⌝ }
     ensures { λ r. ⌜ Opened (now (sheet .entry)) cover r ⌝ }
 {
-    if cover.next < cover.end {
-        return Cover {
-            next: cover.next,
-            end: cover.end,
-            area: cover.area,
-        };
+    let mut next = cover.next;
+    let mut end = cover.end;
+    let mut area = cover.area;
+    while end <= next && area < count {
+        let row = rows::area_row(sheet, area);
+        next = row.place as u32;
+        end = next + writable_length(row);
+        area += 1;
     }
-    walked(sheet, count, cover)
+    Cover { next, end, area }
 }
 
 // How many places an item has: its first place, and the next one for a pair.
@@ -164,15 +145,16 @@ fn rate_found(before: bool, item: Item, place: u16) -> bool
     true
 }
 
-pub(crate) fn items_and_settings_sound(sheet: &[u8]) -> bool
-    requires { ⌜ placesFollow 0 (areas (now sheet)) ≡ true ⌝ }
-    requires { ⌜ length (now sheet) ≡ 2 * rowsEnd (now sheet) ⌝ }
+// The cover is opened at each item, and once more behind the last one: then no place may be left.
+pub(crate) fn items_and_settings_sound(sheet: &[u8], header: Header) -> bool
+    requires { ⌜ header ≡ headerOf (now sheet) ⌝ }
+    requires { ⌜ areasSound (now sheet) ≡ true ⌝ }
     ensures { λ r. ⌜ r ≡ (itemsSound (now (sheet .entry)) && settingsSound (now (sheet .entry))) ⌝ }
 {
-    let areas = crate::area_count(sheet);
-    let count = crate::item_count(sheet);
-    let address_place = crate::address_place(sheet);
-    let rate_place = crate::rate_place(sheet);
+    let areas = header.areas;
+    let count = header.items;
+    let address_place = header.address;
+    let rate_place = header.rate;
     if address_place == rate_place {
         return false;
     }
@@ -184,9 +166,15 @@ pub(crate) fn items_and_settings_sound(sheet: &[u8]) -> bool
     let mut address = false;
     let mut rate = false;
     let mut k: u16 = 0;
-    while k < count {
-        let item = crate::item_inside(sheet, areas, k);
+    loop {
         let at = opened(sheet, areas, cover);
+        if count <= k {
+            if at.next < at.end {
+                return false;
+            }
+            return address && rate;
+        }
+        let item = rows::item_row(sheet, areas, k);
         if !row_sound(item) {
             return false;
         }
@@ -202,9 +190,4 @@ pub(crate) fn items_and_settings_sound(sheet: &[u8]) -> bool
         rate = rate_found(rate, item, rate_place);
         k += 1;
     }
-    let rest = opened(sheet, areas, cover);
-    if rest.next < rest.end {
-        return false;
-    }
-    address && rate
 }

@@ -55,7 +55,7 @@ fn say_line_end(next: usize, areas: u16) {
 }
 
 fn say_entries(sheet: &[u8]) {
-    let areas = sheet::area_count(sheet);
+    let areas = rows::area_count(sheet);
     let mut at = 0;
     while at < sheet.len() {
         say_margin(at, areas);

@@ -7,7 +7,7 @@ use Prim.Native.Nat.{ℕ, zero, suc, _+_, _-_, _*_, _≤_, _<_}
 use native.Mathlib.Omega.{arith}
 use lib.Dec.{leb, ltb}
 use borrow.Author.Tests.{le-leb, lt-leb, lt-ltb, le-ltb, eqb-true, leb-true, leb-false, ltb-true, ltb-false}
-use Rattle.words.specs.Words.{byteAt, wordAt}
+use Rattle.words.proofs.Small.{word-below, Bytes}
 use Rattle.sheet_rules.specs.declared.Area.{Area}
 use Rattle.sheet_rules.specs.declared.Lies.{Lies}
 use Rattle.sheet_rules.specs.declared.Lies.the-variants.{At, Nowhere}
@@ -150,10 +150,10 @@ order-here : {area : Area} {l : List Area} → Among area l → each firstLastRu
 order-here {area} m e = leb-true (area .first) (area .last) (each-among firstLastRule m e)
 
 -- an address is within an area, or not
-in-low : (address : ℕ) (area : Area) → inArea address area ≡ true → area .first ≤ address
+pub in-low : (address : ℕ) (area : Area) → inArea address area ≡ true → area .first ≤ address
 in-low address area e = leb-true (area .first) address (first-of (leb (area .first) address) (leb address (area .last)) e)
 
-in-high : (address : ℕ) (area : Area) → inArea address area ≡ true → address ≤ area .last
+pub in-high : (address : ℕ) (area : Area) → inArea address area ≡ true → address ≤ area .last
 in-high address area e = leb-true address (area .last) (second-of (leb (area .first) address) (leb address (area .last)) e)
 
 out-high : (address : ℕ) (area : Area) → inArea address area ≡ false → area .first ≤ address → area .last < address
@@ -213,12 +213,23 @@ next-place before (area ∷ behind) follow ascend order address p q x y e f =
         ))
     go false false now then e f rest = rest e f
 
--- ---- over a sound sheet
+-- ---- over the areas of any bytes: their words are below 10000, so that nothing lies above FFFF
 
--- a word of bytes
-pub word-small : (sheet : List ℕ) → ((k : ℕ) → byteAt sheet k < 256) → (at : ℕ) → wordAt sheet at < 0x10000
-unfolding wordAt
-word-small sheet bytes at = omega (arith, bytes at, bytes (at + 1))
+pub lies-word : (sheet : List ℕ) → Bytes sheet → (address p x : ℕ) → liesIn (areas sheet) address ≡ At p x → address < 0x10000
+unfolding areas areaAt
+lies-word sheet bytes address p x e =
+    let found = lies-found (areas sheet) address p x e in
+    let row = among-row (areaAt sheet) 0 (areaCount sheet) (found .among) in
+    omega (arith, found .high, ap (λ (a : Area). a .last) (row .2), word-below sheet bytes (2 * (12 + 4 * (0 + row .0) + 1)))
+
+pub lies-nowhere : (sheet : List ℕ) → Bytes sheet → (address : ℕ) → 0x10000 ≤ address → liesIn (areas sheet) address ≡ Nowhere
+lies-nowhere sheet bytes address past = go (liesIn (areas sheet) address) refl
+  where
+    go : (lies : Lies) → liesIn (areas sheet) address ≡ lies → liesIn (areas sheet) address ≡ Nowhere
+    go (At p x) e = absurd (omega (arith, lies-word sheet bytes address p x e))
+    go Nowhere e = e
+
+-- ---- over a sound sheet
 
 module _ (sheet : List ℕ) (keeps : sound sheet ≡ true) where
   rules : AreasRules sheet
@@ -277,11 +288,3 @@ module _ (sheet : List ℕ) (keeps : sound sheet ≡ true) where
       let area = own .area in
       among-some (placeInArea p) (own .among)
       (simp (le-leb (area .place) p (own .low), lt-ltb p (area .place + lengthOf area) (own .high)))
-
-  -- an area's last address is a word, and so no address above FFFF lies anywhere
-  pub lies-word : ((k : ℕ) → byteAt sheet k < 256) → (address p x : ℕ) → liesIn (areas sheet) address ≡ At p x → address < 0x10000
-  unfolding areas areaAt
-  lies-word bytes address p x e =
-      let found = lies-found (areas sheet) address p x e in
-      let row = among-row (areaAt sheet) 0 (areaCount sheet) (found .among) in
-      omega (arith, found .high, ap (λ (a : Area). a .last) (row .2), word-small sheet bytes (2 * (12 + 4 * (0 + row .0) + 1)))

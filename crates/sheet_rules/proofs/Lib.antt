@@ -6,3 +6,4 @@ pub mod Addresses
 pub mod Places
 pub mod Sides
 pub mod SheetLimits
+pub mod Reach

@@ -1,16 +1,18 @@
 -- The rows of a sheet from an index on: the next row and those behind it. Assumes nothing.
-use mathlib.Core.Bool.{cond}
+use mathlib.Core.Bool.{Bool, true, false, cond}
 use mathlib.Core.Path.{_≡_, ap, _∙_}
 use mathlib.Core.List.{List, [], _∷_}
 use Prim.Native.Nat.{ℕ, suc, _+_, _-_, _≤_, _<_}
 use native.Mathlib.Omega.{arith}
 use mathlib.Core.Path.{refl, sym}
 use Rattle.sheet_rules.specs.declared.Area.{Area}
+use Rattle.sheet_rules.specs.declared.Purpose.{Purpose}
+use Rattle.sheet_rules.specs.Runs.{carried, reach}
 use Rattle.sheet_rules.specs.declared.Lies.the-variants.{At, Nowhere}
 use Rattle.lists.specs.Lists.{rows}
 use Rattle.sheet_rules.specs.Rows.{areaCount, areaAt, areas, itemCount, itemAt, items, areasFrom}
 use Rattle.sheet_rules.specs.Rules.{inArea}
-use Rattle.sheet_rules.specs.Lookup.{liesIn}
+use Rattle.sheet_rules.specs.Lookup.{liesIn, placeIn}
 use Rattle.lists.proofs.Walks.{rows-end, rows-on}
 
 pub areas-rows : (sheet : List ℕ) → rows (areaAt sheet) 0 (areaCount sheet) ≡ areas sheet
@@ -35,3 +37,30 @@ module _ (sheet : List ℕ) (address k : ℕ) where
   pub lies-end : areaCount sheet ≤ k → liesIn (areasFrom sheet k) address ≡ Nowhere
   unfolding liesIn
   lies-end past = ap (λ (l : List Area). liesIn l address) (rows-end (areaAt sheet) k (areaCount sheet) past)
+
+-- the place of an address, likewise; and how far the address is carried
+module _ (sheet : List ℕ) (k : ℕ) (area : Area) (here : area ≡ areaAt sheet k) (inside : k < areaCount sheet) where
+  pub place-on : (address : ℕ)
+      → placeIn (liesIn (areasFrom sheet k) address)
+      ≡ cond (inArea address area) (area .place + (address - area .first)) (placeIn (liesIn (areasFrom sheet (k + 1)) address))
+  place-on address = ap placeIn (lies-on sheet address k area here inside) ∙ go (inArea address area)
+    where
+      go : (b : Bool)
+          → placeIn (cond b (At (area .place + (address - area .first)) (area .access)) (liesIn (areasFrom sheet (k + 1)) address))
+          ≡ cond b (area .place + (address - area .first)) (placeIn (liesIn (areasFrom sheet (k + 1)) address))
+      go true = refl
+      go false = refl
+
+  pub reach-on : (purpose : Purpose) (address next : ℕ) → next ≡ carried purpose area address
+      → reach purpose (areasFrom sheet (k + 1)) next ≡ reach purpose (areasFrom sheet k) address
+  unfolding reach
+  reach-on purpose address next says =
+      ap (reach purpose (areasFrom sheet (k + 1))) says
+      ∙ sym (ap (λ (l : List Area). reach purpose l address)
+      (rows-on (areaAt sheet) k (areaCount sheet) inside ∙ ap (λ (a : Area). a ∷ areasFrom sheet (k + 1)) (sym here)))
+
+pub reach-end : (sheet : List ℕ) (k : ℕ) → areaCount sheet ≤ k → (purpose : Purpose) (address : ℕ)
+    → reach purpose (areasFrom sheet k) address ≡ address
+unfolding reach
+reach-end sheet k past purpose address =
+    ap (λ (l : List Area). reach purpose l address) (rows-end (areaAt sheet) k (areaCount sheet) past)

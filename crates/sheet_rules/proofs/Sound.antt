@@ -8,7 +8,7 @@ use native.Mathlib.Omega.{arith}
 use lib.Dec.{leb}
 use lib.ListN.{length}
 use borrow.Author.Tests.{leb-true, eqb-true, not-false}
-use Rattle.sheet_rules.specs.Rows.{areas, items, areaCount, itemCount, bankWords, functions, sheetWords, rowsEnd, itemRows}
+use Rattle.sheet_rules.specs.Rows.{areas, items, areaCount, itemCount, bankWords, functions, sheetWords, rowsEnd, itemEnd}
 use Rattle.lists.specs.Lists.{between, each}
 use Rattle.sheet_rules.specs.Rules.{versionRule, areaCountRule, areaOffsetRule, itemCountRule, itemOffsetRule, bankWordsRule, functionsRule, sheetWordsRule, spareWordRule, byteLengthRule, kindRule, boundsRule, lowHighRule, coverRule, pairRule, accessRule, firstLastRule, areasAscend, placesFollow, lengthsSumRule, clearAddressRule, headerSound, areasSound, itemsSound, settingsSound, sound, sheetRefusals, sheetAnswer}
 use Rattle.lists.specs.Cases.{when, firstCase}
@@ -161,11 +161,17 @@ module _ (sheet : List ℕ) where
       let n = sound-numbers e in
       omega (arith, n .words, n .bytes, n .areas-high, n .items-high)
 
--- each item row of a sound sheet is inside it
-pub row-inside : (sheet : List ℕ) → sound sheet ≡ true → (k : ℕ) → k < itemCount sheet → 2 * (itemRows sheet + 6 * k) + 12 ≤ length sheet
-row-inside sheet keeps k less =
-    let numbers = sound-numbers sheet keeps in
-    omega (arith, numbers .words, numbers .bytes, less)
+-- an item row of a sound sheet is one that the header counts just where it is inside the sheet
+module _ (sheet : List ℕ) (keeps : sound sheet ≡ true) (k : ℕ) {before end : ℕ} (count : before ≡ areaCount sheet) (says : end ≡ itemEnd before k) where
+  pub row-counted : end ≤ length sheet → k < itemCount sheet
+  row-counted inside =
+      let numbers = sound-numbers sheet keeps in
+      omega (arith, numbers .words, numbers .bytes, inside, says, count)
+
+  pub row-past : length sheet < end → itemCount sheet ≤ k
+  row-past past =
+      let numbers = sound-numbers sheet keeps in
+      omega (arith, numbers .words, numbers .bytes, past, says, count)
 
 -- ---- what the check of a sheet answers, by whether it is sound, and read back
 

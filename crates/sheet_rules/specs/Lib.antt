@@ -1,3 +1,4 @@
 pub mod Rows
 pub mod Rules
 pub mod Lookup
+pub mod Runs

@@ -15,6 +15,11 @@ liesIn [] address = Nowhere
 liesIn (area ∷ behind) address =
     cond (inArea address area) (At (area .place + (address - area .first)) (area .access)) (liesIn behind address)
 
+-- its place; 0 where nothing lies there
+abbrev pub placeIn : Lies → ℕ
+placeIn (At place access) = place
+placeIn Nowhere = 0
+
 -- the address of a place; 0x10000, which is no address, where no area has the place
 unfoldable pub addressOf : List Area → ℕ → ℕ
 addressOf [] place = 0x10000

@@ -4,6 +4,7 @@ use Prim.Native.Nat.{ℕ, zero, suc, _+_, _*_, _-_}
 use mathlib.Core.List.{List, [], _∷_}
 use Rattle.words.specs.Words.{wordAt}
 use Rattle.sheet_rules.specs.declared.Area.{Area}
+use Rattle.sheet_rules.specs.declared.Header.{Header}
 use Rattle.sheet_rules.specs.declared.Item.{Item}
 use Rattle.lists.specs.Lists.{rows}
 
@@ -63,6 +64,24 @@ clearAddress sheet = word sheet 10
 abbrev pub spareWord : List ℕ → ℕ
 spareWord sheet = word sheet 11
 
+-- the header as one value
+abbrev pub headerOf : List ℕ → Header
+headerOf sheet =
+    record {
+      version = version sheet;
+      areas = areaCount sheet;
+      «area_offset» = areaOffset sheet;
+      items = itemCount sheet;
+      «item_offset» = itemOffset sheet;
+      bank = bankWords sheet;
+      functions = functions sheet;
+      words = sheetWords sheet;
+      address = addressPlace sheet;
+      rate = ratePlace sheet;
+      clear = clearAddress sheet;
+      spare = spareWord sheet;
+    }
+
 -- where the rows of a sound sheet stand: "offset of area rows, 12", "offset of item rows, 12 + 4A", "12 + 4A + 6I"
 abbrev pub areaRows : ℕ
 areaRows = 12
@@ -83,15 +102,30 @@ areaAt sheet k =
       access = word sheet (areaRows + 4 * k + 3);
     }
 
--- "Item row: kind .., first place, low bound in two words, high bound in two words"
-unfoldable pub itemAt : List ℕ → ℕ → Item
-itemAt sheet k =
+-- "Item row: kind .., first place, low bound in two words, high bound in two words", from a word on
+unfoldable pub itemFrom : List ℕ → ℕ → Item
+itemFrom sheet n =
     record {
-      kind = word sheet (itemRows sheet + 6 * k);
-      place = word sheet (itemRows sheet + 6 * k + 1);
-      low = twoWords sheet (itemRows sheet + 6 * k + 2);
-      high = twoWords sheet (itemRows sheet + 6 * k + 4);
+      kind = word sheet n;
+      place = word sheet (n + 1);
+      low = twoWords sheet (n + 2);
+      high = twoWords sheet (n + 4);
     }
+
+-- the word at which the item row at an index begins, behind so many area rows; and how many bytes there are up to its end
+abbrev pub itemStart : ℕ → ℕ → ℕ
+itemStart before k = areaRows + 4 * before + 6 * k
+
+abbrev pub itemEnd : ℕ → ℕ → ℕ
+itemEnd before k = 2 * itemStart before k + 12
+
+-- the item row at an index, behind so many area rows
+abbrev pub itemRow : List ℕ → ℕ → ℕ → Item
+itemRow sheet before k = itemFrom sheet (itemStart before k)
+
+-- the item row at an index: "offset of item rows, 12 + 4A"
+abbrev pub itemAt : List ℕ → ℕ → Item
+itemAt sheet k = itemRow sheet (areaCount sheet) k
 
 unfoldable pub areas : List ℕ → List Area
 unfolding rows areaAt
@@ -102,5 +136,5 @@ abbrev pub areasFrom : List ℕ → ℕ → List Area
 areasFrom sheet k = rows (areaAt sheet) k (areaCount sheet - k)
 
 unfoldable pub items : List ℕ → List Item
-unfolding rows itemAt
+unfolding rows itemFrom
 items sheet = rows (itemAt sheet) 0 (itemCount sheet)

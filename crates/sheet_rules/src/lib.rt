@@ -1,5 +1,22 @@
 // The rules of a sheet, with their laws: specs/ and proofs/ hold them. Here are the types that they speak of; there is no code.
 
+// The header. 01: "Header, 12 words": the numbers of areas, items and bank words, the places of the address and the rate, the clear
+// address, and the rest.
+pub struct Header {
+    pub version: u16,
+    pub areas: u16,
+    pub area_offset: u16,
+    pub items: u16,
+    pub item_offset: u16,
+    pub bank: u16,
+    pub functions: u16,
+    pub words: u16,
+    pub address: u16,
+    pub rate: u16,
+    pub clear: u16,
+    pub spare: u16,
+}
+
 // An area row. 01: "first address, last address, first place, access".
 pub struct Area {
     pub first: u16,
@@ -20,4 +37,16 @@ pub struct Item {
 pub enum Lies {
     At { place: u32, access: u16 },
     Nowhere,
+}
+
+// What a run of addresses is for.
+pub enum Purpose {
+    Read,
+    Write,
+}
+
+// A run of addresses from a start on: the place of the start, and the first address that is not open.
+pub struct Run {
+    pub place: u32,
+    pub end: u32,
 }

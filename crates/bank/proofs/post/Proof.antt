@@ -17,7 +17,7 @@ use Rattle.refusals.specs.declared.Answer.the-variants.{Done, Refused}
 use Rattle.refusals.proofs.Answers.{front-refuses, front-passes, refused-here, passed-here}
 use Rattle.bank_rules.specs.Bank.{postedRun, allReadOnly, emptyOrOdd, postStores}
 use Rattle.bank_rules.specs.Calls.{Lent, lent, badAddress, checkRefusals, checkAnswer, postAnswer, postOutcome}
-use Rattle.bank_rules.proofs.Reach.{read-only-run}
+use Rattle.bank_rules.proofs.Posting.{read-only-run}
 use Rattle.bank.proofs.Refusals.{outcome-refused, outcome-done}
 use borrow.Author.Needs.{needs}
 use Rattle.bank.proofs.post.Statement.{statement}

@@ -14,25 +14,10 @@ use borrow.Author.Needs.{needs}
 use Rattle.meter.proofs.answer.Statement.{statement}
 use Rattle.meter.proofs.answer.Tie as tie
 
-check-requires : tie.Need-check-requires
-check-requires c κs = search needs
-
-enum-told : tie.Need-enum-told
-enum-told c = search needs
-
-enum-known-refusal : tie.Need-enum-known-refusal
-enum-known-refusal c = search needs
-
-same-length : tie.Need-same-length
-same-length c = search needs
-
 returns : tie.Need-returns
 returns c =
     let a = c .before .before .before .before .before .before .before .before .before .args in
     answer-refused (lent (now (a .sheet)) (now (a .bank))) (now (a .frame)) (now (a .buffer)) (c .before .before .before .check .ensures) (c .before .refusal .given .1)
-
-same-length-2 : tie.Need-same-length-2
-same-length-2 c = search needs
 
 returns-2 : tie.Need-returns-2
 returns-2 c =
@@ -50,12 +35,6 @@ acted-requires c κs =
     let a = c .before .before .before .before .before .before .before .before .before .before .before .before .before .args in
     judged-room (now (a .sheet)) (now (a .bank)) (now (a .frame)) (now (a .buffer)) (c .before .before .judged .ensures) (c .before .before .before .before .if1 .left)
 
-same-length-3 : tie.Need-same-length-3
-same-length-3 c = search needs
-
-same-length-4 : tie.Need-same-length-4
-same-length-4 c = search needs
-
 returns-3 : tie.Need-returns-3
 returns-3 c =
     let a = c .before .before .before .before .before .before .before .before .before .before .before .before .before .before .before .before .before .before .args in
@@ -68,15 +47,15 @@ pub answer-spec : {M : Type 1} → statement M
 answer-spec =
     tie.close
     (tie.spec
-    check-requires
-    enum-told
-    enum-known-refusal
-    same-length
+    (λ c κs. search needs)
+    (λ c. search needs)
+    (λ c. search needs)
+    (λ c. search needs)
     returns
-    same-length-2
+    (λ c. search needs)
     returns-2
     judged-requires
     acted-requires
-    same-length-3
-    same-length-4
+    (λ c. search needs)
+    (λ c. search needs)
     returns-3)

@@ -12,7 +12,7 @@ use Rattle.lists.specs.Lists.{upFrom}
 use Rattle.sheet_rules.specs.Lookup.{liesIn}
 use Rattle.bank_rules.specs.Bank.{isReadOnly, allReadOnly}
 use Rattle.lists.proofs.Walks.{up-on, up-end, up-all, each-goes-on, each-stops, each-ends}
-use Rattle.bank_rules.proofs.Reach.{read-only-below}
+use Rattle.bank_rules.proofs.Posting.{read-only-below}
 use Rattle.bank.proofs.post_words.all_read_only.Statement.{statement}
 use Rattle.bank.proofs.post_words.all_read_only.Tie as tie
 

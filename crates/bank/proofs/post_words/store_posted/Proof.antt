@@ -10,9 +10,9 @@ use lib.ListN.{length}
 use Rattle.words.specs.Words.{withWord}
 use Rattle.words.proofs.Stores.{word-length}
 use Rattle.sheet_rules.specs.Rows.{areas}
-use Rattle.sheet_rules.specs.Lookup.{liesIn}
+use Rattle.sheet_rules.specs.Lookup.{liesIn, placeIn}
 use Rattle.bank_rules.specs.Stores.{stored}
-use Rattle.bank_rules.specs.Bank.{placeIn, postStore, postStores}
+use Rattle.bank_rules.specs.Bank.{postStore, postStores}
 use Rattle.bank_rules.proofs.Stores.{storesFrom, stores-start, stores-go-on, stores-end}
 use Rattle.bank.proofs.post_words.store_posted.Statement.{statement}
 use Rattle.bank.proofs.post_words.store_posted.Tie as tie

@@ -1,86 +1,83 @@
 -- `meter::stages::judged_write` meets its contract: steps 6 and 7 for a write. Assumes nothing.
 use native.Mathlib.Omega.{arith}
-use borrow.Author.Tests.{not-true, not-false}
+use mathlib.Core.Path.{ap}
 use denote.Ref.{now}
+use borrow.Author.Needs.{needs}
+use Rattle.sheet_rules.specs.declared.Purpose.the-variants.{Write}
+use Rattle.sheet_rules.specs.declared.Run.{Run}
+use Rattle.sheet_rules.proofs.Reach.{run-shut, run-open}
 use Rattle.meter_rules.proofs.Placing.{place-small}
 use Rattle.meter.proofs.Writing.{write-shut, write-stopped, write-good}
-use borrow.Author.Needs.{needs}
 use Rattle.meter.proofs.stages.judged_write.Statement.{statement}
 use Rattle.meter.proofs.stages.judged_write.Tie as tie
 
--- src/stages.rt:150:9
-many-of-requires : tie.Need-many-of-requires
-many-of-requires c κs = search needs
-
--- src/stages.rt:151:9
-all-open-requires : tie.Need-all-open-requires
-all-open-requires c κs = search needs
-
--- src/stages.rt:152:9
 returns : tie.Need-returns
 returns c =
-    let a = c .before .before .before .before .before .before .args in
-    let pre = c .before .before .before .before .before .before .pre in
-    write-shut (now (a .sheet)) (now (a .bank)) (now (a .frame)) (pre .1) (a .parts) (pre .0 .apart) (c .before .before .many-of .ensures)
-    (c .before .all-open .ensures) (not-true (c .before .all-open .result) (c .if1 .taken))
+    let a = c .before .before .before .before .before .before .before .before .before .args in
+    let pre = c .before .before .before .before .before .before .before .before .before .pre in
+    let sheet = now (a .sheet) in
+    let many = c .before .before .before .before .before .many-of in
+    let run = c .before .before .before .reached .ensures in
+    write-shut sheet (now (a .bank)) (now (a .frame)) (pre .1) (a .parts) (pre .0 .apart) (many .ensures)
+    (run-shut sheet (pre .0 .sheetSound) Write (a .parts .start) run (many .result) (c .if1 .taken))
 
--- src/stages.rt:155:17
-values-at-requires : tie.Need-values-at-requires
-values-at-requires c κs = search needs
-
--- src/stages.rt:156:16
-place-of-requires : tie.Need-place-of-requires
-place-of-requires c κs = search needs
-
--- src/stages.rt:157:15
-cast-t13 : tie.Need-cast-t13
-cast-t13 c = search needs
-
--- src/stages.rt:159:9
 stop-place-requires : tie.Need-stop-place-requires
 stop-place-requires c κs =
-    let a = c .before .before .before .before .before .before .before .before .args in
-    let keeps = c .before .before .before .before .before .before .before .before .pre .0 .sheetSound in
-    let small = place-small (now (a .sheet)) keeps (a .parts .start) in
-    (keeps, (c .before .values-at .ensures, omega (arith, small, c .place-of .ensures, c .before .before .before .before .many-of .ok)))
+    let a = c .before .before .before .before .before .before .before .before .before .before .args in
+    let pre = c .before .before .before .before .before .before .before .before .before .before .pre in
+    let sheet = now (a .sheet) in
+    let many = c .before .before .before .before .before .before .many-of in
+    let run = c .before .before .before .before .reached .ensures in
+    let small = place-small sheet (pre .0 .sheetSound) (a .parts .start) in
+    let place = ap (λ (r : Run). r .place) run in
+    (pre .0 .sheetSound, (c .values-at .ensures, omega (arith, small, place, many .ok)))
 
--- src/stages.rt:160:15
 add-if2 : tie.Need-add-if2
 add-if2 c =
-    let a = c .before .before .before .before .before .before .before .before .before .before .args in
-    let small = place-small (now (a .sheet)) (c .before .before .before .before .before .before .before .before .before .before .pre .0 .sheetSound) (a .parts .start) in
-    omega (arith, small, c .before .before .place-of .ensures, c .before .before .before .before .before .before .many-of .ok)
+    let a = c .before .before .before .before .before .before .before .before .before .before .before .before .args in
+    let pre = c .before .before .before .before .before .before .before .before .before .before .before .before .pre in
+    let sheet = now (a .sheet) in
+    let many = c .before .before .before .before .before .before .before .before .many-of in
+    let run = c .before .before .before .before .before .before .reached .ensures in
+    let small = place-small sheet (pre .0 .sheetSound) (a .parts .start) in
+    let place = ap (λ (r : Run). r .place) run in
+    omega (arith, small, place, many .ok)
 
--- src/stages.rt:161:9
 returns-2 : tie.Need-returns-2
 returns-2 c =
-    let d = c .before .before .before .before .before in
-    let a = c .before .before .before .before .before .before .before .before .before .before .before .args in
-    let pre = c .before .before .before .before .before .before .before .before .before .before .before .pre in
-    write-stopped (now (a .sheet)) (now (a .bank)) (now (a .frame)) (pre .1) (a .parts) (pre .0 .apart) (d .before .before .many-of .ensures)
-    (d .before .all-open .ensures) (not-false (d .before .all-open .result) (d .if1 .left))
-    (c .before .before .before .place-of .ensures) (c .before .before .stop-place .ensures) (c .if2 .taken)
+    let a = c .before .before .before .before .before .before .before .before .before .before .before .before .before .args in
+    let pre = c .before .before .before .before .before .before .before .before .before .before .before .before .before .pre in
+    let sheet = now (a .sheet) in
+    let many = c .before .before .before .before .before .before .before .before .before .many-of in
+    let run = c .before .before .before .before .before .before .before .reached .ensures in
+    write-stopped sheet (now (a .bank)) (now (a .frame)) (pre .1) (a .parts) (pre .0 .apart) (many .ensures)
+    (run-open sheet (pre .0 .sheetSound) Write (a .parts .start) run (many .result) (c .before .before .before .before .if1 .left))
+    (ap (λ (r : Run). r .place) run) (c .before .before .stop-place .ensures) (c .if2 .taken)
 
--- src/stages.rt:145:1
 returns-3 : tie.Need-returns-3
 returns-3 c =
-    let d = c .before .before .before .before .before in
-    let a = c .before .before .before .before .before .before .before .before .before .before .before .args in
-    let pre = c .before .before .before .before .before .before .before .before .before .before .before .pre in
-    write-good (now (a .sheet)) (now (a .bank)) (now (a .frame)) (pre .1) (a .parts) (pre .0 .apart) (d .before .before .many-of .ensures)
-    (d .before .all-open .ensures) (not-false (d .before .all-open .result) (d .if1 .left))
-    (c .before .before .before .place-of .ensures) (c .before .before .stop-place .ensures) (c .if2 .left)
+    let a = c .before .before .before .before .before .before .before .before .before .before .before .before .before .args in
+    let pre = c .before .before .before .before .before .before .before .before .before .before .before .before .before .pre in
+    let sheet = now (a .sheet) in
+    let many = c .before .before .before .before .before .before .before .before .before .many-of in
+    let run = c .before .before .before .before .before .before .before .reached .ensures in
+    write-good sheet (now (a .bank)) (now (a .frame)) (pre .1) (a .parts) (pre .0 .apart) (many .ensures)
+    (run-open sheet (pre .0 .sheetSound) Write (a .parts .start) run (many .result) (c .before .before .before .before .if1 .left))
+    (ap (λ (r : Run). r .place) run) (c .before .before .stop-place .ensures) (c .if2 .left)
 
 pub judged-write-spec : {M : Type 1} → statement M
 judged-write-spec =
     tie.close
     (tie.spec
-    many-of-requires
-    all-open-requires
+    (λ c κs. search needs)
+    (λ c. search needs)
+    (λ c κs. search needs)
+    (λ c. search needs)
+    (λ c. search needs)
+    (λ c. search needs)
     returns
-    values-at-requires
-    place-of-requires
-    cast-t13
+    (λ c κs. search needs)
+    (λ c. search needs)
     stop-place-requires
     add-if2
     returns-2

@@ -2,9 +2,10 @@
 -- Assumes nothing.
 use Prim.Native.Nat.{ℕ, _+_, _-_, _/_, _≤_, _<_}
 use native.Mathlib.Omega.{arith}
+use mathlib.Core.Path.{ap, _∙_}
 use denote.Ref.{now}
 use borrow.Author.Needs.{needs}
-use Rattle.sheet_rules.specs.Rows.{itemCount, itemAt}
+use Rattle.sheet_rules.specs.Rows.{itemCount, itemAt, itemRow}
 use Rattle.meter_rules.proofs.Stopping.{all-in-front}
 use Rattle.meter.proofs.values.first_near.Statement.{statement}
 use Rattle.meter.proofs.values.first_near.Tie as tie
@@ -16,35 +17,8 @@ Inv-loop sheet place areas near₀ past₀ near past =
 abbrev μ-loop : tie.MeasureT-loop
 μ-loop sheet place areas near₀ past₀ near past = past - near
 
-area-count-requires : tie.Need-area-count-requires Inv-loop μ-loop
-area-count-requires c κs = search needs
-
-item-count-requires : tie.Need-item-count-requires Inv-loop μ-loop
-item-count-requires c κs = search needs
-
 loop-holds : tie.Need-loop-holds Inv-loop μ-loop
 loop-holds c = (omega arith, omega (arith, c .item-count .ensures), λ k none. absurd (omega arith))
-
-sub-middle : tie.Need-sub-middle Inv-loop μ-loop
-sub-middle c = omega arith
-
-add-middle : tie.Need-add-middle Inv-loop μ-loop
-add-middle c = omega arith
-
-place-at-requires : tie.Need-place-at-requires Inv-loop μ-loop
-place-at-requires c κs = c .before .before .before .area-count .ensures
-
-cast-if1 : tie.Need-cast-if1 Inv-loop μ-loop
-cast-if1 c = omega arith
-
-add-if1 : tie.Need-add-if1 Inv-loop μ-loop
-add-if1 c = omega arith
-
-add-near : tie.Need-add-near Inv-loop μ-loop
-add-near c = omega arith
-
-loop-less : tie.Need-loop-less Inv-loop μ-loop
-loop-less c = omega arith
 
 loop-again : tie.Need-loop-again Inv-loop μ-loop
 loop-again c =
@@ -54,11 +28,12 @@ loop-again c =
       omega arith,
       loop .inv .1,
       all-in-front (now (d .args .sheet)) (d .pre) (d .args .place) middle (omega (arith, loop .inv .1))
-          (omega (arith, c .if1 .taken, c .before .place-at .ensures)),
+          (omega (
+            arith,
+            c .if1 .taken,
+            c .before .item-place .ensures ∙ ap (λ (n : ℕ). itemRow (now (d .args .sheet)) n middle .place) (c .before .before .before .before .before .area-count .ensures),
+          )),
     )
-
-loop-less-2 : tie.Need-loop-less-2 Inv-loop μ-loop
-loop-less-2 c = omega arith
 
 loop-again-2 : tie.Need-loop-again-2 Inv-loop μ-loop
 loop-again-2 c =
@@ -76,17 +51,17 @@ first-near-spec =
     (tie.spec
     Inv-loop
     μ-loop
-    area-count-requires
-    item-count-requires
+    (λ c κs. search needs)
+    (λ c κs. search needs)
     loop-holds
-    sub-middle
-    add-middle
-    place-at-requires
-    cast-if1
-    add-if1
-    add-near
-    loop-less
+    (λ c. omega arith)
+    (λ c. omega arith)
+    (λ c κs. search needs)
+    (λ c. omega arith)
+    (λ c. omega arith)
+    (λ c. omega arith)
+    (λ c. omega arith)
     loop-again
-    loop-less-2
+    (λ c. omega arith)
     loop-again-2
     returns)

@@ -8,7 +8,8 @@ use lib.Dec.{leb, eqb}
 use denote.Ref.{now}
 use borrow.Author.Needs.{needs}
 use borrow.Author.Tests.{leb-true}
-use Rattle.sheet_rules.specs.Rows.{areaCount, itemCount}
+use Rattle.sheet_rules.specs.declared.Header.{Header}
+use Rattle.sheet_rules.specs.Rows.{areaCount, itemCount, itemRow}
 use Rattle.sheet_rules.specs.Rules.{itemsSound, settingsSound, addressItem, rateItem}
 use Rattle.sheet.specs.Cover.{sizeOf, placesLeft, UnderWay}
 use Rattle.lists.proofs.Tests.{refused, passed, second-of}
@@ -23,70 +24,94 @@ Inv-loop sheet areas count address-place rate-place cover₀ address₀ rate₀ 
     × (asked sheet (itemsFrom sheet k) (placesLeft sheet cover) address rate ≡ (itemsSound sheet && settingsSound sheet))
 
 abbrev μ-loop : tie.MeasureT-loop
-μ-loop sheet areas count address-place rate-place cover₀ address₀ rate₀ k₀ cover address rate k =
-    count - k
-
-area-count-requires : tie.Need-area-count-requires Inv-loop μ-loop
-area-count-requires c κs = search needs
-
-item-count-requires : tie.Need-item-count-requires Inv-loop μ-loop
-item-count-requires c κs = search needs
-
-address-place-requires : tie.Need-address-place-requires Inv-loop μ-loop
-address-place-requires c κs = search needs
-
-rate-place-requires : tie.Need-rate-place-requires Inv-loop μ-loop
-rate-place-requires c κs = search needs
+μ-loop sheet areas count address-place rate-place cover₀ address₀ rate₀ k₀ cover address rate k = count - k
 
 returns : tie.Need-returns Inv-loop μ-loop
-returns c = let s = now (c .before .before .before .before .before .before .args .sheet) in
-    sym (asked-same s (sym (c .before .before .address-place .ensures) ∙ c .if1 .taken ∙ c .before .rate-place .ensures))
+returns c =
+    let s = now (c .before .before .args .sheet) in
+    let header = c .before .before .pre .0 in
+    sym (asked-same s (sym (ap (λ (h : Header). h .address) header) ∙ c .if1 .taken ∙ ap (λ (h : Header). h .rate) header))
 
 loop-holds : tie.Need-loop-holds Inv-loop μ-loop
-loop-holds c = let s = now (c .before .before .before .before .before .before .args .sheet) in (
-  c .before .before .before .before .area-count .ensures,
-  c .before .before .before .item-count .ensures,
-  omega arith,
-  way-start s (c .before .before .before .before .before .before .pre .0),
-  asked-all s (λ same. c .if1 .left (c .before .before .address-place .ensures ∙ same ∙ sym (c .before .rate-place .ensures))),
-)
-
-item-inside-requires : tie.Need-item-inside-requires Inv-loop μ-loop
-item-inside-requires c κs =
-    let inv = c .before .loop .inv in
-    (inv .0, omega (arith, inv .0, inv .1, c .before .before .before .before .before .before .before .before .pre .1))
+loop-holds c =
+    let s = now (c .before .before .args .sheet) in
+    let header = c .before .before .pre .0 in (
+      ap (λ (h : Header). h .areas) header,
+      ap (λ (h : Header). h .items) header,
+      omega arith,
+      way-start s (c .before .before .pre .1),
+      asked-all s (λ same. c .if1 .left (ap (λ (h : Header). h .address) header ∙ same ∙ sym (ap (λ (h : Header). h .rate) header))),
+    )
 
 opened-requires : tie.Need-opened-requires Inv-loop μ-loop
-opened-requires c κs = (c .before .before .loop .inv .0, (c .before .before .loop .inv .3, c .before .before .before .before .before .before .before .before .before .pre .1))
+opened-requires c κs = (c .loop .inv .0, c .loop .inv .3)
+
+returns-2 : tie.Need-returns-2 Inv-loop μ-loop
+returns-2 c =
+    let s = now (c .before .before .before .before .before .before .before .args .sheet) in
+    let loop = c .before .before .before .before .loop in
+    let at = c .before .before .before .opened in
+    sym (refused-left s (loop .k) (loop .cover) (at .result) (at .ensures) (loop .address) (loop .rate) (omega (arith, loop .inv .1)) (c .if3 .taken))
+    ∙ loop .inv .4
+
+returns-3 : tie.Need-returns-3 Inv-loop μ-loop
+returns-3 c =
+    let s = now (c .before .before .before .before .before .before .before .before .args .sheet) in
+    let loop = c .before .before .before .before .before .loop in
+    let at = c .before .before .before .before .opened in
+    sym (ap (λ (b : Bool). b && loop .rate) (c .if4 .taken))
+    ∙ sym (passed-all s (loop .k) (loop .cover) (at .result) (at .ensures) (loop .address) (loop .rate) (omega (arith, loop .inv .1)) (c .before .if3 .left))
+    ∙ loop .inv .4
+
+returns-4 : tie.Need-returns-4 Inv-loop μ-loop
+returns-4 c =
+    let s = now (c .before .before .before .before .before .before .before .before .args .sheet) in
+    let loop = c .before .before .before .before .before .loop in
+    let at = c .before .before .before .before .opened in
+    c .if4 .left ∙ sym (ap (λ (b : Bool). b && loop .rate) (c .if4 .left))
+    ∙ sym (passed-all s (loop .k) (loop .cover) (at .result) (at .ensures) (loop .address) (loop .rate) (omega (arith, loop .inv .1)) (c .before .if3 .left))
+    ∙ loop .inv .4
+
+item-row-requires : tie.Need-item-row-requires Inv-loop μ-loop
+item-row-requires c κs = search needs
 
 row-sound-requires : tie.Need-row-sound-requires Inv-loop μ-loop
 row-sound-requires c κs = search needs
 
-returns-2 : tie.Need-returns-2 Inv-loop μ-loop
-returns-2 c = sym (refused-itself (now (c .before .before .before .before .before .before .before .before .before .before .before .before .args .sheet)) (c .before .before .before .before .before .loop .k) (c .before .before .before .before .before .loop .cover) (c .before .before .opened .result) (c .before .before .opened .ensures) (c .before .before .before .before .before .loop .address) (c .before .before .before .before .before .loop .rate)
-    (c .before .before .before .item-inside .result) (c .before .before .before .item-inside .ensures) (omega arith) (refused (c .before .row-sound .ensures) (c .if2 .taken)))
-    ∙ c .before .before .before .before .before .loop .inv .4
+returns-5 : tie.Need-returns-5 Inv-loop μ-loop
+returns-5 c =
+    let s = now (c .before .before .before .before .before .before .before .before .args .sheet) in
+    let loop = c .before .before .before .before .before .loop in
+    let at = c .before .before .before .before .opened in
+    let row = c .before .before .item-row in
+    let item-says = row .ensures ∙ ap (λ (n : ℕ). itemRow s n (loop .k)) (loop .inv .0) in
+    sym (refused-itself s (loop .k) (loop .cover) (at .result) (at .ensures) (loop .address) (loop .rate) (row .result) item-says (omega (arith, loop .inv .1))
+    (refused (c .before .row-sound .ensures) (c .if5 .taken)))
+    ∙ loop .inv .4
 
 covers-requires : tie.Need-covers-requires Inv-loop μ-loop
-covers-requires c κs = omega (arith, c .before .before .opened .ensures .underWay .ordered, c .before .before .opened .ensures .underWay .small)
+covers-requires c κs =
+    let at = c .before .before .before .before .opened .ensures .underWay in
+    omega (arith, at .ordered, at .small)
 
-returns-3 : tie.Need-returns-3 Inv-loop μ-loop
-returns-3 c = sym (refused-place (now (c .before .before .before .before .before .before .before .before .before .before .before .before .before .before .args .sheet)) (c .before .before .before .before .before .before .before .loop .k) (c .before .before .before .before .before .before .before .loop .cover) (c .before .before .before .before .opened .result) (c .before .before .before .before .opened .ensures) (c .before .before .before .before .before .before .before .loop .address) (c .before .before .before .before .before .before .before .loop .rate)
-    (c .before .before .before .before .before .item-inside .result) (c .before .before .before .before .before .item-inside .ensures) (omega arith) (passed (c .before .before .before .row-sound .ensures) (c .before .before .if2 .left))
-    (refused (c .before .covers .ensures) (c .if3 .taken)))
-    ∙ c .before .before .before .before .before .before .before .loop .inv .4
+returns-6 : tie.Need-returns-6 Inv-loop μ-loop
+returns-6 c =
+    let s = now (c .before .before .before .before .before .before .before .before .before .before .args .sheet) in
+    let loop = c .before .before .before .before .before .before .before .loop in
+    let at = c .before .before .before .before .before .before .opened in
+    let row = c .before .before .before .before .item-row in
+    let item-says = row .ensures ∙ ap (λ (n : ℕ). itemRow s n (loop .k)) (loop .inv .0) in
+    sym (refused-place s (loop .k) (loop .cover) (at .result) (at .ensures) (loop .address) (loop .rate) (row .result) item-says (omega (arith, loop .inv .1))
+    (passed (c .before .before .before .row-sound .ensures) (c .before .before .if5 .left)) (refused (c .before .covers .ensures) (c .if6 .taken)))
+    ∙ loop .inv .4
 
 size-of-requires : tie.Need-size-of-requires Inv-loop μ-loop
 size-of-requires c κs = search needs
 
-add-t17 : tie.Need-add-t17 Inv-loop μ-loop
-add-t17 c = omega (
-  arith,
-  c .before .before .before .before .before .before .opened .ensures .underWay .ordered,
-  c .before .before .before .before .before .before .opened .ensures .underWay .small,
-  c .before .size-of .ensures,
-  size-small (c .before .before .before .before .before .before .before .item-inside .result),
-)
+add-t19 : tie.Need-add-t19 Inv-loop μ-loop
+add-t19 c =
+    let at = c .before .before .before .before .before .before .before .before .opened .ensures .underWay in
+    omega (arith, at .ordered, at .small, c .before .size-of .ensures, size-small (c .before .before .before .before .before .before .item-row .result))
 
 address-found-requires : tie.Need-address-found-requires Inv-loop μ-loop
 address-found-requires c κs = search needs
@@ -101,46 +126,32 @@ loop-less : tie.Need-loop-less Inv-loop μ-loop
 loop-less c = search needs
 
 loop-again : tie.Need-loop-again Inv-loop μ-loop
-loop-again c = let s = now (c .before .before .before .before .before .before .before .before .before .before .before .before .before .before .before .before .before .before .args .sheet) in
-    let l = c .before .before .before .before .before .before .before .before .before .before .before .loop in
-    let item = c .before .before .before .before .before .before .before .before .before .item-inside .result in
-    let at = c .before .before .before .before .before .before .before .before .opened in
-    let here = passed (c .before .before .before .before .before .covers .ensures) (c .before .before .before .before .if3 .left) in
-    let size = c .before .before .before .size-of .ensures in (
-      l .inv .0,
-      l .inv .1,
-      omega arith,
-      way-on s (at .result) (c .before .before .before .size-of .result) (at .ensures .underWay)
+loop-again c =
+    let s = now (c .before .before .before .before .before .before .before .before .before .before .before .before .before .before .args .sheet) in
+    let loop = c .before .before .before .before .before .before .before .before .before .before .before .loop in
+    let at = c .before .before .before .before .before .before .before .before .before .before .opened in
+    let row = c .before .before .before .before .before .before .before .before .item-row in
+    let item-says = row .ensures ∙ ap (λ (n : ℕ). itemRow s n (loop .k)) (loop .inv .0) in
+    let item = row .result in
+    let header = c .before .before .before .before .before .before .before .before .before .before .before .before .before .before .pre .0 in
+    let fits = passed (c .before .before .before .before .before .covers .ensures) (c .before .before .before .before .if6 .left) in
+    let size = c .before .before .before .size-of in (
+      loop .inv .0,
+      loop .inv .1,
+      omega (arith, loop .inv .1),
+      way-on s (at .result) (size .result) (at .ensures .underWay)
           (omega (
             arith,
-            size,
+            size .ensures,
             leb-true (at .result .next + sizeOf item) (at .result .end)
-                (second-of (eqb (item .place) (at .result .next)) (leb (at .result .next + sizeOf item) (at .result .end)) here),
+                (second-of (eqb (item .place) (at .result .next)) (leb (at .result .next + sizeOf item) (at .result .end)) fits),
           )),
-      sym (passed-on (now (c .before .before .before .before .before .before .before .before .before .before .before .before .before .before .before .before .before .before .args .sheet)) (c .before .before .before .before .before .before .before .before .before .before .before .loop .k) (c .before .before .before .before .before .before .before .before .before .before .before .loop .cover) (c .before .before .before .before .before .before .before .before .opened .result) (c .before .before .before .before .before .before .before .before .opened .ensures) (c .before .before .before .before .before .before .before .before .before .before .before .loop .address) (c .before .before .before .before .before .before .before .before .before .before .before .loop .rate)
-          (c .before .before .before .before .before .before .before .before .before .item-inside .result) (c .before .before .before .before .before .before .before .before .before .item-inside .ensures) (omega arith) (passed (c .before .before .before .before .before .before .before .row-sound .ensures) (c .before .before .before .before .before .before .if2 .left)) here
-          size
-          (c .before .address-found .ensures ∙ ap (λ (n : ℕ). l .address || addressItem n item) (c .before .before .before .before .before .before .before .before .before .before .before .before .before .before .address-place .ensures))
-          (c .rate-found .ensures ∙ ap (λ (n : ℕ). l .rate || rateItem n item) (c .before .before .before .before .before .before .before .before .before .before .before .before .before .rate-place .ensures)))
-          ∙ l .inv .4,
+      sym (passed-on s (loop .k) (loop .cover) (at .result) (at .ensures) (loop .address) (loop .rate) item item-says
+          (omega (arith, loop .inv .1)) (passed (c .before .before .before .before .before .before .before .row-sound .ensures) (c .before .before .before .before .before .before .if5 .left)) fits (size .ensures)
+          (c .before .address-found .ensures ∙ ap (λ (h : Header). loop .address || addressItem (h .address) item) header)
+          (c .rate-found .ensures ∙ ap (λ (h : Header). loop .rate || rateItem (h .rate) item) header))
+          ∙ loop .inv .4,
     )
-
-opened-requires-2 : tie.Need-opened-requires-2 Inv-loop μ-loop
-opened-requires-2 c κs = (c .before .loop .inv .0, (c .before .loop .inv .3, c .before .before .before .before .before .before .before .before .pre .1))
-
-returns-4 : tie.Need-returns-4 Inv-loop μ-loop
-returns-4 c = sym (refused-left (now (c .before .before .before .before .before .before .before .before .before .before .before .args .sheet)) (c .before .before .before .before .loop .k) (c .before .before .before .before .loop .cover) (c .before .before .opened2 .result) (c .before .before .opened2 .ensures) (c .before .before .before .before .loop .address) (c .before .before .before .before .loop .rate)
-    (omega arith) (c .if4 .taken)) ∙ c .before .before .before .before .loop .inv .4
-
-returns-5 : tie.Need-returns-5 Inv-loop μ-loop
-returns-5 c = sym (ap (λ (b : Bool). b && c .before .before .before .before .before .loop .rate) (c .if5 .taken))
-    ∙ sym (passed-all (now (c .before .before .before .before .before .before .before .before .before .before .before .before .args .sheet)) (c .before .before .before .before .before .loop .k) (c .before .before .before .before .before .loop .cover) (c .before .before .before .opened2 .result) (c .before .before .before .opened2 .ensures) (c .before .before .before .before .before .loop .address) (c .before .before .before .before .before .loop .rate)
-    (omega arith) (c .before .if4 .left)) ∙ c .before .before .before .before .before .loop .inv .4
-
-returns-6 : tie.Need-returns-6 Inv-loop μ-loop
-returns-6 c = c .if5 .left ∙ sym (ap (λ (b : Bool). b && c .before .before .before .before .before .loop .rate) (c .if5 .left))
-    ∙ sym (passed-all (now (c .before .before .before .before .before .before .before .before .before .before .before .before .args .sheet)) (c .before .before .before .before .before .loop .k) (c .before .before .before .before .before .loop .cover) (c .before .before .before .opened2 .result) (c .before .before .before .opened2 .ensures) (c .before .before .before .before .before .loop .address) (c .before .before .before .before .before .loop .rate)
-    (omega arith) (c .before .if4 .left)) ∙ c .before .before .before .before .before .loop .inv .4
 
 pub items-and-settings-sound-spec : {M : Type 1} → statement M
 items-and-settings-sound-spec =
@@ -148,26 +159,21 @@ items-and-settings-sound-spec =
     (tie.spec
     Inv-loop
     μ-loop
-    area-count-requires
-    item-count-requires
-    address-place-requires
-    rate-place-requires
     returns
     loop-holds
-    item-inside-requires
     opened-requires
-    row-sound-requires
     returns-2
-    covers-requires
     returns-3
+    returns-4
+    item-row-requires
+    row-sound-requires
+    returns-5
+    covers-requires
+    returns-6
     size-of-requires
-    add-t17
+    add-t19
     address-found-requires
     rate-found-requires
     add-k
     loop-less
-    loop-again
-    opened-requires-2
-    returns-4
-    returns-5
-    returns-6)
+    loop-again)

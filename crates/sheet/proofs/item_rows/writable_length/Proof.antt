@@ -1,17 +1,31 @@
 -- `sheet::item_rows::writable_length` meets its contract. Assumes nothing.
-use borrow.Author.Tests.{eq-eqb, ne-eqb}
+use native.Mathlib.Omega.{arith}
+use borrow.Author.Tests.{eq-eqb, ne-eqb, leb-true}
+use Rattle.sheet_rules.specs.Rules.{readAndWrite}
 use borrow.Author.Needs.{needs}
 use Rattle.sheet.proofs.item_rows.writable_length.Statement.{statement}
 use Rattle.sheet.proofs.item_rows.writable_length.Tie as tie
 
 returns : tie.Need-returns
-returns c = simp (ne-eqb _ _ (c .if1 .taken))
+returns c = simp (ne-eqb (c .before .before .args .area .access) readAndWrite (c .if1 .taken))
 
-length-of-requires : tie.Need-length-of-requires
-length-of-requires c κs = search needs
+cast-result : tie.Need-cast-result
+cast-result c = search needs
+
+add-result : tie.Need-add-result
+add-result c = search needs
+
+cast-result-2 : tie.Need-cast-result-2
+cast-result-2 c = search needs
+
+sub-result : tie.Need-sub-result
+sub-result c =
+    let area = c .before .before .before .before .args .area in
+    omega (arith, leb-true (area .first) (area .last) (c .before .before .before .before .pre))
 
 returns-2 : tie.Need-returns-2
-returns-2 c = simp (eq-eqb _ _ (c .before .if1 .left), c .length-of .ensures)
+returns-2 c = simp (eq-eqb (c .before .before .before .before .args .area .access) readAndWrite (c .before .before .if1 .left))
 
 pub writable-length-spec : {M : Type 1} → statement M
-writable-length-spec = tie.close (tie.spec returns length-of-requires returns-2)
+writable-length-spec =
+    tie.close (tie.spec returns cast-result add-result cast-result-2 sub-result returns-2)
