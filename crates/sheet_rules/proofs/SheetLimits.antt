@@ -1,5 +1,6 @@
--- Both sides of every limit of 01, "The sheet": a sheet with some of its words changed, the words of 01 in front of the rows that are about
--- them, as one table under one statement. Where it can be, a row has one fault alone; the row beside it has none. Assumes nothing.
+-- Both sides of every limit in 01's rules of the sheet, as one table under one statement: a sheet with some of its words changed, and whether
+-- it is sound, typed from 01. A broken sheet has one fault alone where that can be; the comment behind a row says which side it is on.
+-- Assumes nothing.
 use mathlib.Core.Path.{_≡_, refl}
 use mathlib.Core.Bool.{Bool, true, not}
 use mathlib.Core.List.{List, [], _∷_, _++_}
@@ -105,202 +106,192 @@ right (broken-bytes bytes) = not (sound bytes)
 
 pub table : List Row
 table =
-    -- "0 version, 1"
-    broken-with base (at 0 0 ∷ [])
-    ∷ sound-with base []
-    ∷ broken-with base (at 0 2 ∷ [])
-    -- "1 number of areas A, 1 to 8": 0, 1, 8, 9
-    ∷ broken-with (built 0 2 2) []
-    ∷ sound-with (built 1 2 2) []
-    ∷ sound-with (built 8 2 9) []
-    ∷ broken-with (built 9 2 10) []
-    -- "2 offset of area rows, 12": one less, one more
-    ∷ broken-with base (at 2 11 ∷ [])
-    ∷ broken-with base (at 2 13 ∷ [])
-    -- "3 number of items I, 2 to 64": 1, and in a bank of two words; 64 in the longest sheet of all, of 856 bytes; 65, and there with an area
-    -- or a word too many in place of the item
-    ∷ broken-with (built 1 1 1) []
-    ∷ broken-with (built 2 1 2) []
-    ∷ sound-with (built 8 64 256) []
-    ∷ broken-with (built 1 65 65) []
-    ∷ broken-with (built 8 65 256) []
-    ∷ broken-with (built 9 64 256) []
-    ∷ broken-with (built 8 64 257) []
-    -- "4 offset of item rows, 12 + 4A": one less, one more
-    ∷ broken-with base (at 4 23 ∷ [])
-    ∷ broken-with base (at 4 25 ∷ [])
-    -- "5 number of bank words B, 2 to 256": 1 and 2 are above; 3, 256, 257
-    ∷ sound-with (built 2 2 3) []
-    ∷ sound-with (built 2 2 256) []
-    ∷ broken-with (built 2 2 257) []
-    -- "6 functions allowed, 0 to 15": 0, 15 is the base's; 16, and 16 with 05
-    ∷ sound-with base (at 6 0 ∷ at 10 0 ∷ [])
-    ∷ broken-with base (at 6 16 ∷ at 10 0 ∷ [])
-    ∷ broken-with base (at 6 18 ∷ [])
-    -- "7 length of the sheet in words, 12 + 4A + 6I": one less and one more, alone and with as many bytes
-    ∷ broken-with base (at 7 59 ∷ [])
-    ∷ broken-with base (at 7 61 ∷ [])
-    ∷ broken-bytes (take 118 (bytesOf (changed 0 base (at 7 59 ∷ []))))
-    ∷ broken-bytes (bytesOf (changed 0 base (at 7 61 ∷ [])) ++ (0 ∷ 0 ∷ []))
-    -- "The byte length is exactly twice word 7": none, the header alone, a word and a byte too few (zeros are cut off), a byte and a word too many
-    ∷ broken-bytes []
-    ∷ broken-bytes (take 24 (bytesOf base))
-    ∷ broken-bytes (take 118 (bytesOf base))
-    ∷ broken-bytes (take 119 (bytesOf base))
-    ∷ sound-bytes (take 120 (bytesOf base ++ (0 ∷ [])))
-    ∷ broken-bytes (bytesOf base ++ (0 ∷ []))
-    ∷ broken-bytes (bytesOf base ++ (0 ∷ 0 ∷ []))
-    -- "11 zero": in each of its bytes
-    ∷ broken-with base (at 11 0x0001 ∷ [])
-    ∷ broken-with base (at 11 0x0100 ∷ [])
-    -- "access (1 read only, 3 read and write)": area 2 has 1, the others have 3
-    ∷ broken-with base (at (access 2) 0 ∷ [])
-    ∷ broken-with base (at (access 2) 2 ∷ [])
-    ∷ broken-with base (at (access 2) 4 ∷ [])
-    ∷ broken-with base (at (access 2) 0x0101 ∷ [])
-    -- "First is not above last": equal; one above, so that the area has no word
-    ∷ sound-with base (at (first 2) 0x0031 ∷ at 5 8 ∷ [])
-    ∷ broken-with base (at (first 2) 0x0032 ∷ at 5 7 ∷ [])
-    -- "areas ascend and share no address": areas 0 and 1 touch, share 0014, descend
-    ∷ sound-with base (at (first 1) 0x0015 ∷ at (last 1) 0x0016 ∷ [])
-    ∷ broken-with base (at (first 1) 0x0014 ∷ at (last 1) 0x0015 ∷ [])
-    ∷ broken-with base (at (first 1) 0x000E ∷ at (last 1) 0x000F ∷ [])
-    -- areas 1 and 2 touch, share 0021, descend, area 2 lying between the others, and in front of both
-    ∷ sound-with base (at (first 2) 0x0022 ∷ at (last 2) 0x0023 ∷ [])
-    ∷ broken-with base (at (first 2) 0x0021 ∷ at (last 2) 0x0022 ∷ [])
-    ∷ broken-with base (at (first 2) 0x0016 ∷ at (last 2) 0x0017 ∷ [])
-    ∷ broken-with base (at (first 2) 0x0001 ∷ at (last 2) 0x0002 ∷ [])
-    -- from 0000, and up to FFFF, which are no neighbours
-    ∷ sound-with base (at (first 0) 0x0000 ∷ at (last 0) 0x0004 ∷ at (first 2) 0xFFFE ∷ at (last 2) 0xFFFF ∷ [])
-    -- "an area's first place is the sum of the lengths before it": of the last area one less, one more; of the first one 1, items and all
-    ∷ broken-with base (at (areaPlace 2) 6 ∷ [])
-    ∷ broken-with base (at (areaPlace 2) 8 ∷ [])
-    ∷ broken-with (built 1 2 2) (at 8 1 ∷ at 9 2 ∷ at (areaPlace 0) 1 ∷ at 17 1 ∷ at 23 2 ∷ [])
-    -- "the lengths sum to B": one less, one more
-    ∷ broken-with base (at 5 8 ∷ [])
-    ∷ broken-with base (at 5 10 ∷ [])
-    -- an area that goes on to FFFF, with the B of the base and with a B that is its sum, FFE5; an area of all 10000 addresses
-    ∷ broken-with base (at (first 2) 0x0022 ∷ at (last 2) 0xFFFF ∷ at 10 0 ∷ [])
-    ∷ broken-with base (at (first 2) 0x0022 ∷ at (last 2) 0xFFFF ∷ at 10 0 ∷ at 5 0xFFE5 ∷ [])
-    ∷ broken-with (built 1 2 2) (at (last 0) 0xFFFF ∷ [])
-    ∷ broken-with (built 1 2 2) (at (last 0) 0xFFFF ∷ at 5 0 ∷ [])
-    -- "If function 05 is allowed, the clear address lies in no area": beside each end of area 0, and at it; of area 2; 0000 and FFFF
-    ∷ sound-with base (at 10 0x000F ∷ [])
-    ∷ broken-with base (at 10 0x0010 ∷ [])
-    ∷ broken-with base (at 10 0x0014 ∷ [])
-    ∷ sound-with base (at 10 0x0015 ∷ [])
-    ∷ sound-with base (at 10 0x002F ∷ [])
-    ∷ broken-with base (at 10 0x0030 ∷ [])
-    ∷ broken-with base (at 10 0x0031 ∷ [])
-    ∷ sound-with base (at 10 0x0032 ∷ [])
-    ∷ sound-with base (at 10 0x0000 ∷ [])
-    ∷ sound-with base (at 10 0xFFFF ∷ [])
-    -- 05 alone
-    ∷ sound-with base (at 6 2 ∷ [])
-    ∷ broken-with base (at 6 2 ∷ at 10 0x0010 ∷ [])
-    -- "otherwise word 10 is 0": all others allowed; each of them alone; none
-    ∷ sound-with base (at 6 13 ∷ at 10 0 ∷ [])
-    ∷ broken-with base (at 6 13 ∷ at 10 1 ∷ [])
-    ∷ broken-with base (at 6 1 ∷ [])
-    ∷ broken-with base (at 6 4 ∷ [])
-    ∷ broken-with base (at 6 8 ∷ [])
-    ∷ broken-with base (at 6 0 ∷ [])
-    -- 0000 lies in an area: without 05 it may, with 05 not
-    ∷ sound-with base (at (first 0) 0x0000 ∷ at (last 0) 0x0004 ∷ at 6 13 ∷ at 10 0 ∷ [])
-    ∷ broken-with base (at (first 0) 0x0000 ∷ at (last 0) 0x0004 ∷ at 10 0 ∷ [])
-    -- "kind (0 unsigned word, 1 signed word, 2 unsigned pair ..)": item 2 has 0; 1, 3
-    ∷ sound-with base (at (kind 2) 1 ∷ [])
-    ∷ broken-with base (at (kind 2) 3 ∷ [])
-    -- "For kinds 0 and 1 the first word of each bound is 0": low, high and both of kind 0
-    ∷ broken-with base (at (lowUpper 2) 1 ∷ [])
-    ∷ broken-with base (at (highUpper 2) 1 ∷ [])
-    ∷ broken-with base (at (lowUpper 2) 1 ∷ at (highUpper 2) 1 ∷ [])
-    -- low, high, and a low with its sign carried on, of kind 1
-    ∷ sound-with base (at (low 4) 5 ∷ [])
-    ∷ broken-with base (at (low 4) 5 ∷ at (lowUpper 4) 1 ∷ [])
-    ∷ broken-with base (at (highUpper 4) 1 ∷ [])
-    ∷ broken-with base (at (lowUpper 4) 0xFFFF ∷ [])
-    -- "Low is not above high", kind 0: equal, one above, one below; without a sign
-    ∷ sound-with base (at (low 2) 0x0020 ∷ [])
-    ∷ broken-with base (at (low 2) 0x0021 ∷ [])
-    ∷ broken-with base (at (high 2) 0x000F ∷ [])
-    ∷ sound-with base (at (low 2) 0x7FFF ∷ at (high 2) 0x8000 ∷ [])
-    ∷ broken-with base (at (low 2) 0x8000 ∷ at (high 2) 0x7FFF ∷ [])
-    ∷ sound-with base (at (low 2) 0x0000 ∷ at (high 2) 0xFFFF ∷ [])
-    -- kind 1, "signed": equal, one above, one below; by the sign
-    ∷ sound-with base (at (low 4) 0x003C ∷ [])
-    ∷ broken-with base (at (low 4) 0x003D ∷ [])
-    ∷ sound-with base (at (high 4) 0xFFF6 ∷ [])
-    ∷ broken-with base (at (high 4) 0xFFF5 ∷ [])
-    ∷ sound-with base (at (low 4) 0x8000 ∷ at (high 4) 0x7FFF ∷ [])
-    ∷ broken-with base (at (low 4) 0x7FFF ∷ at (high 4) 0x8000 ∷ [])
-    ∷ sound-with base (at (low 4) 0xFFFF ∷ at (high 4) 0x0000 ∷ [])
-    ∷ broken-with base (at (low 4) 0x0000 ∷ at (high 4) 0xFFFF ∷ [])
-    -- kind 2, "upper word first": equal, one above, one below; by the upper word, without a sign
-    ∷ sound-with base (at (lowUpper 3) 0x0003 ∷ at (low 3) 0x0004 ∷ [])
-    ∷ broken-with base (at (lowUpper 3) 0x0003 ∷ at (low 3) 0x0005 ∷ [])
-    ∷ broken-with base (at (highUpper 3) 0x0001 ∷ at (high 3) 0x0001 ∷ [])
-    ∷ sound-with base (at (lowUpper 3) 0x0002 ∷ at (low 3) 0xFFFF ∷ [])
-    ∷ broken-with base (at (lowUpper 3) 0x0004 ∷ at (low 3) 0x0000 ∷ [])
-    ∷ sound-with base (at (lowUpper 3) 0x7FFF ∷ at (low 3) 0xFFFF ∷ at (highUpper 3) 0x8000 ∷ at (high 3) 0x0000 ∷ [])
-    ∷ broken-with base (at (lowUpper 3) 0x8000 ∷ at (low 3) 0x0000 ∷ at (highUpper 3) 0x7FFF ∷ at (high 3) 0xFFFF ∷ [])
-    -- "Items ascend": the last two change places
-    ∷ broken-with base (at (place 4) 6 ∷ at (place 5) 5 ∷ [])
-    -- ".. and cover each place of every access 3 area exactly once": place 6 twice; place 3 twice, by two pairs; place 2 left out, 3 twice; the
-    -- pair's lower half left out
-    ∷ broken-with (another 6) []
-    ∷ broken-with base (at (kind 2) 2 ∷ [])
-    ∷ broken-with base (at (place 2) 3 ∷ [])
-    ∷ broken-with base (at (kind 3) 0 ∷ at (lowUpper 3) 0 ∷ at (highUpper 3) 0 ∷ [])
-    -- area 1 has one word more, with its item and without one
-    ∷ sound-with (another 7) (at (last 1) 0x0022 ∷ at (areaPlace 2) 8 ∷ at 5 10 ∷ [])
-    ∷ broken-with base (at (last 1) 0x0022 ∷ at (areaPlace 2) 8 ∷ at 5 10 ∷ [])
-    -- area 2 is of access 3 without items
-    ∷ broken-with base (at (access 2) 3 ∷ [])
-    -- ".. and no other place": an access 1 place; the mark's place; area 1 is of access 1 with items
-    ∷ broken-with (another 7) []
-    ∷ broken-with (another 9) []
-    ∷ broken-with base (at (access 1) 1 ∷ [])
-    -- "a pair lies within one area": places 3 and 4 are the last two of area 0 in the base; the first two of area 1; in both, of which the
-    -- addresses follow each other, or have a gap
-    ∷ sound-with base (at (last 0) 0x0012 ∷ at (first 1) 0x001E ∷ at (areaPlace 1) 3 ∷ [])
-    ∷ broken-with base (at (last 0) 0x0013 ∷ at (first 1) 0x0014 ∷ at (last 1) 0x0016 ∷ at (areaPlace 1) 4 ∷ [])
-    ∷ broken-with base (at (last 0) 0x0013 ∷ at (first 1) 0x001F ∷ at (areaPlace 1) 4 ∷ [])
-    -- "Address and rate are different places": both at 1, both at 0; each at the other's
-    ∷ broken-with base (at 8 1 ∷ [])
-    ∷ broken-with base (at 9 0 ∷ at (low 0) 0 ∷ at (high 0) 1 ∷ [])
-    ∷ sound-with base (at 8 1 ∷ at 9 0 ∷ at (low 0) 0 ∷ at (high 0) 1 ∷ [])
-    -- ".. each a kind 0 item", the address: another item of kind 0; one of kind 1, and of kind 0 in its place
-    ∷ sound-with base (at 8 2 ∷ at (low 2) 1 ∷ [])
-    ∷ broken-with base (at 8 5 ∷ at (low 4) 1 ∷ [])
-    ∷ sound-with base (at 8 5 ∷ at (low 4) 1 ∷ at (kind 4) 0 ∷ [])
-    ∷ broken-with base (at (kind 0) 1 ∷ [])
-    -- the pair 1..4, at its upper and its lower half
-    ∷ broken-with base (at 8 3 ∷ at (lowUpper 3) 0 ∷ at (low 3) 1 ∷ at (highUpper 3) 0 ∷ [])
-    ∷ broken-with base (at 8 4 ∷ at (lowUpper 3) 0 ∷ at (low 3) 1 ∷ at (highUpper 3) 0 ∷ [])
-    -- a place of access 1; the mark's place; none
-    ∷ broken-with base (at 8 7 ∷ [])
-    ∷ broken-with base (at 8 9 ∷ [])
-    ∷ broken-with base (at 8 0xFFFF ∷ [])
-    -- the rate: another item of kind 0; one of kind 1; the pair 0..1 at its upper and its lower half; places without an item
-    ∷ sound-with base (at 9 6 ∷ at (high 5) 1 ∷ [])
-    ∷ broken-with base (at 9 5 ∷ at (low 4) 0 ∷ at (high 4) 1 ∷ [])
-    ∷ broken-with base (at (kind 1) 1 ∷ [])
-    ∷ broken-with base (at 9 3 ∷ at (lowUpper 3) 0 ∷ at (low 3) 0 ∷ at (highUpper 3) 0 ∷ at (high 3) 1 ∷ [])
-    ∷ broken-with base (at 9 4 ∷ at (lowUpper 3) 0 ∷ at (low 3) 0 ∷ at (highUpper 3) 0 ∷ at (high 3) 1 ∷ [])
-    ∷ broken-with base (at 9 7 ∷ [])
-    ∷ broken-with base (at 9 9 ∷ [])
-    -- ".. whose range holds 1; the address range is within 0 to FF": low 0, 2; high 1, FF, 100; 0..0
-    ∷ sound-with base (at (low 0) 0 ∷ [])
-    ∷ broken-with base (at (low 0) 2 ∷ [])
-    ∷ sound-with base (at (high 0) 1 ∷ [])
-    ∷ sound-with base (at (high 0) 0x00FF ∷ [])
-    ∷ broken-with base (at (high 0) 0x0100 ∷ [])
-    ∷ broken-with base (at (low 0) 0 ∷ at (high 0) 0 ∷ [])
-    -- "the rate's is 0 to 1": 0..2, 1..1, 0..0
-    ∷ broken-with base (at (high 1) 2 ∷ [])
-    ∷ broken-with base (at (low 1) 1 ∷ [])
-    ∷ broken-with base (at (high 1) 0 ∷ [])
+    -- word 0, the version
+    broken-with base (at 0 0 ∷ [])  -- 0
+    ∷ sound-with base []  -- 1
+    ∷ broken-with base (at 0 2 ∷ [])  -- 2
+    -- word 1, the number of areas
+    ∷ broken-with (built 0 2 2) []  -- 0
+    ∷ sound-with (built 1 2 2) []  -- 1
+    ∷ sound-with (built 8 2 9) []  -- 8
+    ∷ broken-with (built 9 2 10) []  -- 9
+    -- word 2, the offset of the area rows
+    ∷ broken-with base (at 2 11 ∷ [])  -- one less
+    ∷ broken-with base (at 2 13 ∷ [])  -- one more
+    -- word 3, the number of items; 2 stands above
+    ∷ broken-with (built 1 1 1) []  -- 1, of one word
+    ∷ broken-with (built 2 1 2) []  -- 1, of two words
+    ∷ sound-with (built 8 64 256) []  -- 64, in the longest sheet, of 856 bytes
+    ∷ broken-with (built 8 65 256) []  -- 65 in its place
+    ∷ broken-with (built 9 64 256) []  -- it with 9 areas
+    ∷ broken-with (built 8 64 257) []  -- it with 257 words
+    ∷ broken-with (built 1 65 65) []  -- 65, in one area
+    -- word 4, the offset of the item rows
+    ∷ broken-with base (at 4 23 ∷ [])  -- one less
+    ∷ broken-with base (at 4 25 ∷ [])  -- one more
+    -- word 5, the number of bank words; 1 and 2 stand above
+    ∷ sound-with (built 2 2 3) []  -- 3
+    ∷ sound-with (built 2 2 256) []  -- 256
+    ∷ broken-with (built 2 2 257) []  -- 257
+    -- word 6, the sum of the functions; the base has 15
+    ∷ sound-with base (at 6 0 ∷ at 10 0 ∷ [])  -- 0
+    ∷ broken-with base (at 6 16 ∷ at 10 0 ∷ [])  -- 16
+    ∷ broken-with base (at 6 18 ∷ [])  -- 16 and 2
+    -- word 7, the length in words
+    ∷ broken-with base (at 7 59 ∷ [])  -- one less
+    ∷ broken-with base (at 7 61 ∷ [])  -- one more
+    ∷ broken-bytes (take 118 (bytesOf (changed 0 base (at 7 59 ∷ []))))  -- one less, and a word less
+    ∷ broken-bytes (bytesOf (changed 0 base (at 7 61 ∷ [])) ++ (0 ∷ 0 ∷ []))  -- one more, and a word more
+    -- the length in bytes, twice word 7; what is cut off here was 0
+    ∷ broken-bytes []  -- none
+    ∷ broken-bytes (take 24 (bytesOf base))  -- the header alone
+    ∷ broken-bytes (take 118 (bytesOf base))  -- two less
+    ∷ broken-bytes (take 119 (bytesOf base))  -- one less
+    ∷ sound-bytes (take 120 (bytesOf base ++ (0 ∷ [])))  -- as many
+    ∷ broken-bytes (bytesOf base ++ (0 ∷ []))  -- one more
+    ∷ broken-bytes (bytesOf base ++ (0 ∷ 0 ∷ []))  -- two more
+    -- word 11, zero
+    ∷ broken-with base (at 11 0x0001 ∷ [])  -- 1
+    ∷ broken-with base (at 11 0x0100 ∷ [])  -- 0100
+    -- access: area 2 has 1, the others have 3
+    ∷ broken-with base (at (access 2) 0 ∷ [])  -- 0
+    ∷ broken-with base (at (access 2) 2 ∷ [])  -- 2
+    ∷ broken-with base (at (access 2) 4 ∷ [])  -- 4
+    ∷ broken-with base (at (access 2) 0x0101 ∷ [])  -- 0101
+    -- first address and last address
+    ∷ sound-with base (at (first 2) 0x0031 ∷ at 5 8 ∷ [])  -- equal
+    ∷ broken-with base (at (first 2) 0x0032 ∷ at 5 7 ∷ [])  -- first one above last: an area of no word
+    -- areas ascend and share no address
+    ∷ sound-with base (at (first 1) 0x0015 ∷ at (last 1) 0x0016 ∷ [])  -- areas 0 and 1 touch
+    ∷ broken-with base (at (first 1) 0x0014 ∷ at (last 1) 0x0015 ∷ [])  -- they share 0014
+    ∷ broken-with base (at (first 1) 0x000E ∷ at (last 1) 0x000F ∷ [])  -- they descend
+    ∷ sound-with base (at (first 2) 0x0022 ∷ at (last 2) 0x0023 ∷ [])  -- areas 1 and 2 touch
+    ∷ broken-with base (at (first 2) 0x0021 ∷ at (last 2) 0x0022 ∷ [])  -- they share 0021
+    ∷ broken-with base (at (first 2) 0x0016 ∷ at (last 2) 0x0017 ∷ [])  -- they descend, area 2 lies between the others
+    ∷ broken-with base (at (first 2) 0x0001 ∷ at (last 2) 0x0002 ∷ [])  -- they descend, area 2 lies in front of both
+    ∷ sound-with base (at (first 0) 0x0000 ∷ at (last 0) 0x0004 ∷ at (first 2) 0xFFFE ∷ at (last 2) 0xFFFF ∷ [])  -- from 0000, to FFFF
+    -- an area's first place
+    ∷ broken-with base (at (areaPlace 2) 6 ∷ [])  -- of the last area, one less
+    ∷ broken-with base (at (areaPlace 2) 8 ∷ [])  -- of the last area, one more
+    ∷ broken-with (built 1 2 2) (at 8 1 ∷ at 9 2 ∷ at (areaPlace 0) 1 ∷ at 17 1 ∷ at 23 2 ∷ [])  -- of the first area 1, items and all
+    -- the sum of the lengths
+    ∷ broken-with base (at 5 8 ∷ [])  -- B one less
+    ∷ broken-with base (at 5 10 ∷ [])  -- B one more
+    ∷ broken-with base (at (first 2) 0x0022 ∷ at (last 2) 0xFFFF ∷ at 10 0 ∷ [])  -- an area of FFDE words
+    ∷ broken-with base (at (first 2) 0x0022 ∷ at (last 2) 0xFFFF ∷ at 10 0 ∷ at 5 0xFFE5 ∷ [])  -- with their sum for B
+    ∷ broken-with (built 1 2 2) (at (last 0) 0xFFFF ∷ [])  -- an area of all addresses
+    ∷ broken-with (built 1 2 2) (at (last 0) 0xFFFF ∷ at 5 0 ∷ [])  -- with 0 for B
+    -- the clear address, 05 allowed
+    ∷ sound-with base (at 10 0x000F ∷ [])  -- in front of area 0
+    ∷ broken-with base (at 10 0x0010 ∷ [])  -- its first address
+    ∷ broken-with base (at 10 0x0014 ∷ [])  -- its last address
+    ∷ sound-with base (at 10 0x0015 ∷ [])  -- behind it
+    ∷ sound-with base (at 10 0x002F ∷ [])  -- in front of area 2, of access 1
+    ∷ broken-with base (at 10 0x0030 ∷ [])  -- its first address
+    ∷ broken-with base (at 10 0x0031 ∷ [])  -- its last address
+    ∷ sound-with base (at 10 0x0032 ∷ [])  -- behind it
+    ∷ sound-with base (at 10 0x0000 ∷ [])  -- 0000, in no area
+    ∷ sound-with base (at 10 0xFFFF ∷ [])  -- FFFF, in no area
+    ∷ broken-with base (at (first 0) 0x0000 ∷ at (last 0) 0x0004 ∷ at 10 0 ∷ [])  -- 0000, in an area
+    ∷ sound-with base (at 6 2 ∷ [])  -- 05 alone, in no area
+    ∷ broken-with base (at 6 2 ∷ at 10 0x0010 ∷ [])  -- 05 alone, in an area
+    -- word 10, 05 not allowed
+    ∷ sound-with base (at 6 13 ∷ at 10 0 ∷ [])  -- 0
+    ∷ broken-with base (at 6 13 ∷ at 10 1 ∷ [])  -- 1
+    ∷ sound-with base (at (first 0) 0x0000 ∷ at (last 0) 0x0004 ∷ at 6 13 ∷ at 10 0 ∷ [])  -- 0, and 0000 lies in an area
+    ∷ broken-with base (at 6 1 ∷ [])  -- 0040, 03 alone
+    ∷ broken-with base (at 6 4 ∷ [])  -- 0040, 06 alone
+    ∷ broken-with base (at 6 8 ∷ [])  -- 0040, 10 alone
+    ∷ broken-with base (at 6 0 ∷ [])  -- 0040, none
+    -- kind: item 2 has 0, item 3 has 2
+    ∷ sound-with base (at (kind 2) 1 ∷ [])  -- 1
+    ∷ broken-with base (at (kind 2) 3 ∷ [])  -- 3
+    -- the first word of a bound, kind 0
+    ∷ broken-with base (at (lowUpper 2) 1 ∷ [])  -- of low
+    ∷ sound-with base (at (low 2) 0 ∷ at (high 2) 0 ∷ [])  -- none
+    ∷ broken-with base (at (low 2) 0 ∷ at (high 2) 0 ∷ at (highUpper 2) 1 ∷ [])  -- of high
+    ∷ broken-with base (at (lowUpper 2) 1 ∷ at (highUpper 2) 1 ∷ [])  -- of both
+    -- the first word of a bound, kind 1
+    ∷ sound-with base (at (low 4) 0 ∷ [])  -- none
+    ∷ broken-with base (at (low 4) 0 ∷ at (lowUpper 4) 1 ∷ [])  -- of low
+    ∷ broken-with base (at (highUpper 4) 1 ∷ [])  -- of high
+    ∷ broken-with base (at (lowUpper 4) 0xFFFF ∷ [])  -- of low, its sign carried on
+    -- low and high, kind 0
+    ∷ sound-with base (at (low 2) 0x0020 ∷ [])  -- equal
+    ∷ broken-with base (at (low 2) 0x0021 ∷ [])  -- low one above
+    ∷ broken-with base (at (high 2) 0x000F ∷ [])  -- high one below
+    ∷ sound-with base (at (low 2) 0x7FFF ∷ at (high 2) 0x8000 ∷ [])  -- without a sign
+    ∷ broken-with base (at (low 2) 0x8000 ∷ at (high 2) 0x7FFF ∷ [])  -- without a sign
+    ∷ sound-with base (at (low 2) 0x0000 ∷ at (high 2) 0xFFFF ∷ [])  -- all words
+    -- low and high, kind 1
+    ∷ sound-with base (at (low 4) 0x003C ∷ [])  -- equal
+    ∷ broken-with base (at (low 4) 0x003D ∷ [])  -- low one above
+    ∷ sound-with base (at (high 4) 0xFFF6 ∷ [])  -- equal
+    ∷ broken-with base (at (high 4) 0xFFF5 ∷ [])  -- high one below
+    ∷ sound-with base (at (low 4) 0x8000 ∷ at (high 4) 0x7FFF ∷ [])  -- all words, by the sign
+    ∷ broken-with base (at (low 4) 0x7FFF ∷ at (high 4) 0x8000 ∷ [])  -- by the sign
+    ∷ sound-with base (at (low 4) 0xFFFF ∷ at (high 4) 0x0000 ∷ [])  -- by the sign
+    ∷ broken-with base (at (low 4) 0x0000 ∷ at (high 4) 0xFFFF ∷ [])  -- by the sign
+    -- low and high, kind 2
+    ∷ sound-with base (at (lowUpper 3) 0x0003 ∷ at (low 3) 0x0004 ∷ [])  -- equal
+    ∷ broken-with base (at (lowUpper 3) 0x0003 ∷ at (low 3) 0x0005 ∷ [])  -- low one above
+    ∷ broken-with base (at (highUpper 3) 0x0001 ∷ at (high 3) 0x0001 ∷ [])  -- high one below
+    ∷ sound-with base (at (lowUpper 3) 0x0002 ∷ at (low 3) 0xFFFF ∷ [])  -- by the upper word
+    ∷ broken-with base (at (lowUpper 3) 0x0004 ∷ at (low 3) 0x0000 ∷ [])  -- by the upper word
+    ∷ sound-with base (at (lowUpper 3) 0x7FFF ∷ at (low 3) 0xFFFF ∷ at (highUpper 3) 0x8000 ∷ at (high 3) 0x0000 ∷ [])  -- without a sign
+    ∷ broken-with base (at (lowUpper 3) 0x8000 ∷ at (low 3) 0x0000 ∷ at (highUpper 3) 0x7FFF ∷ at (high 3) 0xFFFF ∷ [])  -- without a sign
+    -- items ascend
+    ∷ broken-with base (at (place 4) 6 ∷ at (place 5) 5 ∷ [])  -- the last two changed about
+    -- items cover each place of an access 3 area once
+    ∷ broken-with (another 6) []  -- place 6 twice
+    ∷ broken-with base (at (kind 2) 2 ∷ [])  -- place 3 twice, by two pairs
+    ∷ broken-with base (at (place 2) 3 ∷ [])  -- place 2 left out, place 3 twice
+    ∷ broken-with base (at (place 5) 5 ∷ [])  -- place 6 left out, place 5 twice
+    ∷ broken-with base (at (kind 3) 0 ∷ at (lowUpper 3) 0 ∷ at (highUpper 3) 0 ∷ [])  -- place 4 left out, by a word for the pair
+    ∷ sound-with (another 7) (at (last 1) 0x0022 ∷ at (areaPlace 2) 8 ∷ at 5 10 ∷ [])  -- area 1 has a word more, and its item
+    ∷ broken-with base (at (last 1) 0x0022 ∷ at (areaPlace 2) 8 ∷ at 5 10 ∷ [])  -- without its item
+    ∷ broken-with base (at (access 2) 3 ∷ [])  -- area 2 with access 3, without items
+    -- items cover no other place
+    ∷ broken-with (another 7) []  -- a place of access 1
+    ∷ broken-with (another 9) []  -- the mark's place
+    ∷ broken-with base (at (access 1) 1 ∷ [])  -- area 1 with access 1, with items
+    -- a pair lies within one area; in the base places 3 and 4 are the last ones of area 0
+    ∷ sound-with base (at (last 0) 0x0012 ∷ at (first 1) 0x001E ∷ at (areaPlace 1) 3 ∷ [])  -- the first ones of area 1
+    ∷ broken-with base (at (last 0) 0x0013 ∷ at (first 1) 0x0014 ∷ at (last 1) 0x0016 ∷ at (areaPlace 1) 4 ∷ [])  -- one in each, which touch
+    ∷ broken-with base (at (last 0) 0x0013 ∷ at (first 1) 0x001F ∷ at (areaPlace 1) 4 ∷ [])  -- one in each, with a gap
+    -- address and rate at different places
+    ∷ broken-with base (at 8 1 ∷ [])  -- both at the rate's
+    ∷ broken-with base (at 9 0 ∷ at (low 0) 0 ∷ at (high 0) 1 ∷ [])  -- both at the address's
+    ∷ sound-with base (at 8 1 ∷ at 9 0 ∷ at (low 0) 0 ∷ at (high 0) 1 ∷ [])  -- each at the other's
+    -- the address is an item of kind 0
+    ∷ sound-with base (at 8 2 ∷ at (low 2) 1 ∷ [])  -- another one
+    ∷ broken-with base (at 8 5 ∷ at (low 4) 1 ∷ [])  -- one of kind 1
+    ∷ sound-with base (at 8 5 ∷ at (low 4) 1 ∷ at (kind 4) 0 ∷ [])  -- the same with kind 0
+    ∷ broken-with base (at (kind 0) 1 ∷ [])  -- its own with kind 1
+    ∷ broken-with base (at 8 3 ∷ at (lowUpper 3) 0 ∷ at (low 3) 1 ∷ at (highUpper 3) 0 ∷ [])  -- the upper half of a pair
+    ∷ broken-with base (at 8 4 ∷ at (lowUpper 3) 0 ∷ at (low 3) 1 ∷ at (highUpper 3) 0 ∷ [])  -- the lower half of a pair
+    ∷ broken-with base (at 8 7 ∷ [])  -- a place of access 1
+    ∷ broken-with base (at 8 9 ∷ [])  -- the mark's place
+    ∷ broken-with base (at 8 0xFFFF ∷ [])  -- no place
+    -- the rate is an item of kind 0
+    ∷ sound-with base (at 9 6 ∷ at (high 5) 1 ∷ [])  -- another one
+    ∷ broken-with base (at 9 5 ∷ at (low 4) 0 ∷ at (high 4) 1 ∷ [])  -- one of kind 1
+    ∷ broken-with base (at (kind 1) 1 ∷ [])  -- its own with kind 1
+    ∷ broken-with base (at 9 3 ∷ at (lowUpper 3) 0 ∷ at (low 3) 0 ∷ at (highUpper 3) 0 ∷ at (high 3) 1 ∷ [])  -- the upper half of a pair
+    ∷ broken-with base (at 9 4 ∷ at (lowUpper 3) 0 ∷ at (low 3) 0 ∷ at (highUpper 3) 0 ∷ at (high 3) 1 ∷ [])  -- the lower half of a pair
+    ∷ broken-with base (at 9 7 ∷ [])  -- a place of access 1
+    ∷ broken-with base (at 9 9 ∷ [])  -- the mark's place
+    -- the address range is within 0 to FF and holds 1; the base has 1..F7
+    ∷ sound-with base (at (low 0) 0 ∷ [])  -- low 0
+    ∷ broken-with base (at (low 0) 2 ∷ [])  -- low 2
+    ∷ broken-with base (at (low 0) 0 ∷ at (high 0) 0 ∷ [])  -- high 0
+    ∷ sound-with base (at (high 0) 1 ∷ [])  -- high 1
+    ∷ sound-with base (at (high 0) 0x00FF ∷ [])  -- high FF
+    ∷ broken-with base (at (high 0) 0x0100 ∷ [])  -- high 100
+    -- the rate's range is 0 to 1
+    ∷ broken-with base (at (high 1) 0 ∷ [])  -- 0..0
+    ∷ broken-with base (at (high 1) 2 ∷ [])  -- 0..2
+    ∷ broken-with base (at (low 1) 1 ∷ [])  -- 1..1
     ∷ []
 
 -- every row is right
