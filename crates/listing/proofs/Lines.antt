@@ -11,33 +11,33 @@ use lib.ListN.{length, getD, take, drop, set, replicate, length-append}
 use lib.Seq.{take-append-le, drop-cons}
 use borrow.Author.Tests.{lt-ltb, le-ltb, ltb-true, ltb-false}
 use Rattle.listing.specs.declared.Line.{Line}
-use Rattle.listing.specs.Line.{room, lineOf, withByte, withText}
+use Rattle.listing.specs.Line.{room, lineOf, withCharacter, withText}
 
 abbrev pub made : List ℕ → ℕ → Line
 made bytes len = record { bytes = bytes; len = len }
 
 -- a byte where there is room, and where there is none
 pub byte-inside : (line : Line) (byte : ℕ) → line .len < room
-    → withByte line byte ≡ made (set (line .bytes) (line .len) byte) (line .len + 1)
-unfolding withByte
+    → withCharacter line byte ≡ made (set (line .bytes) (line .len) byte) (line .len + 1)
+unfolding withCharacter
 byte-inside line byte inside = simp (lt-ltb (line .len) room inside)
 
-pub byte-full : (line : Line) (byte : ℕ) → room ≤ line .len → withByte line byte ≡ line
-unfolding withByte
+pub byte-full : (line : Line) (byte : ℕ) → room ≤ line .len → withCharacter line byte ≡ line
+unfolding withCharacter
 byte-full line byte full = simp (le-ltb (line .len) room full)
 
 pub text-text : (line : Line) (a b : List ℕ) → withText (withText line a) b ≡ withText line (a ++ b)
 unfolding withText
 text-text line [] b = refl
-text-text line (byte ∷ behind) b = text-text (withByte line byte) behind b
+text-text line (byte ∷ behind) b = text-text (withCharacter line byte) behind b
 
-pub byte-text : (line : Line) (byte : ℕ) → withByte line byte ≡ withText line (byte ∷ [])
+pub byte-text : (line : Line) (byte : ℕ) → withCharacter line byte ≡ withText line (byte ∷ [])
 unfolding withText
 byte-text line byte = refl
 
 -- the byte at a place, and then the rest behind it, are what is left from that place on
 pub text-step : (line : Line) (text : List ℕ) (i : ℕ) → i < length text
-    → withText (withByte line (getD text i 0)) (drop (i + 1) text) ≡ withText line (drop i text)
+    → withText (withCharacter line (getD text i 0)) (drop (i + 1) text) ≡ withText line (drop i text)
 unfolding withText
 text-step line text i inside = rw (add-one, drop-cons text i 0)
 
@@ -59,7 +59,7 @@ byte-set (first ∷ text) (suc n) m byte inside enough =
     ap (λ (behind : List ℕ). first ∷ behind) (byte-set text n m byte (omega arith) (omega arith))
 
 -- a byte behind a text that leaves room for it, and behind one that does not
-line-byte-inside : (text : List ℕ) (byte : ℕ) → length text < room → withByte (lineOf text) byte ≡ lineOf (text ++ (byte ∷ []))
+line-byte-inside : (text : List ℕ) (byte : ℕ) → length text < room → withCharacter (lineOf text) byte ≡ lineOf (text ++ (byte ∷ []))
 unfolding lineOf
 line-byte-inside text byte inside = byte-inside (lineOf text) byte (omega arith) ∙ ap₂ made bytes len
   where
@@ -72,7 +72,7 @@ line-byte-inside text byte inside = byte-inside (lineOf text) byte (omega arith)
     len : min (length text) room + 1 ≡ min (length (text ++ (byte ∷ []))) room
     len = omega (arith, length-append text (byte ∷ []))
 
-line-byte-past : (text : List ℕ) (byte : ℕ) → room ≤ length text → withByte (lineOf text) byte ≡ lineOf (text ++ (byte ∷ []))
+line-byte-past : (text : List ℕ) (byte : ℕ) → room ≤ length text → withCharacter (lineOf text) byte ≡ lineOf (text ++ (byte ∷ []))
 unfolding lineOf
 line-byte-past text byte past = byte-full (lineOf text) byte (omega arith) ∙ ap₂ made bytes len
   where
@@ -85,10 +85,10 @@ line-byte-past text byte past = byte-full (lineOf text) byte (omega arith) ∙ a
     len : min (length text) room ≡ min (length (text ++ (byte ∷ []))) room
     len = omega (arith, length-append text (byte ∷ []))
 
-line-byte : (text : List ℕ) (byte : ℕ) → withByte (lineOf text) byte ≡ lineOf (text ++ (byte ∷ []))
+line-byte : (text : List ℕ) (byte : ℕ) → withCharacter (lineOf text) byte ≡ lineOf (text ++ (byte ∷ []))
 line-byte text byte = go (ltb (length text) room) refl
   where
-    go : (inside : Bool) → ltb (length text) room ≡ inside → withByte (lineOf text) byte ≡ lineOf (text ++ (byte ∷ []))
+    go : (inside : Bool) → ltb (length text) room ≡ inside → withCharacter (lineOf text) byte ≡ lineOf (text ++ (byte ∷ []))
     go true e = line-byte-inside text byte (ltb-true _ _ e)
     go false e = line-byte-past text byte (ltb-false _ _ e)
 
@@ -105,5 +105,5 @@ pub line-on : {line next : Line} (text : List ℕ) {more : List ℕ} (said : Lis
 line-on text said here on same = on ∙ ap₂ withText here same ∙ line-text text said
 
 pub line-on-byte : {line next : Line} (text : List ℕ) (byte : ℕ)
-    → line ≡ lineOf text → next ≡ withByte line byte → next ≡ lineOf (text ++ (byte ∷ []))
+    → line ≡ lineOf text → next ≡ withCharacter line byte → next ≡ lineOf (text ++ (byte ∷ []))
 line-on-byte {line} text byte here on = line-on text (byte ∷ []) here (on ∙ byte-text line byte) refl

@@ -15,12 +15,12 @@ unfoldable pub lineOf : List ℕ → Line
 lineOf text = record { bytes = take room (text ++ replicate room 0); len = min (length text) room }
 
 -- a line with one more byte; a line that is full stays as it is
-unfoldable pub withByte : Line → ℕ → Line
-withByte line byte =
+unfoldable pub withCharacter : Line → ℕ → Line
+withCharacter line byte =
     cond (ltb (line .len) room)
     (record { bytes = set (line .bytes) (line .len) byte; len = line .len + 1 }) line
 
 -- a line with more bytes, one after the other
 unfoldable pub withText : Line → List ℕ → Line
 withText line [] = line
-withText line (byte ∷ behind) = withText (withByte line byte) behind
+withText line (byte ∷ behind) = withText (withCharacter line byte) behind

@@ -4,11 +4,11 @@ ghost use mathlib.Core.Path.{_≡_};
 ghost use Prim.Native.Nat.{_%_, _<_, _^_};
 ghost use lib.IntN.{natAbs};
 ghost use Rattle.listing.specs.Text.{digitOf, decimal, signedDecimal, hexadecimal};
-ghost use Rattle.listing.specs.Line.{withByte, withText};
+ghost use Rattle.listing.specs.Line.{withCharacter, withText};
 
 // One byte.
 pub(crate) fn byte(line: Line, byte: u8) -> Line
-    ensures { λ r. ⌜ r ≡ withByte line byte ⌝ }
+    ensures { λ r. ⌜ r ≡ withCharacter line byte ⌝ }
 {
     let at = line.len;
     if 40 <= at {

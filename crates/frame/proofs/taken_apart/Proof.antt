@@ -10,36 +10,10 @@ use borrow.Author.Needs.{needs}
 use Rattle.frame.proofs.taken_apart.Statement.{statement}
 use Rattle.frame.proofs.taken_apart.Tie as tie
 
--- src/lib.rt:59:9
-passes-requires : tie.Need-passes-requires
-passes-requires c κs = search needs
-
--- src/lib.rt:60:9
 returns : tie.Need-returns
 unfolding passedFrame
 returns c = simp (sym (c .before .passes .ensures) ∙ not-true (c .before .passes .result) (c .if1 .taken))
 
--- src/lib.rt:63:18
-byte-at-requires : tie.Need-byte-at-requires
-byte-at-requires c κs = search needs
-
--- src/lib.rt:64:19
-byte-at-requires-2 : tie.Need-byte-at-requires-2
-byte-at-requires-2 c κs = search needs
-
--- src/lib.rt:65:16
-word-at-requires : tie.Need-word-at-requires
-word-at-requires c κs = search needs
-
--- src/lib.rt:66:17
-word-at-requires-2 : tie.Need-word-at-requires-2
-word-at-requires-2 c κs = search needs
-
--- src/lib.rt:67:16
-byte-at-requires-3 : tie.Need-byte-at-requires-3
-byte-at-requires-3 c κs = search needs
-
--- src/lib.rt:56:1
 returns-2 : tie.Need-returns-2
 unfolding passedFrame
 returns-2 c =
@@ -58,11 +32,11 @@ pub taken-apart-spec : {M : Type 1} → statement M
 taken-apart-spec =
     tie.close
     (tie.spec
-    passes-requires
+    (λ c κs. search needs)
     returns
-    byte-at-requires
-    byte-at-requires-2
-    word-at-requires
-    word-at-requires-2
-    byte-at-requires-3
+    (λ c κs. search needs)
+    (λ c κs. search needs)
+    (λ c κs. search needs)
+    (λ c κs. search needs)
+    (λ c κs. search needs)
     returns-2)

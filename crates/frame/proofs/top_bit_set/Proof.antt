@@ -5,17 +5,11 @@ use borrow.Author.Needs.{needs}
 use Rattle.frame.proofs.top_bit_set.Statement.{statement}
 use Rattle.frame.proofs.top_bit_set.Tie as tie
 
--- src/replies.rt:19:9
-add-result : tie.Need-add-result
-add-result c = search needs
-
--- src/replies.rt:15:1
 returns : tie.Need-returns
 returns c = simp (lt-ltb (c .before .args .function) 0x80 (c .if1 .taken))
 
--- src/replies.rt:15:1
 returns-2 : tie.Need-returns-2
 returns-2 c = simp (le-ltb (c .before .args .function) 0x80 (c .if1 .left))
 
 pub top-bit-set-spec : {M : Type 1} → statement M
-top-bit-set-spec = tie.close (tie.spec add-result returns returns-2)
+top-bit-set-spec = tie.close (tie.spec (λ c. search needs) returns returns-2)

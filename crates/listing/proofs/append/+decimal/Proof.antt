@@ -6,7 +6,7 @@ use native.Mathlib.Omega.{arith}
 use borrow.Fn.Kinds.{In}
 use borrow.Fn.PlainCycle.{Measures, is, falls, and}
 use Rattle.listing.specs.Text.{digitOf, decimal as decimalText}
-use Rattle.listing.specs.Line.{withByte, withText}
+use Rattle.listing.specs.Line.{withCharacter, withText}
 use Rattle.listing.proofs.Digits.{decimal-one, decimal-more}
 use Rattle.listing.proofs.Lines.{byte-text, text-text}
 use Rattle.listing.proofs.append.decimal.Reads as decimal
@@ -41,7 +41,7 @@ decimal-returns t c =
     let a = c .before .before .before .args in
     let low : a .n % 16 ≡ a .n = omega arith in
     c .byte .ensures
-    ∙ ap (withByte (a .line)) (c .before .digit .ensures ∙ ap digitOf low)
+    ∙ ap (withCharacter (a .line)) (c .before .digit .ensures ∙ ap digitOf low)
     ∙ byte-text (a .line) (digitOf (a .n))
     ∙ ap (withText (a .line)) (sym (decimal-one (a .n) (c .before .before .if1 .taken)))
 
@@ -60,7 +60,7 @@ decimal-returns-2 t c =
     let low : a .n % 10 % 16 ≡ a .n % 10 = omega arith in
     let small : a .n < 2 ^ 32 = c .before .before .before .before .fits .n .fits in
     c .byte2 .ensures
-    ∙ ap₂ withByte (c .before .before .decimal .ensures) (c .before .digit2 .ensures ∙ ap digitOf low)
+    ∙ ap₂ withCharacter (c .before .before .decimal .ensures) (c .before .digit2 .ensures ∙ ap digitOf low)
     ∙ byte-text (withText (a .line) (decimalText (a .n / 10))) (digitOf (a .n % 10))
     ∙ text-text (a .line) (decimalText (a .n / 10)) (digitOf (a .n % 10) ∷ [])
     ∙ ap (withText (a .line)) (sym (decimal-more (a .n) (c .before .before .before .if1 .left) small))

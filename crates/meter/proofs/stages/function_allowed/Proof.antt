@@ -9,35 +9,26 @@ use borrow.Author.Needs.{needs}
 use Rattle.meter.proofs.stages.function_allowed.Statement.{statement}
 use Rattle.meter.proofs.stages.function_allowed.Tie as tie
 
--- src/stages.rt:20:9
-functions-requires : tie.Need-functions-requires
-functions-requires c κs = search needs
-
--- src/stages.rt:22:9
 returns : tie.Need-returns
 returns c =
     let a = c .before .before .before .args in
     ap (λ (sum : ℕ). eqb (sum / 1 % 2) 1) (c .before .functions .ensures) ∙ code-read (now (a .sheet)) (c .if1 .taken)
 
--- src/stages.rt:25:9
 returns-2 : tie.Need-returns-2
 returns-2 c =
     let a = c .before .before .before .before .args in
     ap (λ (sum : ℕ). eqb (sum / 2 % 2) 1) (c .before .before .functions .ensures) ∙ code-clear (now (a .sheet)) (c .if2 .taken)
 
--- src/stages.rt:28:9
 returns-3 : tie.Need-returns-3
 returns-3 c =
     let a = c .before .before .before .before .before .args in
     ap (λ (sum : ℕ). eqb (sum / 4 % 2) 1) (c .before .before .before .functions .ensures) ∙ code-one (now (a .sheet)) (c .if3 .taken)
 
--- src/stages.rt:31:9
 returns-4 : tie.Need-returns-4
 returns-4 c =
     let a = c .before .before .before .before .before .before .args in
     ap (λ (sum : ℕ). eqb (sum / 8 % 2) 1) (c .before .before .before .before .functions .ensures) ∙ code-many (now (a .sheet)) (c .if4 .taken)
 
--- src/stages.rt:17:1
 returns-5 : tie.Need-returns-5
 returns-5 c =
     let a = c .before .before .before .before .before .before .args in
@@ -45,4 +36,4 @@ returns-5 c =
 
 pub function-allowed-spec : {M : Type 1} → statement M
 function-allowed-spec =
-    tie.close (tie.spec functions-requires returns returns-2 returns-3 returns-4 returns-5)
+    tie.close (tie.spec (λ c κs. search needs) returns returns-2 returns-3 returns-4 returns-5)

@@ -8,15 +8,6 @@ use borrow.Author.Needs.{needs}
 use Rattle.meter.proofs.stages.judged_write.Statement.{statement}
 use Rattle.meter.proofs.stages.judged_write.Tie as tie
 
--- src/stages.rt:150:9
-many-of-requires : tie.Need-many-of-requires
-many-of-requires c κs = search needs
-
--- src/stages.rt:151:9
-all-open-requires : tie.Need-all-open-requires
-all-open-requires c κs = search needs
-
--- src/stages.rt:152:9
 returns : tie.Need-returns
 returns c =
     let a = c .before .before .before .before .before .before .args in
@@ -24,19 +15,6 @@ returns c =
     write-shut (now (a .sheet)) (now (a .bank)) (now (a .frame)) (pre .1) (a .parts) (pre .0 .apart) (c .before .before .many-of .ensures)
     (c .before .all-open .ensures) (not-true (c .before .all-open .result) (c .if1 .taken))
 
--- src/stages.rt:155:17
-values-at-requires : tie.Need-values-at-requires
-values-at-requires c κs = search needs
-
--- src/stages.rt:156:16
-place-of-requires : tie.Need-place-of-requires
-place-of-requires c κs = search needs
-
--- src/stages.rt:157:15
-cast-t13 : tie.Need-cast-t13
-cast-t13 c = search needs
-
--- src/stages.rt:159:9
 stop-place-requires : tie.Need-stop-place-requires
 stop-place-requires c κs =
     let a = c .before .before .before .before .before .before .before .before .args in
@@ -44,14 +22,12 @@ stop-place-requires c κs =
     let small = place-small (now (a .sheet)) keeps (a .parts .start) in
     (keeps, (c .before .values-at .ensures, omega (arith, small, c .place-of .ensures, c .before .before .before .before .many-of .ok)))
 
--- src/stages.rt:160:15
 add-if2 : tie.Need-add-if2
 add-if2 c =
     let a = c .before .before .before .before .before .before .before .before .before .before .args in
     let small = place-small (now (a .sheet)) (c .before .before .before .before .before .before .before .before .before .before .pre .0 .sheetSound) (a .parts .start) in
     omega (arith, small, c .before .before .place-of .ensures, c .before .before .before .before .before .before .many-of .ok)
 
--- src/stages.rt:161:9
 returns-2 : tie.Need-returns-2
 returns-2 c =
     let d = c .before .before .before .before .before in
@@ -61,7 +37,6 @@ returns-2 c =
     (d .before .all-open .ensures) (not-false (d .before .all-open .result) (d .if1 .left))
     (c .before .before .before .place-of .ensures) (c .before .before .stop-place .ensures) (c .if2 .taken)
 
--- src/stages.rt:145:1
 returns-3 : tie.Need-returns-3
 returns-3 c =
     let d = c .before .before .before .before .before in
@@ -75,12 +50,12 @@ pub judged-write-spec : {M : Type 1} → statement M
 judged-write-spec =
     tie.close
     (tie.spec
-    many-of-requires
-    all-open-requires
+    (λ c κs. search needs)
+    (λ c κs. search needs)
     returns
-    values-at-requires
-    place-of-requires
-    cast-t13
+    (λ c κs. search needs)
+    (λ c κs. search needs)
+    (λ c. search needs)
     stop-place-requires
     add-if2
     returns-2

@@ -4,11 +4,9 @@ use borrow.Author.Tests.{eq-eqb, ne-eqb}
 use Rattle.meter.proofs.stages.many_of.Statement.{statement}
 use Rattle.meter.proofs.stages.many_of.Tie as tie
 
--- src/stages.rt:134:1
 returns : tie.Need-returns
 returns c = simp (eq-eqb (c .before .before .args .parts .function) 6 (c .if1 .taken))
 
--- src/stages.rt:134:1
 returns-2 : tie.Need-returns-2
 returns-2 c = simp (ne-eqb (c .before .before .args .parts .function) 6 (c .if1 .left))
 
