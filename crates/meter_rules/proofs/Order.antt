@@ -66,11 +66,6 @@ last-function sheet code permitted read clear one =
 
 -- what each step comes to, once it is known which function a frame has
 module _ (sheet bank frame : List ℕ) {read clear one many : Bool} (asks : Asks frame read clear one many) where
-  pub count-is : wrongCount frame ≡ (read && eqb (second frame) 0 || many && (eqb (second frame) 0 || not (eqb (byteCount frame) (2 * second frame))))
-  count-is =
-      ap₂ (λ (r m : Bool). r && eqb (second frame) 0 || m && (eqb (second frame) 0 || not (eqb (byteCount frame) (2 * second frame))))
-      (asks .isRead) (asks .isMany)
-
   pub write-is : isWrite frame ≡ (one || many)
   write-is = ap₂ (λ (o m : Bool). o || m) (asks .isOne) (asks .isMany)
 
@@ -91,18 +86,6 @@ module _ (sheet bank frame : List ℕ) {read clear one many : Bool} (asks : Asks
 
   pub bad-is : badWrite sheet bank frame ≡ ((one || many) && someBad sheet bank frame)
   bad-is = ap (λ (w : Bool). w && someBad sheet bank frame) write-is
-
--- the lengths: 10 apart from the others
-pub other-length : (frame : List ℕ) → (function frame ≡ writesMany → ⊥) → wrongLength frame ≡ not (eqb (length frame) 8)
-other-length frame e =
-    ap (λ (b : Bool). cond b (ltb (length frame) 9 || not (eqb (length frame) (9 + byteCount frame))) (not (eqb (length frame) 8)))
-    (ne-eqb (function frame) writesMany e)
-
-pub many-length : (frame : List ℕ) → function frame ≡ writesMany
-    → wrongLength frame ≡ (ltb (length frame) 9 || not (eqb (length frame) (9 + byteCount frame)))
-many-length frame e =
-    ap (λ (b : Bool). cond b (ltb (length frame) 9 || not (eqb (length frame) (9 + byteCount frame))) (not (eqb (length frame) 8)))
-    (ap (λ (n : ℕ). eqb n writesMany) e)
 
 -- a function that is one of the four is allowed as its bit says, and any other is not
 module _ (sheet : List ℕ) {code : ℕ} where
