@@ -6,8 +6,8 @@
   python3 tools/mutants.py --one NAME     tries one edit
 
 Sort A edits the code alone, found by pattern: a number by one, a comparison, a sum, a field or a parameter for another of its type.
-Sort B edits a definition and the code that meets it alike: the slips of tools/mutants.txt. Half of the edits are of each sort, spread
-evenly over the libraries. An edit of sort A that does not compile, or that changes the shape of a proof alone, is set aside, and
+Sort B are the slips of tools/mutants.txt: most edit a definition and the code that meets it alike, the others one of the two alone. Half
+of the edits are of each sort, spread evenly over the libraries. An edit of sort A that does not compile, or that changes the shape of a proof alone, is set aside, and
 another drawn in its place.
 
 The edited crates are checked first, by `rt dev`, over what earlier checks kept. For sort B, and where these refuse nothing, the programs that
