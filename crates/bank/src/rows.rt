@@ -15,7 +15,7 @@ fn word_inside(sheet: &[u8], n: usize) -> u16
     upper * 256 + lower
 }
 
-// A bound "in two words".
+// A bound, of two words.
 fn two_words_inside(sheet: &[u8], n: usize) -> u32
     requires { ⌜ 2 * n + 4 ≤ length (now sheet) ⌝ }
     ensures { λ r. ⌜ r ≡ twoWords (now (sheet .entry)) n ⌝ }

@@ -1,4 +1,4 @@
-// The check value of document 01, as a running state that takes one byte after another.
+// The check value, as a running state: rule C9.
 ghost use mathlib.Core.Path.{_≡_};
 ghost use denote.Ref.{now};
 ghost use Rattle.check_value.specs.Check.{startState, bitsOfByte, shiftedTimes, taken, valueOf, checkAt};

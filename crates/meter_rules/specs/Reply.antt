@@ -43,7 +43,7 @@ unfoldable pub replyTo : Judged → List ℕ → List ℕ → List ℕ
 replyTo judged bank frame =
     cond (eqb (errorCode judged) 0) (goodReply judged bank frame) (withCheck (errorReply frame (errorCode judged)))
 
--- what a frame stores: "Items in front of the first bad one are stored; the rest of the bank stays." "A good 05 sets the mark to 0."
+-- rules K5 to K10: what a frame stores
 unfoldable pub storesOf : Judged → List ℕ → List ℕ → List Store
 storesOf FailsCheck sheet frame = []
 storesOf OtherStation sheet frame = []

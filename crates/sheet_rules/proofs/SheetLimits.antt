@@ -105,7 +105,7 @@ right (broken-bytes bytes) = not (sound bytes)
 
 pub table : List Row
 table =
-    -- "0 version, 1"
+    -- rule S0
     broken-with base (at 0 0 ∷ [])
     ∷ sound-with base []
     ∷ broken-with base (at 0 2 ∷ [])

@@ -1,6 +1,6 @@
 // The rules of a sheet, with their laws: specs/ and proofs/ hold them. Here are the types that they speak of; there is no code.
 
-// An area row. 01: "first address, last address, first place, access".
+// An area row: rule S20.
 pub struct Area {
     pub first: u16,
     pub last: u16,
@@ -8,7 +8,7 @@ pub struct Area {
     pub access: u16,
 }
 
-// An item row. 01: "kind .., first place, low bound in two words, high bound in two words".
+// An item row: rule S40.
 pub struct Item {
     pub kind: u16,
     pub place: u16,
@@ -16,7 +16,7 @@ pub struct Item {
     pub high: u32,
 }
 
-// What lies at an address.
+// What lies at an address: rule S29.
 pub enum Lies {
     At { place: u32, access: u16 },
     Nowhere,
