@@ -352,7 +352,7 @@ static uint32_t times_covered(const struct sheet *sheet, uint32_t place)
     return times;
 }
 
-/* Whether each place of every access 3 area is covered least to most times. */
+/* Rule S47: whether the places of access 3 areas are each covered least to most times. */
 static bool covered_between(const struct sheet *sheet, uint32_t least, uint32_t most)
 {
     for (size_t area = 0; area < area_count(sheet); area++)

@@ -1,4 +1,4 @@
--- What each call on a bank refuses, answers, stores and leaves: 01, "Numbers handed back to the firmware". Assumes nothing.
+-- What each call on a bank refuses, answers, stores and leaves: sections B and N of the rules. Assumes nothing.
 use Prim.Native.Nat.{ℕ}
 use mathlib.Core.Bool.{Bool, not}
 use mathlib.Core.List.{List, [], _∷_, _++_}
@@ -21,7 +21,7 @@ pub record Lent : Type 0 where
 abbrev pub lent : List ℕ → List ℕ → Lent
 lent sheet bank = record { sheet = sheet; bank = bank }
 
--- ---- what is refused; 2 "sheet breaks a rule" is `brokenSheet`
+-- ---- what is refused; rule N2 is `brokenSheet`
 
 -- rule N3
 abbrev pub misfittingBank : Lent → Bool
@@ -70,7 +70,7 @@ postAnswer given address bytes = answerBy (postRefusals given address bytes)
 unfoldable pub markAnswer : Lent → ℕ → Answer
 markAnswer given mark = answerBy (markRefusals given mark)
 
--- ---- what is stored: a call that is done makes its stores, one that is refused makes none
+-- ---- what is stored: a call that is done makes its stores, one that is refused makes none (rule N52)
 
 abbrev pub effectOf : Answer → List Store → List Store
 effectOf Done stores = stores

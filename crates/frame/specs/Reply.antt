@@ -1,4 +1,4 @@
--- 01, "Replies": the bytes of each, its check behind it, and how it lies in an answer buffer. Assumes nothing.
+-- Section R of the rules: the bytes of each reply, its check behind it, and how it lies in an answer buffer. Assumes nothing.
 use Prim.Native.Nat.{ℕ, _+_, _*_, _/_, _%_}
 use mathlib.Core.Bool.{Bool, cond, _&&_}
 use mathlib.Core.List.{List, [], _∷_, _++_, map}
@@ -29,7 +29,7 @@ writeReply frame =
     (station frame ∷ writesMany ∷ wordBytes (start frame) ++ wordBytes (second frame))
     (echo frame)
 
--- "an error gives station, function with its top bit set, code"
+-- rule R5
 abbrev pub topBit : ℕ
 topBit = 0x80
 

@@ -68,19 +68,19 @@ actedOn judged sheet bank frame buffer =
     (stored bank (storesOf judged sheet frame))
     (laid (replyTo judged bank frame) buffer)
 
--- "Checked in the order 2, 3, 4, 5": whether the call is refused
+-- rules N50 and N51: whether the call is refused
 abbrev pub frameRefusals : Lent → List ℕ → List (Case Refusal)
 frameRefusals given buffer = checkRefusals given ++ (when (smallBuffer buffer) SmallBuffer ∷ [])
 
 unfoldable pub frameCheck : Lent → List ℕ → Answer
 frameCheck given buffer = answerBy (frameRefusals given buffer)
 
--- the effect of a call with one frame: what the judged frame stores, none where the call is refused
+-- rule N52, the effect of a call with one frame: what the judged frame stores, none where the call is refused
 abbrev pub frameEffect : Lent → List ℕ → List ℕ → List Store
 frameEffect given frame buffer =
     effectOf (frameCheck given buffer) (storesOf (judgedFrame (given .sheet) (given .bank) frame) (given .sheet) frame)
 
--- a refusal writes nothing
+-- rule N52: a refusal writes nothing
 abbrev pub unlessRefused : Answer → Lent → List ℕ → Outcome → Outcome
 unlessRefused Done given buffer acted = acted
 unlessRefused (answer.Refused refusal) given buffer acted = outcome (Refused refusal) (given .bank) buffer

@@ -1,5 +1,5 @@
--- Both sides of every limit of 01, "The sheet": a sheet with some of its words changed, the words of 01 in front of the rows that are about
--- them, as one table under one statement. Where it can be, a row has one fault alone; the row beside it has none. Assumes nothing.
+-- Both sides of every limit of section S of the rules: a sheet with some of its words changed, the rule in front of the rows that are about
+-- it, as one table under one statement. Where it can be, a row has one fault alone; the row beside it has none. Assumes nothing.
 use mathlib.Core.Path.{_≡_, refl}
 use mathlib.Core.Bool.{Bool, true, not}
 use mathlib.Core.List.{List, [], _∷_, _++_}
@@ -109,15 +109,15 @@ table =
     broken-with base (at 0 0 ∷ [])
     ∷ sound-with base []
     ∷ broken-with base (at 0 2 ∷ [])
-    -- "1 number of areas A, 1 to 8": 0, 1, 8, 9
+    -- rule S1: 0, 1, 8, 9
     ∷ broken-with (built 0 2 2) []
     ∷ sound-with (built 1 2 2) []
     ∷ sound-with (built 8 2 9) []
     ∷ broken-with (built 9 2 10) []
-    -- "2 offset of area rows, 12": one less, one more
+    -- rule S2: one less, one more
     ∷ broken-with base (at 2 11 ∷ [])
     ∷ broken-with base (at 2 13 ∷ [])
-    -- "3 number of items I, 2 to 64": 1, and in a bank of two words; 64 in the longest sheet of all, of 856 bytes; 65, and there with an area
+    -- rule S3: 1, and in a bank of two words; 64 in the longest sheet of all, of 856 bytes; 65, and there with an area
     -- or a word too many in place of the item
     ∷ broken-with (built 1 1 1) []
     ∷ broken-with (built 2 1 2) []
@@ -126,23 +126,23 @@ table =
     ∷ broken-with (built 8 65 256) []
     ∷ broken-with (built 9 64 256) []
     ∷ broken-with (built 8 64 257) []
-    -- "4 offset of item rows, 12 + 4A": one less, one more
+    -- rule S4: one less, one more
     ∷ broken-with base (at 4 23 ∷ [])
     ∷ broken-with base (at 4 25 ∷ [])
-    -- "5 number of bank words B, 2 to 256": 1 and 2 are above; 3, 256, 257
+    -- rule S5: 1 and 2 are above; 3, 256, 257
     ∷ sound-with (built 2 2 3) []
     ∷ sound-with (built 2 2 256) []
     ∷ broken-with (built 2 2 257) []
-    -- "6 functions allowed, 0 to 15": 0, 15 is the base's; 16, and 16 with 05
+    -- rule S6: 0, 15 is the base's; 16, and 16 with 05
     ∷ sound-with base (at 6 0 ∷ at 10 0 ∷ [])
     ∷ broken-with base (at 6 16 ∷ at 10 0 ∷ [])
     ∷ broken-with base (at 6 18 ∷ [])
-    -- "7 length of the sheet in words, 12 + 4A + 6I": one less and one more, alone and with as many bytes
+    -- rule S7: one less and one more, alone and with as many bytes
     ∷ broken-with base (at 7 59 ∷ [])
     ∷ broken-with base (at 7 61 ∷ [])
     ∷ broken-bytes (take 118 (bytesOf (changed 0 base (at 7 59 ∷ []))))
     ∷ broken-bytes (bytesOf (changed 0 base (at 7 61 ∷ [])) ++ (0 ∷ 0 ∷ []))
-    -- "The byte length is exactly twice word 7": none, the header alone, a word and a byte too few (zeros are cut off), a byte and a word too many
+    -- rule S12: none, the header alone, a word and a byte too few (zeros are cut off), a byte and a word too many
     ∷ broken-bytes []
     ∷ broken-bytes (take 24 (bytesOf base))
     ∷ broken-bytes (take 118 (bytesOf base))
@@ -150,18 +150,18 @@ table =
     ∷ sound-bytes (take 120 (bytesOf base ++ (0 ∷ [])))
     ∷ broken-bytes (bytesOf base ++ (0 ∷ []))
     ∷ broken-bytes (bytesOf base ++ (0 ∷ 0 ∷ []))
-    -- "11 zero": in each of its bytes
+    -- rule S11: in each of its bytes
     ∷ broken-with base (at 11 0x0001 ∷ [])
     ∷ broken-with base (at 11 0x0100 ∷ [])
-    -- "access (1 read only, 3 read and write)": area 2 has 1, the others have 3
+    -- rule S21: area 2 has 1, the others have 3
     ∷ broken-with base (at (access 2) 0 ∷ [])
     ∷ broken-with base (at (access 2) 2 ∷ [])
     ∷ broken-with base (at (access 2) 4 ∷ [])
     ∷ broken-with base (at (access 2) 0x0101 ∷ [])
-    -- "First is not above last": equal; one above, so that the area has no word
+    -- rule S22: equal; one above, so that the area has no word
     ∷ sound-with base (at (first 2) 0x0031 ∷ at 5 8 ∷ [])
     ∷ broken-with base (at (first 2) 0x0032 ∷ at 5 7 ∷ [])
-    -- "areas ascend and share no address": areas 0 and 1 touch, share 0014, descend
+    -- rule S23: areas 0 and 1 touch, share 0014, descend
     ∷ sound-with base (at (first 1) 0x0015 ∷ at (last 1) 0x0016 ∷ [])
     ∷ broken-with base (at (first 1) 0x0014 ∷ at (last 1) 0x0015 ∷ [])
     ∷ broken-with base (at (first 1) 0x000E ∷ at (last 1) 0x000F ∷ [])
@@ -172,11 +172,11 @@ table =
     ∷ broken-with base (at (first 2) 0x0001 ∷ at (last 2) 0x0002 ∷ [])
     -- from 0000, and up to FFFF, which are no neighbours
     ∷ sound-with base (at (first 0) 0x0000 ∷ at (last 0) 0x0004 ∷ at (first 2) 0xFFFE ∷ at (last 2) 0xFFFF ∷ [])
-    -- "an area's first place is the sum of the lengths before it": of the last area one less, one more; of the first one 1, items and all
+    -- rule S24: of the last area one less, one more; of the first one 1, items and all
     ∷ broken-with base (at (areaPlace 2) 6 ∷ [])
     ∷ broken-with base (at (areaPlace 2) 8 ∷ [])
     ∷ broken-with (built 1 2 2) (at 8 1 ∷ at 9 2 ∷ at (areaPlace 0) 1 ∷ at 17 1 ∷ at 23 2 ∷ [])
-    -- "the lengths sum to B": one less, one more
+    -- rule S25: one less, one more
     ∷ broken-with base (at 5 8 ∷ [])
     ∷ broken-with base (at 5 10 ∷ [])
     -- an area that goes on to FFFF, with the B of the base and with a B that is its sum, FFE5; an area of all 10000 addresses
@@ -184,7 +184,7 @@ table =
     ∷ broken-with base (at (first 2) 0x0022 ∷ at (last 2) 0xFFFF ∷ at 10 0 ∷ at 5 0xFFE5 ∷ [])
     ∷ broken-with (built 1 2 2) (at (last 0) 0xFFFF ∷ [])
     ∷ broken-with (built 1 2 2) (at (last 0) 0xFFFF ∷ at 5 0 ∷ [])
-    -- "If function 05 is allowed, the clear address lies in no area": beside each end of area 0, and at it; of area 2; 0000 and FFFF
+    -- rule S26: beside each end of area 0, and at it; of area 2; 0000 and FFFF
     ∷ sound-with base (at 10 0x000F ∷ [])
     ∷ broken-with base (at 10 0x0010 ∷ [])
     ∷ broken-with base (at 10 0x0014 ∷ [])
@@ -198,7 +198,7 @@ table =
     -- 05 alone
     ∷ sound-with base (at 6 2 ∷ [])
     ∷ broken-with base (at 6 2 ∷ at 10 0x0010 ∷ [])
-    -- "otherwise word 10 is 0": all others allowed; each of them alone; none
+    -- rule S27: all others allowed; each of them alone; none
     ∷ sound-with base (at 6 13 ∷ at 10 0 ∷ [])
     ∷ broken-with base (at 6 13 ∷ at 10 1 ∷ [])
     ∷ broken-with base (at 6 1 ∷ [])
@@ -208,10 +208,10 @@ table =
     -- 0000 lies in an area: without 05 it may, with 05 not
     ∷ sound-with base (at (first 0) 0x0000 ∷ at (last 0) 0x0004 ∷ at 6 13 ∷ at 10 0 ∷ [])
     ∷ broken-with base (at (first 0) 0x0000 ∷ at (last 0) 0x0004 ∷ at 10 0 ∷ [])
-    -- "kind (0 unsigned word, 1 signed word, 2 unsigned pair ..)": item 2 has 0; 1, 3
+    -- rule S41: item 2 has 0; 1, 3
     ∷ sound-with base (at (kind 2) 1 ∷ [])
     ∷ broken-with base (at (kind 2) 3 ∷ [])
-    -- "For kinds 0 and 1 the first word of each bound is 0": low, high and both of kind 0
+    -- rule S42: low, high and both of kind 0
     ∷ broken-with base (at (lowUpper 2) 1 ∷ [])
     ∷ broken-with base (at (highUpper 2) 1 ∷ [])
     ∷ broken-with base (at (lowUpper 2) 1 ∷ at (highUpper 2) 1 ∷ [])
@@ -220,14 +220,14 @@ table =
     ∷ broken-with base (at (low 4) 5 ∷ at (lowUpper 4) 1 ∷ [])
     ∷ broken-with base (at (highUpper 4) 1 ∷ [])
     ∷ broken-with base (at (lowUpper 4) 0xFFFF ∷ [])
-    -- "Low is not above high", kind 0: equal, one above, one below; without a sign
+    -- rule S44, kind 0: equal, one above, one below; without a sign
     ∷ sound-with base (at (low 2) 0x0020 ∷ [])
     ∷ broken-with base (at (low 2) 0x0021 ∷ [])
     ∷ broken-with base (at (high 2) 0x000F ∷ [])
     ∷ sound-with base (at (low 2) 0x7FFF ∷ at (high 2) 0x8000 ∷ [])
     ∷ broken-with base (at (low 2) 0x8000 ∷ at (high 2) 0x7FFF ∷ [])
     ∷ sound-with base (at (low 2) 0x0000 ∷ at (high 2) 0xFFFF ∷ [])
-    -- kind 1, "signed": equal, one above, one below; by the sign
+    -- rules S43 and S44, kind 1: equal, one above, one below; by the sign
     ∷ sound-with base (at (low 4) 0x003C ∷ [])
     ∷ broken-with base (at (low 4) 0x003D ∷ [])
     ∷ sound-with base (at (high 4) 0xFFF6 ∷ [])
@@ -236,7 +236,7 @@ table =
     ∷ broken-with base (at (low 4) 0x7FFF ∷ at (high 4) 0x8000 ∷ [])
     ∷ sound-with base (at (low 4) 0xFFFF ∷ at (high 4) 0x0000 ∷ [])
     ∷ broken-with base (at (low 4) 0x0000 ∷ at (high 4) 0xFFFF ∷ [])
-    -- kind 2, "upper word first": equal, one above, one below; by the upper word, without a sign
+    -- rules S40 and S44, kind 2: equal, one above, one below; by the upper word, without a sign
     ∷ sound-with base (at (lowUpper 3) 0x0003 ∷ at (low 3) 0x0004 ∷ [])
     ∷ broken-with base (at (lowUpper 3) 0x0003 ∷ at (low 3) 0x0005 ∷ [])
     ∷ broken-with base (at (highUpper 3) 0x0001 ∷ at (high 3) 0x0001 ∷ [])
@@ -244,9 +244,9 @@ table =
     ∷ broken-with base (at (lowUpper 3) 0x0004 ∷ at (low 3) 0x0000 ∷ [])
     ∷ sound-with base (at (lowUpper 3) 0x7FFF ∷ at (low 3) 0xFFFF ∷ at (highUpper 3) 0x8000 ∷ at (high 3) 0x0000 ∷ [])
     ∷ broken-with base (at (lowUpper 3) 0x8000 ∷ at (low 3) 0x0000 ∷ at (highUpper 3) 0x7FFF ∷ at (high 3) 0xFFFF ∷ [])
-    -- "Items ascend": the last two change places
+    -- rule S46: the last two change places
     ∷ broken-with base (at (place 4) 6 ∷ at (place 5) 5 ∷ [])
-    -- ".. and cover each place of every access 3 area exactly once": place 6 twice; place 3 twice, by two pairs; place 2 left out, 3 twice; the
+    -- rule S47, each place once: place 6 twice; place 3 twice, by two pairs; place 2 left out, 3 twice; the
     -- pair's lower half left out
     ∷ broken-with (another 6) []
     ∷ broken-with base (at (kind 2) 2 ∷ [])
@@ -257,20 +257,20 @@ table =
     ∷ broken-with base (at (last 1) 0x0022 ∷ at (areaPlace 2) 8 ∷ at 5 10 ∷ [])
     -- area 2 is of access 3 without items
     ∷ broken-with base (at (access 2) 3 ∷ [])
-    -- ".. and no other place": an access 1 place; the mark's place; area 1 is of access 1 with items
+    -- rule S47, and no other place: an access 1 place; the mark's place; area 1 is of access 1 with items
     ∷ broken-with (another 7) []
     ∷ broken-with (another 9) []
     ∷ broken-with base (at (access 1) 1 ∷ [])
-    -- "a pair lies within one area": places 3 and 4 are the last two of area 0 in the base; the first two of area 1; in both, of which the
+    -- rule S48: places 3 and 4 are the last two of area 0 in the base; the first two of area 1; in both, of which the
     -- addresses follow each other, or have a gap
     ∷ sound-with base (at (last 0) 0x0012 ∷ at (first 1) 0x001E ∷ at (areaPlace 1) 3 ∷ [])
     ∷ broken-with base (at (last 0) 0x0013 ∷ at (first 1) 0x0014 ∷ at (last 1) 0x0016 ∷ at (areaPlace 1) 4 ∷ [])
     ∷ broken-with base (at (last 0) 0x0013 ∷ at (first 1) 0x001F ∷ at (areaPlace 1) 4 ∷ [])
-    -- "Address and rate are different places": both at 1, both at 0; each at the other's
+    -- rule S60: both at 1, both at 0; each at the other's
     ∷ broken-with base (at 8 1 ∷ [])
     ∷ broken-with base (at 9 0 ∷ at (low 0) 0 ∷ at (high 0) 1 ∷ [])
     ∷ sound-with base (at 8 1 ∷ at 9 0 ∷ at (low 0) 0 ∷ at (high 0) 1 ∷ [])
-    -- ".. each a kind 0 item", the address: another item of kind 0; one of kind 1, and of kind 0 in its place
+    -- rule S61, the address: another item of kind 0; one of kind 1, and of kind 0 in its place
     ∷ sound-with base (at 8 2 ∷ at (low 2) 1 ∷ [])
     ∷ broken-with base (at 8 5 ∷ at (low 4) 1 ∷ [])
     ∷ sound-with base (at 8 5 ∷ at (low 4) 1 ∷ at (kind 4) 0 ∷ [])
@@ -290,14 +290,14 @@ table =
     ∷ broken-with base (at 9 4 ∷ at (lowUpper 3) 0 ∷ at (low 3) 0 ∷ at (highUpper 3) 0 ∷ at (high 3) 1 ∷ [])
     ∷ broken-with base (at 9 7 ∷ [])
     ∷ broken-with base (at 9 9 ∷ [])
-    -- ".. whose range holds 1; the address range is within 0 to FF": low 0, 2; high 1, FF, 100; 0..0
+    -- rules S62 and S63: low 0, 2; high 1, FF, 100; 0..0
     ∷ sound-with base (at (low 0) 0 ∷ [])
     ∷ broken-with base (at (low 0) 2 ∷ [])
     ∷ sound-with base (at (high 0) 1 ∷ [])
     ∷ sound-with base (at (high 0) 0x00FF ∷ [])
     ∷ broken-with base (at (high 0) 0x0100 ∷ [])
     ∷ broken-with base (at (low 0) 0 ∷ at (high 0) 0 ∷ [])
-    -- "the rate's is 0 to 1": 0..2, 1..1, 0..0
+    -- rule S64: 0..2, 1..1, 0..0
     ∷ broken-with base (at (high 1) 2 ∷ [])
     ∷ broken-with base (at (low 1) 1 ∷ [])
     ∷ broken-with base (at (high 1) 0 ∷ [])

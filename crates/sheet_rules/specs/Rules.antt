@@ -228,7 +228,7 @@ sound sheet = headerSound sheet && areasSound sheet && itemsSound sheet && setti
 abbrev pub brokenSheet : List ℕ → Bool
 brokenSheet sheet = not (sound sheet)
 
--- what the check of a sheet refuses, and what it answers
+-- rules S71 and N51: what the check of a sheet refuses, and what it answers
 abbrev pub sheetRefusals : List ℕ → List (Case Refusal)
 sheetRefusals sheet = when (brokenSheet sheet) BrokenSheet ∷ []
 
