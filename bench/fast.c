@@ -405,7 +405,7 @@ static inline uint32_t stored_word(const uint8_t *row, uint8_t *bank, const uint
     return 1;
 }
 
-/* Judges and stores item by item, so that those in front of the first bad one are stored. */
+/* Judges and stores item by item, as rule K5 has it. */
 static inline uint32_t answer_write(const struct call *call, const uint8_t *values, uint32_t count)
 {
     uint32_t place = place_of_run(call->sheet, word(call->frame + 2), count, 3), end = place + count, size;

@@ -5,7 +5,7 @@
 #include "cedarskein_sheets.h"
 #include "expect.h"
 
-/* What is wrong with a call, as bits. The order of the bits is the order in which document 01 looks: 2, 3, 4, 5, 7, 6. */
+/* What is wrong with a call, as bits. The order of the bits is rule N50's: 2, 3, 4, 5, 7, 6. */
 enum { BAD_SHEET = 1, BAD_SIZE = 2, UNSOUND = 4, SMALL_OUT = 8, BAD_INPUT = 16, BAD_ADDRESS = 32, ALL = 64 };
 
 static const uint8_t *const UX = cedarskein_ux_sheet;

@@ -4,7 +4,7 @@
  * post readings, set the alarm mark and answer frames. They call nothing, keep nothing between calls and use no heap:
  * all that a call works on is lent to it, as a pointer and a number of bytes.
  *
- * "Document 01" is the paper that the functions are proved against.
+ * docs/RULES.md has the rules that the functions are proved against, by number.
  *
  * Sizes
  *
@@ -13,9 +13,9 @@
  *
  * The bank
  *
- *   B words, then one word for the alarm mark: 2B + 2 bytes. B is word 5 of the sheet. Every word, of a sheet, of a bank
- *   and of posted bytes, is two bytes, upper byte first. The word of place p is bytes 2p and 2p + 1 of the bank; an
- *   area's addresses have the places from the area's first place upward. The mark is the last two bytes.
+ *   2B + 2 bytes: the words of places 0 to B - 1, and the alarm mark behind them. B is word 5 of the sheet. Every word, of
+ *   a sheet, of a bank and of posted bytes, is two bytes, the upper one first. The word of place p is bytes 2p and 2p + 1
+ *   of the bank; an area's addresses have the places from the area's first place upward. The mark is the last two bytes.
  *
  * The next station and the next rate
  *
@@ -95,7 +95,7 @@ enum cedarskein_number {
     CEDARSKEIN_DONE = 0,
     /* Silence: send nothing, and wait for the next frame. */
     CEDARSKEIN_SILENCE = 1,
-    /* The sheet breaks a rule: it is damaged or not a sheet. Stay off the line; nothing but a good sheet helps. */
+    /* The sheet is not sound: it is damaged or not a sheet. Stay off the line; nothing but a good sheet helps. */
     CEDARSKEIN_SHEET_BREAKS_RULE = 2,
     /* The bank has not 2B + 2 bytes: it belongs to another sheet, or bank_n is wrong. Mend the program; after a change of
      * sheet, make a new bank fresh. */
@@ -130,8 +130,9 @@ uint32_t cedarskein_sheet_check(const uint8_t *sheet, size_t sheet_n);
  * and 4. Writes nothing. */
 uint32_t cedarskein_bank_check(const uint8_t *sheet, size_t sheet_n, const uint8_t *bank, size_t bank_n);
 
-/* Makes a bank fresh, whatever it held: each item at its low bound, but station 1 and rate 1 (9600); read-only words 0; the
- * mark 0. Gives back 0, else the first of 2 and 3; the bank is then as it was. This is not the maker's factory setting. */
+/* Makes a bank fresh, whatever it held: the low bound of every item, but station 1 and 9600 (rate 1); words that can only be
+ * read, and the mark, 0. Gives back 0, else the first of 2 and 3; the bank is then as it was. This is not the maker's
+ * factory setting. */
 uint32_t cedarskein_bank_fresh(const uint8_t *sheet, size_t sheet_n, uint8_t *bank, size_t bank_n);
 
 /* Posts readings: takes words, upper byte first, and stores them from an address upward. Gives back 0, else the first of
@@ -146,8 +147,8 @@ uint32_t cedarskein_set_mark(const uint8_t *sheet, size_t sheet_n, uint8_t *bank
 
 /* Answers one frame, its check included, as it came from the line. Gives back
  *   0: the reply is the first *length bytes of out (5 to 99), its check included, to be sent at *rate. The bytes of out
- *      behind it are as they were. The bank has what the frame stored; with an error reply, the items in front of the
- *      first bad one;
+ *      behind it are as they were. The bank has what the frame stored; with an error reply, what stands ahead of the
+ *      first bad item;
  *   1: silence; *length and *rate are 0, and the bank and out are as they were;
  *   the first of 2, 3, 4 and 5: the same.
  * *length and *rate are written by every call. *rate is a rate only where the number is 0: 1 for 9600, 0 for 4800.

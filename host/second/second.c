@@ -1,6 +1,5 @@
-/* The rules of document 01, stated once more for the host tests.
- * Each comment in quotation marks is the sentence of 01 that the function
- * below it states. */
+/* The rules of docs/RULES.md, stated once more for the host tests. A comment
+ * names the rule that the function below it states. */
 #include "second.h"
 
 #include <stdbool.h>
@@ -8,7 +7,7 @@
 
 /* ---- Words ---- */
 
-/* "16-bit words, two bytes each, upper byte first." */
+/* rule G7 */
 static uint32_t word_at(const uint8_t *bytes, size_t index)
 {
     return (uint32_t)bytes[2 * index] << 8 | bytes[2 * index + 1];
@@ -44,7 +43,7 @@ static uint32_t address_place(const struct sheet *sheet) { return sheet_word(she
 static uint32_t rate_place(const struct sheet *sheet) { return sheet_word(sheet, 9); }
 static uint32_t clear_address(const struct sheet *sheet) { return sheet_word(sheet, 10); }
 
-/* "Area row: first address, last address, first place, access" */
+/* rule S20: the words of an area row */
 static uint32_t area_word(const struct sheet *sheet, size_t area, size_t column)
 {
     return sheet_word(sheet, 12 + 4 * area + column);
@@ -88,8 +87,7 @@ static bool area_holds_place(const struct sheet *sheet, size_t area, uint32_t pl
         && place < area_place(sheet, area) + area_length(sheet, area);
 }
 
-/* "Item row: kind (0 unsigned word, 1 signed word, 2 unsigned pair, upper word
- * first), first place, low bound in two words, high bound in two words." */
+/* rule S40: the words of an item row */
 static uint32_t item_word(const struct sheet *sheet, size_t item, size_t column)
 {
     return sheet_word(sheet, 12 + 4 * (size_t)area_count(sheet) + 6 * item + column);
@@ -110,8 +108,7 @@ static bool item_is_pair(const struct sheet *sheet, size_t item)
     return item_kind(sheet, item) == 2;
 }
 
-/* What two words mean in an item of a kind: "For kinds 0 and 1 the first word
- * of each bound is 0 and the second is the bound, signed for kind 1." */
+/* What two words mean in an item of a kind: rules S42, S43 and B3. */
 static int64_t value_of(uint32_t kind, uint32_t upper, uint32_t lower)
 {
     if (kind == 2)
@@ -171,53 +168,52 @@ static size_t area_of_address(const struct sheet *sheet, uint64_t address)
 
 /* ---- The rules of the header ---- */
 
-/* "Header, 12 words" */
+/* rule S12: room for a header */
 static bool keeps_header(const struct sheet *sheet) { return sheet->n >= 24; }
 
-/* "0 version, 1" */
+/* rule S0 */
 static bool keeps_version(const struct sheet *sheet) { return sheet_word(sheet, 0) == 1; }
 
-/* "1 number of areas A, 1 to 8" */
+/* rule S1 */
 static bool keeps_areas(const struct sheet *sheet)
 {
     return 1 <= area_count(sheet) && area_count(sheet) <= 8;
 }
 
-/* "2 offset of area rows, 12" */
+/* rule S2 */
 static bool keeps_area_offset(const struct sheet *sheet) { return sheet_word(sheet, 2) == 12; }
 
-/* "3 number of items I, 2 to 64" */
+/* rule S3 */
 static bool keeps_items(const struct sheet *sheet)
 {
     return 2 <= item_count(sheet) && item_count(sheet) <= 64;
 }
 
-/* "4 offset of item rows, 12 + 4A" */
+/* rule S4 */
 static bool keeps_item_offset(const struct sheet *sheet)
 {
     return sheet_word(sheet, 4) == 12 + 4 * area_count(sheet);
 }
 
-/* "5 number of bank words B, 2 to 256" */
+/* rule S5 */
 static bool keeps_bank_words(const struct sheet *sheet)
 {
     return 2 <= bank_words(sheet) && bank_words(sheet) <= 256;
 }
 
-/* "6 functions allowed, 0 to 15 (1 for 03, 2 for 05, 4 for 06, 8 for 10,
- * summed)" */
+/* rule S6 */
 static bool keeps_functions(const struct sheet *sheet) { return functions(sheet) <= 15; }
 
-/* "7 length of the sheet in words, 12 + 4A + 6I" */
+/* rule S7 */
 static bool keeps_length_word(const struct sheet *sheet)
 {
     return sheet_word(sheet, 7) == 12 + 4 * area_count(sheet) + 6 * item_count(sheet);
 }
 
-/* "11 zero." */
+/* rule S11 */
 static bool keeps_word_11(const struct sheet *sheet) { return sheet_word(sheet, 11) == 0; }
 
-/* "The byte length is exactly twice word 7 (at most 856)." */
+/* rule S12 */
 static bool keeps_byte_length(const struct sheet *sheet)
 {
     return sheet->n == 2 * (size_t)sheet_word(sheet, 7);
@@ -225,7 +221,7 @@ static bool keeps_byte_length(const struct sheet *sheet)
 
 /* ---- The rules of the area rows ---- */
 
-/* "access (1 read only, 3 read and write)." */
+/* rule S21 */
 static bool keeps_access(const struct sheet *sheet)
 {
     for (size_t area = 0; area < area_count(sheet); area++)
@@ -234,7 +230,7 @@ static bool keeps_access(const struct sheet *sheet)
     return true;
 }
 
-/* "First is not above last" */
+/* rule S22 */
 static bool keeps_first_last(const struct sheet *sheet)
 {
     for (size_t area = 0; area < area_count(sheet); area++)
@@ -243,7 +239,7 @@ static bool keeps_first_last(const struct sheet *sheet)
     return true;
 }
 
-/* "areas ascend" */
+/* rule S23, of first addresses */
 static bool keeps_areas_ascend(const struct sheet *sheet)
 {
     for (size_t area = 1; area < area_count(sheet); area++)
@@ -259,7 +255,7 @@ static bool areas_share(const struct sheet *sheet, size_t one, size_t other)
         && area_first(sheet, other) <= area_last(sheet, one);
 }
 
-/* "and share no address" */
+/* rule S23, of each two areas */
 static bool keeps_areas_apart(const struct sheet *sheet)
 {
     for (size_t area = 1; area < area_count(sheet); area++)
@@ -269,7 +265,7 @@ static bool keeps_areas_apart(const struct sheet *sheet)
     return true;
 }
 
-/* "an area's first place is the sum of the lengths before it" */
+/* rule S24 */
 static bool keeps_first_place(const struct sheet *sheet)
 {
     uint64_t sum = 0;
@@ -281,7 +277,7 @@ static bool keeps_first_place(const struct sheet *sheet)
     return true;
 }
 
-/* "the lengths sum to B." */
+/* rule S25 */
 static bool keeps_lengths_sum(const struct sheet *sheet)
 {
     uint64_t sum = 0;
@@ -292,14 +288,14 @@ static bool keeps_lengths_sum(const struct sheet *sheet)
 
 static bool clear_allowed(const struct sheet *sheet) { return (functions(sheet) & 2) != 0; }
 
-/* "If function 05 is allowed, the clear address lies in no area" */
+/* rule S26 */
 static bool keeps_clear_apart(const struct sheet *sheet)
 {
     return !clear_allowed(sheet)
         || area_of_address(sheet, clear_address(sheet)) == area_count(sheet);
 }
 
-/* "otherwise word 10 is 0." */
+/* rule S27 */
 static bool keeps_clear_zero(const struct sheet *sheet)
 {
     return clear_allowed(sheet) || clear_address(sheet) == 0;
@@ -307,7 +303,7 @@ static bool keeps_clear_zero(const struct sheet *sheet)
 
 /* ---- The rules of the item rows ---- */
 
-/* "kind (0 unsigned word, 1 signed word, 2 unsigned pair, upper word first)" */
+/* rule S41 */
 static bool keeps_kind(const struct sheet *sheet)
 {
     for (size_t item = 0; item < item_count(sheet); item++)
@@ -316,8 +312,8 @@ static bool keeps_kind(const struct sheet *sheet)
     return true;
 }
 
-/* "For kinds 0 and 1 the first word of each bound is 0": column 2 is the first
- * word of the low bound, column 4 that of the high bound. */
+/* rule S42: column 2 is the first word of the low bound, column 4 that of the
+ * high bound. */
 static bool first_words_are_0(const struct sheet *sheet, size_t column)
 {
     for (size_t item = 0; item < item_count(sheet); item++)
@@ -329,7 +325,7 @@ static bool first_words_are_0(const struct sheet *sheet, size_t column)
 static bool keeps_low_first_word(const struct sheet *sheet) { return first_words_are_0(sheet, 2); }
 static bool keeps_high_first_word(const struct sheet *sheet) { return first_words_are_0(sheet, 4); }
 
-/* "Low is not above high." */
+/* rule S44 */
 static bool keeps_low_high(const struct sheet *sheet)
 {
     for (size_t item = 0; item < item_count(sheet); item++)
@@ -338,7 +334,7 @@ static bool keeps_low_high(const struct sheet *sheet)
     return true;
 }
 
-/* "Items ascend" */
+/* rule S46 */
 static bool keeps_items_ascend(const struct sheet *sheet)
 {
     for (size_t item = 1; item < item_count(sheet); item++)
@@ -356,7 +352,7 @@ static uint32_t times_covered(const struct sheet *sheet, uint32_t place)
     return times;
 }
 
-/* Whether each place of every access 3 area is covered least to most times. */
+/* Rule S47: whether the places of access 3 areas are each covered least to most times. */
 static bool covered_between(const struct sheet *sheet, uint32_t least, uint32_t most)
 {
     for (size_t area = 0; area < area_count(sheet); area++)
@@ -368,8 +364,8 @@ static bool covered_between(const struct sheet *sheet, uint32_t least, uint32_t 
     return true;
 }
 
-/* "and cover each place of every access 3 area exactly once": none is left
- * out, and none is covered twice. */
+/* rule S47: no place of an access 3 area is left out, and none is covered
+ * twice. */
 static bool keeps_none_missing(const struct sheet *sheet)
 {
     return covered_between(sheet, 1, UINT32_MAX);
@@ -386,7 +382,7 @@ static bool place_is_access_3(const struct sheet *sheet, uint32_t place)
     return area < area_count(sheet) && area_access(sheet, area) == 3;
 }
 
-/* "and no other place" */
+/* rule S47, of places outside of access 3 areas */
 static bool keeps_no_other(const struct sheet *sheet)
 {
     for (size_t item = 0; item < item_count(sheet); item++) {
@@ -399,7 +395,7 @@ static bool keeps_no_other(const struct sheet *sheet)
     return true;
 }
 
-/* "a pair lies within one area." */
+/* rule S48 */
 static bool keeps_pair_in_area(const struct sheet *sheet)
 {
     for (size_t item = 0; item < item_count(sheet); item++) {
@@ -411,7 +407,7 @@ static bool keeps_pair_in_area(const struct sheet *sheet)
     return true;
 }
 
-/* "Address and rate are different places" */
+/* rule S60 */
 static bool keeps_different_places(const struct sheet *sheet)
 {
     return address_place(sheet) != rate_place(sheet);
@@ -423,7 +419,7 @@ static bool kind_0_item_at(const struct sheet *sheet, uint32_t place)
     return item < item_count(sheet) && item_kind(sheet, item) == 0;
 }
 
-/* "each a kind 0 item" */
+/* rule S61 */
 static bool keeps_address_item(const struct sheet *sheet)
 {
     return kind_0_item_at(sheet, address_place(sheet));
@@ -434,7 +430,7 @@ static bool keeps_rate_item(const struct sheet *sheet)
     return kind_0_item_at(sheet, rate_place(sheet));
 }
 
-/* "whose range holds 1"; a place without an item has no range to judge. */
+/* rule S62; a place without an item has no range to judge. */
 static bool range_at_holds_1(const struct sheet *sheet, uint32_t place)
 {
     size_t item = item_at(sheet, place);
@@ -451,7 +447,7 @@ static bool keeps_rate_holds_1(const struct sheet *sheet)
     return range_at_holds_1(sheet, rate_place(sheet));
 }
 
-/* "the address range is within 0 to FF" */
+/* rule S63 */
 static bool keeps_address_range(const struct sheet *sheet)
 {
     size_t item = item_at(sheet, address_place(sheet));
@@ -459,7 +455,7 @@ static bool keeps_address_range(const struct sheet *sheet)
         || (item_low(sheet, item) >= 0 && item_high(sheet, item) <= 0xFF);
 }
 
-/* "the rate's is 0 to 1." */
+/* rule S64 */
 static bool keeps_rate_range(const struct sheet *sheet)
 {
     size_t item = item_at(sheet, rate_place(sheet));
@@ -467,7 +463,7 @@ static bool keeps_rate_range(const struct sheet *sheet)
         || (item_low(sheet, item) == 0 && item_high(sheet, item) == 1);
 }
 
-/* ---- All rules in 01's order ---- */
+/* ---- All rules in their order ---- */
 
 struct rule {
     const char *name;
@@ -540,13 +536,13 @@ const char *second_rule_name(enum second_rule rule)
 
 /* ---- The bank ---- */
 
-/* "B words, then one word for the alarm mark: 2B + 2 bytes." */
+/* rule B1 */
 static size_t bank_size(const struct sheet *sheet)
 {
     return 2 * (size_t)bank_words(sheet) + 2;
 }
 
-/* What an item holds in the bank. */
+/* rule B3: what an item holds in the bank. */
 static int64_t item_value(const struct sheet *sheet, const uint8_t *bank, size_t item)
 {
     uint32_t place = item_place(sheet, item);
@@ -555,7 +551,7 @@ static int64_t item_value(const struct sheet *sheet, const uint8_t *bank, size_t
     return value_of(item_kind(sheet, item), 0, word_at(bank, place));
 }
 
-/* "It is sound when each item is in its range and the mark is 0 or 1." */
+/* rules B10 to B12 */
 static bool bank_sound(const struct sheet *sheet, const uint8_t *bank)
 {
     for (size_t item = 0; item < item_count(sheet); item++)
@@ -564,8 +560,7 @@ static bool bank_sound(const struct sheet *sheet, const uint8_t *bank)
     return word_at(bank, bank_words(sheet)) <= 1;
 }
 
-/* "Checked in the order 2, 3, 4, 5, 7, 6, so far as the call has that part; a
- * fresh bank does not test 4." Here 2 and 3. */
+/* rules N50 and N51, here 2 and 3. */
 static uint32_t refuse_size(const struct sheet *sheet, size_t bank_n)
 {
     if (second_broken_rule(sheet->bytes, sheet->n) != RULE_NONE)
@@ -607,8 +602,7 @@ static void put_low_bound(const struct sheet *sheet, uint8_t *bank, size_t item)
     }
 }
 
-/* "A fresh bank has each item at its low bound, except address 1 and rate 1
- * (9600; 0 is 4800), read-only words 0, mark 0." */
+/* rules B20 to B24 */
 uint32_t second_bank_fresh(const uint8_t *sheet, size_t sheet_n,
                            uint8_t *bank, size_t bank_n)
 {
@@ -639,7 +633,7 @@ static uint32_t place_of(const struct sheet *sheet, uint32_t address)
     return area_place(sheet, area) + (address - area_first(sheet, area));
 }
 
-/* "Posting writes words from a given address upward, all in access 1 areas." */
+/* rules B31 and B32 */
 static bool posted_addresses_good(const struct sheet *sheet, uint32_t address, size_t count)
 {
     for (size_t i = 0; i < count; i++)
@@ -665,7 +659,7 @@ uint32_t second_post(const uint8_t *sheet, size_t sheet_n,
     return NUMBER_DONE;
 }
 
-/* "Setting the mark stores a given 0 or 1 there." */
+/* rules B40 and B41 */
 uint32_t second_set_mark(const uint8_t *sheet, size_t sheet_n,
                          uint8_t *bank, size_t bank_n, uint32_t mark)
 {
@@ -681,14 +675,13 @@ uint32_t second_set_mark(const uint8_t *sheet, size_t sheet_n,
 
 /* ---- The check value ---- */
 
-/* "Start at FFFF." */
+/* rule C1 */
 uint16_t second_check_start(void)
 {
     return 0xFFFF;
 }
 
-/* "For each byte, exclusive-or it into the low eight bits; eight times shift
- * right by one and, if the bit shifted out was 1, exclusive-or A001." */
+/* rules C2 and C3 */
 uint16_t second_check_take(uint16_t state, uint8_t byte)
 {
     uint32_t value = (uint32_t)state ^ byte;
@@ -709,7 +702,7 @@ uint16_t second_check_value(const uint8_t *bytes, size_t bytes_n)
     return state;
 }
 
-/* "It covers all bytes but the last two, which hold it, low byte first." */
+/* rules C4 and C5 */
 static bool check_agrees(const uint8_t *frame, size_t frame_n)
 {
     uint16_t value = second_check_value(frame, frame_n - 2);
@@ -731,7 +724,7 @@ struct query {
 static uint32_t function_of(const struct query *query) { return query->frame[1]; }
 static uint32_t start_of(const struct query *query) { return word_at(query->frame + 2, 0); }
 
-/* The count of a 03 or 10, the value of a 05 or 06. */
+/* rule J2: the count of a 03 or 10, the value of a 05 or 06. */
 static uint32_t count_or_value_of(const struct query *query)
 {
     return word_at(query->frame + 4, 0);
@@ -742,13 +735,13 @@ static bool is_write(const struct query *query)
     return function_of(query) == WRITE_ONE || function_of(query) == WRITE_MANY;
 }
 
-/* How many addresses the run of a 03, 06 or 10 has. */
+/* rule J4: how many addresses the run of a 03, 06 or 10 has. */
 static uint32_t run_of(const struct query *query)
 {
     return function_of(query) == WRITE_ONE ? 1 : count_or_value_of(query);
 }
 
-/* The i-th word that a write brings. */
+/* rule J2: the i-th word that a write brings. */
 static uint32_t written_word(const struct query *query, uint32_t i)
 {
     if (function_of(query) == WRITE_ONE)
@@ -760,7 +753,7 @@ static uint32_t written_word(const struct query *query, uint32_t i)
  * Each gives the step that the frame stops at, or lets it go on. */
 #define GOES_ON STEP_REFUSED
 
-/* "1. Length not 4..100, or wrong check: silence." */
+/* step 1: rule J10 */
 static enum second_step step_1(const struct query *query)
 {
     if (query->n < 4)
@@ -772,8 +765,7 @@ static enum second_step step_1(const struct query *query)
     return GOES_ON;
 }
 
-/* "2. Station byte differs from the bank's address: silence. Address 0 is
- * compared like any other." */
+/* step 2: rules J20 and J21 */
 static enum second_step step_2(const struct query *query)
 {
     if (query->frame[0] != word_at(query->bank, address_place(&query->sheet)))
@@ -781,7 +773,7 @@ static enum second_step step_2(const struct query *query)
     return GOES_ON;
 }
 
-/* "(1 for 03, 2 for 05, 4 for 06, 8 for 10, summed)" */
+/* rule S13 */
 static uint32_t function_bit(uint32_t function)
 {
     switch (function) {
@@ -793,7 +785,7 @@ static uint32_t function_bit(uint32_t function)
     }
 }
 
-/* "3. Function not allowed: error 01." */
+/* step 3: rule J30 */
 static enum second_step step_3(const struct query *query)
 {
     if ((functions(&query->sheet) & function_bit(function_of(query))) == 0)
@@ -801,8 +793,7 @@ static enum second_step step_3(const struct query *query)
     return GOES_ON;
 }
 
-/* "4. 03, 05, 06 not of 8 bytes; 10 below 9 bytes or not 9 plus its byte
- * count: silence." */
+/* step 4: rules J40 and J41 */
 static enum second_step step_4(const struct query *query)
 {
     if (function_of(query) != WRITE_MANY)
@@ -814,8 +805,7 @@ static enum second_step step_4(const struct query *query)
     return GOES_ON;
 }
 
-/* "5. 03 with count 0; 10 with count 0 or byte count not twice the count:
- * error 03." */
+/* step 5: rules J50 to J52 */
 static enum second_step step_5(const struct query *query)
 {
     uint32_t count = count_or_value_of(query);
@@ -828,8 +818,7 @@ static enum second_step step_5(const struct query *query)
     return GOES_ON;
 }
 
-/* "An address of the run in no area, or for a write in an access 1 area, or
- * above FFFF" */
+/* step 6 for one address of a run: rules J60 to J62 */
 static enum second_step step_6_address(const struct query *query, uint32_t address)
 {
     if (address > 0xFFFF)
@@ -849,9 +838,7 @@ static enum second_step step_6_run(const struct query *query)
     return step;
 }
 
-/* "6. An address of the run in no area, or for a write in an access 1 area, or
- * above FFFF; 03 with count over 47; 05 at another address than the clear
- * address: error 02." */
+/* step 6: rules J60 to J65 */
 static enum second_step step_6(const struct query *query)
 {
     if (function_of(query) == CLEAR)
@@ -878,15 +865,13 @@ static bool is_upper_half(const struct query *query, uint32_t i)
         && item_place(&query->sheet, item) == place_of(&query->sheet, start_of(query) + i);
 }
 
-/* How many words of the write the item at the i-th word takes: "A pair with
- * both halves in the write is one item". */
+/* How many words of the write the item at the i-th word takes: rule K2. */
 static uint32_t words_taken(const struct query *query, uint32_t i)
 {
     return is_upper_half(query, i) && i + 1 < run_of(query) ? 2 : 1;
 }
 
-/* The value that a pair would get from the i-th word on: "a half alone is
- * judged with the other half now in the bank." */
+/* The value that a pair would get from the i-th word on: rules K2 and K3. */
 static int64_t pair_to_be(const struct query *query, uint32_t i)
 {
     uint32_t place = item_place(&query->sheet, written_item(query, i));
@@ -912,8 +897,8 @@ static bool written_item_good(const struct query *query, uint32_t i)
                             value_of(item_kind(sheet, item), 0, written_word(query, i)));
 }
 
-/* "A write is cut into items." How many of its words stand in front of the
- * first bad item; all of them if no item is bad. */
+/* rules K1 and K4: how many words of a write stand in front of its first bad
+ * item; all of them if no item is bad. */
 static uint32_t words_before_bad(const struct query *query)
 {
     uint32_t i = 0;
@@ -922,7 +907,7 @@ static uint32_t words_before_bad(const struct query *query)
     return i;
 }
 
-/* "7. 05 with a value other than 0; a write with a bad item: error 03." */
+/* step 7: rules J70 and J71 */
 static enum second_step step_7(const struct query *query)
 {
     if (function_of(query) == CLEAR && count_or_value_of(query) != 0)
@@ -942,7 +927,7 @@ static enum second_step good_step(const struct query *query)
     }
 }
 
-/* The steps one after the other. */
+/* rule J1: the steps one after the other. */
 static enum second_step judge(const struct query *query)
 {
     static enum second_step (*const steps[7])(const struct query *) = {
@@ -958,8 +943,7 @@ static enum second_step judge(const struct query *query)
 
 /* ---- What a frame does to the bank ---- */
 
-/* "Items in front of the first bad one are stored; the rest of the bank
- * stays." The number of words is taken before any is stored. */
+/* rules K5 to K7. The number of words is taken before any is stored. */
 static void store_words(const struct query *query, uint8_t *bank)
 {
     uint32_t count = words_before_bad(query);
@@ -967,7 +951,7 @@ static void store_words(const struct query *query, uint8_t *bank)
         put_word(bank, place_of(&query->sheet, start_of(query) + i), written_word(query, i));
 }
 
-/* "A good 05 sets the mark to 0." */
+/* rules K8 and K9 */
 static void store(const struct query *query, uint8_t *bank, enum second_step step)
 {
     if (step == STEP_GOOD_CLEAR)
@@ -1000,7 +984,7 @@ static bool is_silence(enum second_step step)
     return step < STEP_GOOD_READ && error_of(step) == 0;
 }
 
-/* "03 gives station, 03, twice the count, the words" */
+/* rule R1 */
 static uint32_t reply_words(const struct query *query, uint8_t *out)
 {
     uint32_t count = count_or_value_of(query);
@@ -1012,15 +996,14 @@ static uint32_t reply_words(const struct query *query, uint8_t *out)
     return 3 + 2 * count;
 }
 
-/* "05 and 06 echo; 10 gives station, 10, start, count": both are the first six
- * bytes of the frame. */
+/* rules R2 and R3: each is the first six bytes of the frame. */
 static uint32_t reply_echo(const struct query *query, uint8_t *out)
 {
     memcpy(out, query->frame, 6);
     return 6;
 }
 
-/* "an error gives station, function with its top bit set, code" */
+/* rules R4 and R5 */
 static uint32_t reply_error(const struct query *query, uint8_t *out, uint8_t code)
 {
     out[0] = query->frame[0];
@@ -1038,7 +1021,7 @@ static uint32_t reply_body(const struct query *query, uint8_t *out, enum second_
     return reply_echo(query, out);
 }
 
-/* "each then its check." */
+/* rule R6 */
 static uint32_t reply(const struct query *query, uint8_t *out, enum second_step step)
 {
     uint32_t n = reply_body(query, out, step);
@@ -1048,8 +1031,8 @@ static uint32_t reply(const struct query *query, uint8_t *out, enum second_step 
     return n + 2;
 }
 
-/* "Station and rate are those before the frame, also after an error that
- * stored part." The station is that of the frame, which agreed in step 2. */
+/* rule R7: the rate is taken before anything is stored, and the station is that
+ * of the frame, which agreed in step 2. */
 uint32_t second_answer(const uint8_t *sheet, size_t sheet_n,
                        uint8_t *bank, size_t bank_n,
                        const uint8_t *frame, size_t frame_n,

@@ -1,7 +1,7 @@
-/* A second statement of the rules of document 01, for the host tests.
+/* A second statement of the rules of docs/RULES.md, for the host tests.
  *
  * The nine functions do what the library's nine do. They are written for
- * reading, rule by rule in 01's order, and share nothing with the library.
+ * reading, rule by rule in that page's order, and share nothing with the library.
  * Words are two bytes, upper byte first. A null pointer with length 0 is an
  * empty slice. Frame and answer buffer must be separate memory. */
 #ifndef SECOND_H
@@ -30,7 +30,7 @@ uint32_t second_answer(const uint8_t *sheet, size_t sheet_n,
                        uint8_t *out, size_t out_n,
                        uint32_t *length, uint32_t *rate);
 
-/* The numbers of 01's table. */
+/* The numbers of the rules N0 to N7. */
 enum second_number {
     NUMBER_DONE = 0,
     NUMBER_SILENCE = 1,
@@ -42,7 +42,7 @@ enum second_number {
     NUMBER_POSTED_BYTES_OR_MARK = 7
 };
 
-/* The rules of 01's section on the sheet, in the order they are written. */
+/* The rules of a sheet, in their order: rules S0 to S64. */
 enum second_rule {
     RULE_NONE,
     RULE_HEADER,

@@ -28,8 +28,8 @@ struct made {
 /* A sound sheet of some shape. */
 void make_sound(struct made *made);
 
-/* The two makers' maps; 0109 of AS-WE goes up to 10, 1E or 3C for bore 40, 50
- * or 80. */
+/* The two makers' maps; the high bound of 0109 of AS-WE goes by the bore,
+ * as rule M22 has it. */
 void make_ux(struct made *made);
 void make_as_we(struct made *made, uint32_t bore);
 

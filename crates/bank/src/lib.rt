@@ -24,7 +24,7 @@ pub fn value_in(bank: &[u8], item: Item) -> u32
     word * 65536 + words::word_at(bank, at + 2) as u32
 }
 
-// Whether a bank is sound: each item in its range, and the mark 0 or 1.
+// Whether a bank is sound: rules B10 to B12.
 fn sound(sheet: &[u8], bank: &[u8]) -> bool
     requires { ⌜ sound (now sheet) ≡ true ⌝ }
     ensures { λ r. ⌜ r ≡ bankSound (now (sheet .entry)) (now (bank .entry)) ⌝ }
@@ -81,7 +81,7 @@ pub fn fresh(sheet: &[u8], bank: &mut [u8]) -> Answer
     Answer::Done
 }
 
-// Posts words from an address upward, all in access 1 areas.
+// Posts words: rules B30 to B32.
 pub fn post(sheet: &[u8], bank: &mut [u8], address: u32, bytes: &[u8]) -> Answer
     ensures { λ r. ⌜ bankOutcome r (now (bank .exit)) ≡ postOutcome (lent (now (sheet .entry)) (now (bank .entry))) address (now (bytes .entry)) ⌝ }
 {
@@ -102,7 +102,7 @@ pub fn post(sheet: &[u8], bank: &mut [u8], address: u32, bytes: &[u8]) -> Answer
     Answer::Done
 }
 
-// Sets the alarm mark to 0 or 1.
+// Sets the alarm mark: rules B40 and B41.
 pub fn set_mark(sheet: &[u8], bank: &mut [u8], mark: u32) -> Answer
     ensures { λ r. ⌜ bankOutcome r (now (bank .exit)) ≡ markOutcome (lent (now (sheet .entry)) (now (bank .entry))) mark ⌝ }
 {

@@ -95,7 +95,7 @@ module _ (given : Lent) where
     pub mark-small : leb mark 1 ≡ true
     mark-small = not-false (leb mark 1) (none-of-mark .1 .1 .1 .0)
 
--- ---- posting: "words from a given address upward, all in access 1 areas"
+-- ---- posting: rules B30 and B31
 
 module _ (given : Lent) (address : ℕ) (bytes : List ℕ) (done : postAnswer given address bytes ≡ Done) where
   abbrev sheet : List ℕ
@@ -165,7 +165,7 @@ module _ (given : Lent) (address : ℕ) (bytes : List ℕ) (done : postAnswer gi
   post-items item m place held =
       post-elsewhere place (λ k inside lies. read-only-unheld sheet (found .right) (address + k) place lies m held)
 
--- ---- the mark: "Setting the mark stores a given 0 or 1 there."
+-- ---- the mark: rule B40
 
 -- the word at a place after the store of a mark
 pub mark-stored : (sheet bank : List ℕ) → sound sheet ≡ true → fits sheet bank ≡ true → (mark place : ℕ)

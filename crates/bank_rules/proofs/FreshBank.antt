@@ -1,5 +1,4 @@
--- 01: "A fresh bank has each item at its low bound, except address 1 and rate 1 .., read-only words 0, mark 0", of the words that the stores
--- of a fresh bank leave. Assumes nothing.
+-- Rules B20 to B24, of the words that the stores of a fresh bank leave. Assumes nothing.
 use mathlib.Core.Path.{_≡_, refl, ap, subst, _∙_}
 use mathlib.Core.Bool.{Bool, true, false, _&&_, _||_, cond}
 use mathlib.Core.List.{List, [], _∷_, _++_, map}
@@ -75,7 +74,7 @@ module _ (sheet bank : List ℕ) (keeps : sound sheet ≡ true) (fitting : fits 
       ∙ latest-append (zeros ++ lowStores (items sheet)) settings place (wordOf bank place)
       ∙ ap (latest settings place) (latest-append zeros (lowStores (items sheet)) place (wordOf bank place))
 
-  -- "address 1 and rate 1"
+  -- rules B21 and B22
   pub fresh-address : wordOf (freshBank sheet bank) (addressPlace sheet) ≡ 1
   unfolding latest
   fresh-address = groups (addressPlace sheet) ∙ go (eqb (ratePlace sheet) (addressPlace sheet))
@@ -120,19 +119,19 @@ module _ (sheet bank : List ℕ) (keeps : sound sheet ≡ true) (fitting : fits 
       zero-all : (store : Store) → Among store zeros → store .place ≡ place → store .word ≡ 0
       zero-all store m at = ap (λ (s : Store). s .word) (among-map zeroAt (upFrom 0 (bankWords sheet + 1)) m .2)
 
-  -- "read-only words 0"
+  -- rule B23
   pub fresh-read-only : (address place : ℕ) → liesIn (areas sheet) address ≡ At place readOnly → wordOf (freshBank sheet bank) place ≡ 0
   fresh-read-only address place lies =
       fresh-unheld place (omega (arith, lies-below sheet keeps address place readOnly lies))
       (λ item m e. read-only-unheld sheet keeps address place lies m e)
 
-  -- "mark 0"
+  -- rule B24
   pub fresh-mark : wordOf (freshBank sheet bank) (markPlace sheet) ≡ 0
   fresh-mark =
       fresh-unheld (markPlace sheet) (omega arith)
       (λ item m e. let below = held-below sheet keeps (markPlace sheet) m e in omega arith)
 
-  -- "each item at its low bound"
+  -- rule B20
   module _ {item : Item} (among : Among item (items sheet)) (not-address : item .place ≡ addressPlace sheet → ⊥)
       (not-rate : item .place ≡ ratePlace sheet → ⊥) where
     low-word : (place : ℕ) → holds item place ≡ true → wordOf (freshBank sheet bank) place ≡ itemWord item (item .low) place

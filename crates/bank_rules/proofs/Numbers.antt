@@ -1,5 +1,5 @@
--- 01, "Numbers handed back to the firmware": each number is handed back exactly if its condition holds and none does that comes before it
--- in the order, and 0 exactly if none holds. Assumes nothing.
+-- Rules N50 and N51: each number is handed back exactly if its condition holds and none does that comes before it in the order, and 0
+-- exactly if none holds. Assumes nothing.
 use mathlib.Core.Path.{_≡_, refl}
 use mathlib.Core.Logic.{_↔_}
 use mathlib.Core.List.{List, [], _∷_}
@@ -12,7 +12,7 @@ use Rattle.sheet_rules.specs.Rules.{brokenSheet}
 use Rattle.bank_rules.specs.Bank.{emptyOrOdd}
 use Rattle.bank_rules.specs.Calls.{Lent, misfittingBank, unsoundBank, badMark, badAddress, checkRefusals, freshRefusals, postRefusals, markRefusals, checkAnswer, freshAnswer, postAnswer, markAnswer}
 
--- ---- the calls: "Checked in the order 2, 3, 4, 5, 7, 6, so far as the call has that part; a fresh bank does not test 4."
+-- ---- the calls, rule N51
 
 module _ (given : Lent) where
   pub check-numbers : InOrder (answerNumber (checkAnswer given)) []

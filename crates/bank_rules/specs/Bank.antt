@@ -1,5 +1,5 @@
--- 01, "The bank": its size, the value of an item, a sound bank, and the stores of a fresh bank, of posting and of setting the mark.
--- Assumes nothing.
+-- The bank: its size, the value of an item, a sound bank, and the stores of a fresh bank, of posting and of setting the mark. Assumes
+-- nothing.
 use Prim.Native.Nat.{ℕ, _+_, _*_, _/_, _%_}
 use mathlib.Core.Bool.{Bool, false, cond, _&&_, _||_}
 use mathlib.Core.List.{List, [], _∷_, _++_, map}
@@ -16,30 +16,30 @@ use Rattle.sheet_rules.specs.Rules.{isPair, readOnly}
 use Rattle.sheet_rules.specs.Lookup.{liesIn, placeIn}
 use Rattle.bank_rules.specs.Stores.{Store, wordOf}
 
--- "B words, then one word for the alarm mark: 2B + 2 bytes"
+-- rule B1: how many bytes a bank has
 abbrev pub bankBytes : List ℕ → ℕ
 bankBytes sheet = 2 * bankWords sheet + 2
 
 abbrev pub fits : List ℕ → List ℕ → Bool
 fits sheet bank = eqb (length bank) (bankBytes sheet)
 
--- the place of the mark
+-- rule B1: the place of the mark
 abbrev pub markPlace : List ℕ → ℕ
 markPlace sheet = bankWords sheet
 
--- the value of an item, where `at` gives the word at each place: its word, or for a pair both, "upper word first"
+-- rule B3, the value of an item, where `at` gives the word at each place: its word, or for a pair both, the upper one first
 abbrev pub valueBy : (ℕ → ℕ) → Item → ℕ
 valueBy at item = cond (isPair item) (at (item .place) * 65536 + at (item .place + 1)) (at (item .place))
 
--- an item is in its range, where `at` gives the word at each place
+-- rule B10, of one item, where `at` gives the word at each place
 unfoldable pub goodBy : (ℕ → ℕ) → Item → Bool
 goodBy at item = inRange (item .kind) (item .low) (item .high) (valueBy at item)
 
--- "It is sound when each item is in its range and the mark is 0 or 1."
+-- rules B10 to B12
 unfoldable pub bankSound : List ℕ → List ℕ → Bool
 bankSound sheet bank = each (goodBy (wordOf bank)) (items sheet) && leb (wordOf bank (markPlace sheet)) 1
 
--- the station and the rate of a bank
+-- the station and the rate of a bank: rules S8, S9, B21 and B22; the rate is a register's number, rules N54 and M31
 abbrev pub stationOf : List ℕ → List ℕ → ℕ
 stationOf sheet bank = wordOf bank (addressPlace sheet)
 
@@ -62,8 +62,7 @@ unfoldable pub lowStores : List Item → List Store
 lowStores [] = []
 lowStores (item ∷ behind) = itemStores item (item .low) ++ lowStores behind
 
--- "A fresh bank has each item at its low bound, except address 1 and rate 1 .., read-only words 0, mark 0": every word 0, then each
--- item at its low bound, then the address and the rate
+-- rules B20 to B24: every word 0, then the low bound of each item, then the address and the rate, which win
 unfoldable pub freshStores : List ℕ → List Store
 freshStores sheet =
     map zeroAt (upFrom 0 (bankWords sheet + 1)) ++ lowStores (items sheet)
@@ -71,32 +70,32 @@ freshStores sheet =
 
 -- ---- posting
 
--- what lies at an address is in an access 1 area
+-- what lies at an address has access 1
 abbrev pub isReadOnly : Lies → Bool
 isReadOnly (At place access) = eqb access readOnly
 isReadOnly Nowhere = false
 
--- the addresses that posted bytes are for, "words from a given address upward"
+-- rules B30 and B32: the addresses that posted bytes are for, as numbers without a width
 abbrev pub postedRun : ℕ → List ℕ → List ℕ
 postedRun address bytes = upFrom address (length bytes / 2)
 
--- "all in access 1 areas"
+-- rule B31
 unfoldable pub allReadOnly : List ℕ → List ℕ → Bool
 allReadOnly sheet run = each (λ address. isReadOnly (liesIn (areas sheet) address)) run
 
--- the k-th posted word, at the place of its address
+-- rule B30: the k-th posted word, at the place of its address
 abbrev pub postStore : List ℕ → ℕ → List ℕ → ℕ → Store
 postStore sheet address bytes k = record { place = placeIn (liesIn (areas sheet) (address + k)); word = wordAt bytes (2 * k) }
 
 unfoldable pub postStores : List ℕ → ℕ → List ℕ → List Store
 postStores sheet address bytes = map (postStore sheet address bytes) (upFrom 0 (length bytes / 2))
 
--- 7: "posted bytes empty or odd"
+-- rule N7, of posted bytes
 abbrev pub emptyOrOdd : List ℕ → Bool
 emptyOrOdd bytes = eqb (length bytes) 0 || eqb (length bytes % 2) 1
 
 -- ---- the mark
 
--- "Setting the mark stores a given 0 or 1 there."
+-- rule B40
 abbrev pub markStores : List ℕ → ℕ → List Store
 markStores sheet mark = record { place = markPlace sheet; word = mark } ∷ []

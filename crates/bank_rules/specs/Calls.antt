@@ -1,4 +1,4 @@
--- What each call on a bank refuses, answers, stores and leaves: 01, "Numbers handed back to the firmware". Assumes nothing.
+-- What each call on a bank refuses, answers, stores and leaves: sections B and N of the rules. Assumes nothing.
 use Prim.Native.Nat.{ℕ}
 use mathlib.Core.Bool.{Bool, not}
 use mathlib.Core.List.{List, [], _∷_, _++_}
@@ -21,25 +21,25 @@ pub record Lent : Type 0 where
 abbrev pub lent : List ℕ → List ℕ → Lent
 lent sheet bank = record { sheet = sheet; bank = bank }
 
--- ---- what is refused; 2 "sheet breaks a rule" is `brokenSheet`
+-- ---- what is refused; rule N2 is `brokenSheet`
 
--- 3 "bank not 2B + 2 bytes"
+-- rule N3
 abbrev pub misfittingBank : Lent → Bool
 misfittingBank given = not (fits (given .sheet) (given .bank))
 
--- 4 "bank not sound"
+-- rule N4
 abbrev pub unsoundBank : Lent → Bool
 unsoundBank given = not (bankSound (given .sheet) (given .bank))
 
--- 7 "posted bytes empty or odd" is `emptyOrOdd`; 7 "mark not 0 or 1"
+-- rules N7 and B41, of a mark (of posted bytes: `emptyOrOdd`)
 abbrev pub badMark : ℕ → Bool
 badMark mark = not (leb mark 1)
 
--- 6 "posted address not all in access 1 areas"
+-- rules N6 and B31
 abbrev pub badAddress : Lent → ℕ → List ℕ → Bool
 badAddress given address bytes = not (allReadOnly (given .sheet) (postedRun address bytes))
 
--- "Checked in the order 2, 3, 4, 5, 7, 6, so far as the call has that part; a fresh bank does not test 4."
+-- rules N50, N51 and B42: the refusals of each call, in their order
 abbrev pub freshRefusals : Lent → List (Case Refusal)
 freshRefusals given = when (brokenSheet (given .sheet)) BrokenSheet ∷ when (misfittingBank given) MisfittingBank ∷ []
 
@@ -70,7 +70,7 @@ postAnswer given address bytes = answerBy (postRefusals given address bytes)
 unfoldable pub markAnswer : Lent → ℕ → Answer
 markAnswer given mark = answerBy (markRefusals given mark)
 
--- ---- what is stored: a call that is done makes its stores, one that is refused makes none
+-- ---- what is stored: a call that is done makes its stores, one that is refused makes none (rule N52)
 
 abbrev pub effectOf : Answer → List Store → List Store
 effectOf Done stores = stores

@@ -3,7 +3,7 @@ use Prim.Native.Nat.{ℕ, _*_}
 use mathlib.Core.List.{List, [], _∷_}
 use Rattle.words.specs.Words.{wordAt, withWord}
 
--- "B words, then one word": the word at a place, "two bytes each, upper byte first"
+-- rule B2: the word at a place
 abbrev pub wordOf : List ℕ → ℕ → ℕ
 wordOf bank place = wordAt bank (2 * place)
 
@@ -12,7 +12,7 @@ pub record Store : Type 0 where
   pub place : ℕ
   pub word : ℕ
 
--- the bank after stores, the first one first
+-- rules B2 and K9: the bank after stores, the first one first; every other word stays
 unfoldable pub stored : List ℕ → List Store → List ℕ
 stored bank [] = bank
 stored bank (store ∷ stores) = stored (withWord bank (2 * store .place) (store .word)) stores

@@ -1,12 +1,11 @@
--- What the firmware is handed: 01's numbers, and the lent buffers as they are afterwards. 01, "Numbers handed back to the firmware".
--- Assumes nothing.
+-- What the firmware is handed: the numbers of section N of the rules, and the lent buffers as they are afterwards. Assumes nothing.
 use Prim.Native.Nat.{ℕ}
 use mathlib.Core.List.{List}
 use Rattle.refusals.specs.Answers.{answerNumber}
 use Rattle.bank_rules.specs.Calls.{BankOutcome}
 use Rattle.meter_rules.specs.Answer.{Outcome, answeredNumber, lengthIn, rateIn}
 
--- the number of a call on a bank, and the bank afterwards
+-- rule N53: the number of a call on a bank, and the bank afterwards
 pub record Told : Type 0 where
   pub number : ℕ
   pub bank : List ℕ

@@ -1,4 +1,4 @@
-// 01's number for each case of the library's answers.
+// The number of each case of the library's answers: rules N0 to N7.
 ghost use mathlib.Core.Path.{_≡_};
 ghost use Rattle.refusals.specs.Answers.{refusalNumber, answerNumber};
 ghost use Rattle.meter_rules.specs.Answer.{answeredNumber, lengthIn, rateIn};

@@ -1,4 +1,4 @@
--- Damage to a frame that passes is caught: one, two or three changed bits, and any number within one run of sixteen. Assumes nothing.
+-- Damage to a frame that passes, as rule D31 has it, is caught. Assumes nothing.
 use mathlib.Core.Path.{_≡_, refl, sym, ap, ap₂, _∙_, subst}
 use mathlib.Core.Logic.{⊎-elim}
 use mathlib.Core.Bool.{Bool, true, false, not, _&&_}
@@ -174,7 +174,7 @@ run-not-zero first place (true ∷ bits) h w q =
 
 -- ---- the theorem
 
--- the only even number from one to "three" is two
+-- the only even number from one to three is two
 few-even : (n : ℕ) → 1 ≤ n → n ≤ fewBits → n % 2 ≡ 0 → n ≡ 2
 few-even n h l e = omega arith
 

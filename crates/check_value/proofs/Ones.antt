@@ -1,4 +1,4 @@
--- Shifts keep the parity of the ones, so a frame that passes has an even number of one-bits. Assumes nothing.
+-- Shifts keep the parity of the ones, so a frame that passes has evenly many of them: rule C8. Assumes nothing.
 use mathlib.Core.Path.{_≡_, refl, sym, ap, _∙_}
 use mathlib.Core.Bool.{true}
 use mathlib.Core.List.{List, [], _∷_}
@@ -45,7 +45,7 @@ after-ones s (byte ∷ bytes) =
     ∙ parity-add (ones (taken s byte)) (ones s + ones byte) (onesOf bytes) (onesOf bytes) (taken-ones s byte) refl
     ∙ ap (λ (x : ℕ). x % 2) (add-assoc (ones s) (ones byte) (onesOf bytes))
 
--- "Every passing frame has an even number of one-bits."
+-- rule C8
 pub passing-even : (frame : List ℕ) → passes frame ≡ true → T (areBytes frame) → onesOf frame % 2 ≡ 0
 unfolding ones
 passing-even frame e t =

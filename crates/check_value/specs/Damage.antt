@@ -1,5 +1,5 @@
--- What demand 3 says of a frame and of what arrives of it: the bits in the order sent, those that were changed, and which changes the check
--- is to catch. The words quoted are the demand's, and for the order of the bits 01's. Assumes nothing.
+-- A frame and what arrives of it: the bits in sending order, those that were changed, and which changes the check is to catch (rules D31,
+-- D33 and C7). Assumes nothing.
 use mathlib.Core.Path.{_≡_}
 use mathlib.Core.Logic.{_⊎_}
 use mathlib.Core.Bool.{Bool, true, false, xor}
@@ -10,20 +10,20 @@ use lib.ListN.{length}
 use lib.Pow.{areBytes}
 use Rattle.check_value.specs.Check.{bitsOfByte}
 
--- "one, two or three bits changed"
+-- rule D31: how many bits may be changed anywhere
 abbrev pub fewBits : ℕ
 fewBits = 3
 
--- "within one run of sixteen"
+-- rule D31: how long a run is
 abbrev pub runBits : ℕ
 runBits = 16
 
--- the lowest bits of a number, "least significant bit first"
+-- the lowest bits of a number, the lowest of all first: rule C7
 unfoldable pub lowBits : ℕ → ℕ → List Bool
 lowBits zero n = []
 lowBits (suc count) n = eqb (n % 2) 1 ∷ lowBits count (n / 2)
 
--- "On the wire each byte goes least significant bit first": the bits of a frame in the order sent
+-- rules C7 and D33: the bits of a frame in sending order
 unfoldable pub wire : List ℕ → List Bool
 unfolding lowBits
 wire [] = []
@@ -50,12 +50,12 @@ unfoldable pub allWithin : ℕ → List ℕ → Type 0
 allWithin first [] = Unit {0}
 allWithin first (place ∷ places) = (first ≤ place) × (place < first + runBits) × allWithin first places
 
--- "within one run of sixteen in the order sent"
+-- rule D31: all changes lie in one run
 unfoldable pub WithinOneRun : List ℕ → Type 0
 unfolding allWithin
 WithinOneRun places = (first : ℕ) × allWithin first places
 
--- "its length kept, that has one, two or three bits changed, or any number, at least one, within one run of sixteen in the order sent"
+-- rules D31 and D34: damage that keeps the length
 pub record Damaged (sent received : List ℕ) : Type 0 where
   pub sentBytes : T (areBytes sent)
   pub receivedBytes : T (areBytes received)

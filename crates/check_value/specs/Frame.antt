@@ -1,4 +1,4 @@
--- 01, "The check value": where a frame holds its check, a frame that passes, and the sealing of a reply. Assumes nothing.
+-- Where a frame holds its check, a frame that passes, and the sealing of a reply. Assumes nothing.
 use Prim.Native.Nat.{ℕ, _+_, _-_, _*_, _/_, _%_}
 use mathlib.Core.Bool.{Bool, _&&_, cond}
 use mathlib.Core.List.{List}
@@ -7,22 +7,22 @@ use lib.ListN.{length, take, set}
 use Rattle.words.specs.Words.{byteAt}
 use Rattle.check_value.specs.Check.{valueOf}
 
--- "4 to 100 bytes"
+-- rule C6: how long a frame may be
 abbrev pub shortest : ℕ
 shortest = 4
 
 abbrev pub longest : ℕ
 longest = 100
 
--- "the last two, which hold it"
+-- rule C4: how many bytes hold the check
 abbrev pub checkBytes : ℕ
 checkBytes = 2
 
--- "It covers all bytes but the last two"
+-- rule C5: the bytes in front of them
 abbrev pub covered : List ℕ → List ℕ
 covered frame = take (length frame - checkBytes) frame
 
--- ".. which hold it, low byte first"
+-- rule C4: the value that they hold
 abbrev pub held : List ℕ → ℕ
 held frame = byteAt frame (length frame - 1) * 256 + byteAt frame (length frame - checkBytes)
 
@@ -32,11 +32,11 @@ lengthPasses frame = leb shortest (length frame) && leb (length frame) longest
 abbrev pub checkAgrees : List ℕ → Bool
 checkAgrees frame = eqb (valueOf (covered frame)) (held frame)
 
--- "A frame passes if it has 4 to 100 bytes and the value agrees."
+-- rules C6 and D30
 unfoldable pub passes : List ℕ → Bool
 passes frame = lengthPasses frame && checkAgrees frame
 
--- a buffer whose first bytes are followed by their check, low byte first; a buffer without room for it stays as it is
+-- rule R6, a buffer whose first bytes are followed by their check, low byte first; a buffer without room for it stays as it is
 unfoldable pub sealed : List ℕ → ℕ → List ℕ
 sealed buffer n =
     cond (leb (n + checkBytes) (length buffer))

@@ -1,13 +1,13 @@
-// The check value of document 01, as a running state that takes one byte after another.
+// The check value, as a running state: rule C9.
 ghost use mathlib.Core.Path.{_≡_};
 ghost use denote.Ref.{now};
 ghost use Rattle.check_value.specs.Check.{startState, bitsOfByte, shiftedTimes, taken, valueOf, checkAt};
 ghost use Rattle.check_value.specs.Frame.{passes, sealed};
 
-// "Start at FFFF."
+// Rule C1.
 const START_STATE: u16 = 0xFFFF;
 
-// "4 to 100 bytes", the last two of which hold the check.
+// Rule C6, the length; the last two bytes hold the check.
 pub const SHORTEST: usize = 4;
 
 pub const LONGEST: usize = 100;

@@ -88,7 +88,7 @@ pub answers-is : {given : Lent} {frame buffer : List ℕ} {left : Handed} → An
     → left ≡ handedOf (answerOutcome given frame buffer)
 answers-is (answers call) = call .post
 
--- ---- demand 2, the whole: what the contract of cedarskein_answer allows is exactly the outcome of the definition
+-- ---- demand 2, rule D20, the whole: what the contract of cedarskein_answer allows is exactly the outcome of the definition
 
 pub answer-exactly : (κs : Lfts 6) (passed : Dens κs answer.ps) (result : resT answer.r κs .Denot) (exit : AtExit (endedOf 6 answer.ps answer.r) κs)
     → answer-reads.Post κs passed result exit
@@ -96,7 +96,7 @@ pub answer-exactly : (κs : Lfts 6) (passed : Dens κs answer.ps) (result : resT
     ≡ handedOf (answerOutcome (lent (now (passed .0)) (now (passed .1 .0))) (now (passed .1 .1 .0)) (now (passed .1 .1 .1 .0))))
 answer-exactly κs passed result exit = (λ p. p, λ p. p)
 
--- ---- demand 1, "Any sheet, bank, frame and answer buffer is taken": no contract asks anything of what is lent ..
+-- ---- demand 1, rule D10: no contract asks anything of what is lent ..
 
 abbrev pub Takes : (n : ℕ) (ps : List (PK n)) → In n ps → Type 0
 Takes n ps Pre = (κs : Lfts n) (lent : Dens κs ps) → Pre κs lent

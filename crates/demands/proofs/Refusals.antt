@@ -1,7 +1,6 @@
--- Demand 1: "A sheet that breaks its rules, a bank that does not fit it, or a buffer under 100 bytes is refused by number, with nothing
--- written, and every call ends." For any call that a contract of the door allows: one of 01's numbers is handed back; each refusal's number
--- exactly if its condition holds and none does that comes before it in 01's order; and with a refusal nothing is written. That every call
--- ends is no statement of a contract: only a function that is shown to end is proved at all. Assumes nothing.
+-- Demand 1, rules D11 and D12. For any call that a contract of the door allows: one of the numbers of section N is handed back; each refusal's
+-- number exactly if its condition holds and none does that comes before it (rule N50); and with a refusal nothing is written. Rule D13 is no
+-- statement of a contract: only a function that is shown to end is proved at all. Assumes nothing.
 use mathlib.Core.Path.{_≡_, refl, sym, subst}
 use mathlib.Core.Bool.{true}
 use mathlib.Core.List.{List, [], _∷_}
@@ -33,7 +32,7 @@ use Rattle.demands.proofs.Calls.{ChecksSheet, ChecksBank, Freshens, Pos
 
 -- ---- the calls on a bank, and the two checks
 
--- a number by its cases in 01's order
+-- a number by its cases in the order of rule N50
 pub record ByNumber (cases : List (Case ℕ)) (number : ℕ) : Type 0 where
   pub oneOf : Among number (numbersOf cases)
   pub exactly : InOrder number [] cases

@@ -11,7 +11,7 @@ use Rattle.frame.specs.declared.Passed.{Passed}
 use Rattle.frame.specs.declared.Passed.the-variants.{Frame, Fails}
 use Rattle.frame.specs.declared.Parts.{Parts}
 
--- the functions: 03 reads, 05 clears the mark, 06 writes one register, 10 writes several
+-- rule J3: the functions
 abbrev pub reads : ℕ
 reads = 0x03
 
@@ -24,44 +24,44 @@ writesOne = 0x06
 abbrev pub writesMany : ℕ
 writesMany = 0x10
 
--- the station byte and the function byte
+-- rule J2: the station, and the function
 abbrev pub station : List ℕ → ℕ
 station frame = byteAt frame 0
 
 abbrev pub function : List ℕ → ℕ
 function frame = byteAt frame 1
 
--- the first word: the address, or the first one of a run
+-- rule J2: the first address
 abbrev pub start : List ℕ → ℕ
 start frame = wordAt frame 2
 
--- the second word: the count of 03 and 10, the value of 05 and 06
+-- rule J2: the count of 03 and 10, the value of 05 and 06
 abbrev pub second : List ℕ → ℕ
 second frame = wordAt frame 4
 
--- the byte count of 10
+-- rule J2: the byte count of 10
 abbrev pub byteCount : List ℕ → ℕ
 byteCount frame = byteAt frame 6
 
 abbrev pub isWrite : List ℕ → Bool
 isWrite frame = eqb (function frame) writesOne || eqb (function frame) writesMany
 
--- how many registers a read or a write is for, by its function and its second word: one for 06, else the count
+-- rule J4, how many registers a read or a write is for, by its function and its second word: one for 06, else the count
 abbrev pub manyOf : ℕ → ℕ → ℕ
 manyOf code word = cond (eqb code writesOne) 1 word
 
 abbrev pub count : List ℕ → ℕ
 count frame = manyOf (function frame) (second frame)
 
--- the addresses of a read or a write, as numbers without a width, so that a run past FFFF never comes round to 0
+-- rules J4 and J62: the addresses of a read or a write, as numbers without a width
 abbrev pub run : List ℕ → List ℕ
 run frame = upFrom (start frame) (count frame)
 
--- "03 with count over 47": the longest frame has room for no more words behind station, function, byte count and check
+-- rule J64: the longest frame has room for no more words behind station, function, byte count and check
 abbrev pub mostRead : ℕ
 mostRead = 47
 
--- where the words that a write sends begin: at the value of 06, or behind the byte count of 10
+-- rule J2: where the words that a write sends begin
 abbrev pub valuesAt : List ℕ → ℕ
 valuesAt frame = cond (eqb (function frame) writesOne) 4 7
 

@@ -1,4 +1,4 @@
--- 01, "Replies": the bytes of each, its check behind it, and how it lies in an answer buffer. Assumes nothing.
+-- Section R of the rules: the bytes of each reply, its check behind it, and how it lies in an answer buffer. Assumes nothing.
 use Prim.Native.Nat.{ℕ, _+_, _*_, _/_, _%_}
 use mathlib.Core.Bool.{Bool, cond, _&&_}
 use mathlib.Core.List.{List, [], _∷_, _++_, map}
@@ -14,32 +14,33 @@ use Rattle.frame.specs.Frame.{reads, writesMany, station, function, star
 abbrev pub wordsFrom : List ℕ → ℕ → ℕ → List ℕ
 wordsFrom source first many = map (λ place. wordAt source (2 * place)) (upFrom first many)
 
--- "03 gives station, 03, twice the count, the words"
+-- rule R1
 abbrev pub readReply : List ℕ → List ℕ → ℕ → ℕ → List ℕ
 readReply source frame first many = station frame ∷ reads ∷ (2 * many) ∷ bytesOf (wordsFrom source first many)
 
--- "05 and 06 echo": station, function, address, value
+-- rule R2: station, function, address, value
 abbrev pub echo : List ℕ → List ℕ
 echo frame = station frame ∷ function frame ∷ wordBytes (start frame) ++ wordBytes (second frame)
 
--- "05 and 06 echo; 10 gives station, 10, start, count"
+-- rules R2 and R3
 abbrev pub writeReply : List ℕ → List ℕ
 writeReply frame =
     cond (eqb (function frame) writesMany)
     (station frame ∷ writesMany ∷ wordBytes (start frame) ++ wordBytes (second frame))
     (echo frame)
 
--- "an error gives station, function with its top bit set, code"
+-- rule R5
 abbrev pub topBit : ℕ
 topBit = 0x80
 
 abbrev pub topBitSet : ℕ → ℕ
 topBitSet byte = cond (ltb byte topBit) (byte + topBit) byte
 
+-- rules R4 and R7: the station is the frame's, which step 2 found to be the bank's before the frame
 abbrev pub errorReply : List ℕ → ℕ → List ℕ
 errorReply frame code = station frame ∷ topBitSet (function frame) ∷ code ∷ []
 
--- ".. each then its check", low byte first
+-- rule R6
 unfoldable pub withCheck : List ℕ → List ℕ
 withCheck bytes = bytes ++ (valueOf bytes % 256 ∷ valueOf bytes / 256 ∷ [])
 
@@ -52,7 +53,7 @@ echoLength = 8
 
 -- ---- in the answer buffer
 
--- "reply in the first bytes, buffer beyond as before"
+-- rule N0: the reply, and behind it the buffer as it was
 abbrev pub laid : List ℕ → List ℕ → List ℕ
 laid reply buffer = reply ++ drop (length reply) buffer
 

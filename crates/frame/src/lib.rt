@@ -60,7 +60,7 @@ pub fn taken_apart(frame: &[u8]) -> Passed
 
 const TOP_BIT: u8 = 0x80;
 
-// A function byte with its top bit set.
+// A function byte in an error: rule R5.
 fn top_bit_set(function: u8) -> u8
     ensures { λ r. ⌜ r ≡ topBitSet function ⌝ }
 {
@@ -71,7 +71,7 @@ fn top_bit_set(function: u8) -> u8
     }
 }
 
-// "An error gives station, function with its top bit set, code", then its check. Gives the length of the reply, or 0 without room.
+// Rules R4 to R6. Gives the length of the reply, or 0 without room.
 pub fn reply_error(frame: &[u8], buffer: &mut [u8], code: u8) -> u32
     ensures { λ r. ⌜ fill r (now (buffer .exit)) ≡ layReply (withCheck (errorReply (now (frame .entry)) code)) (now (buffer .entry)) ⌝ }
 {
@@ -85,7 +85,7 @@ pub fn reply_error(frame: &[u8], buffer: &mut [u8], code: u8) -> u32
     ERROR_LENGTH
 }
 
-// "05 and 06 echo; 10 gives station, 10, start, count": in each case the frame's first six bytes, then their check.
+// Rules R2, R3 and R6: in each case the frame's first six bytes, then their check.
 pub fn reply_echo(frame: &[u8], buffer: &mut [u8]) -> u32
     ensures { λ r. ⌜ fill r (now (buffer .exit)) ≡ layReply (withCheck (echo (now (frame .entry)))) (now (buffer .entry)) ⌝ }
 {
@@ -116,7 +116,7 @@ fn lay_words(source: &[u8], buffer: &mut [u8], first: u32, many: u32)
     }
 }
 
-// "03 gives station, 03, twice the count, the words", then its check. The words are those of a source, from a place on.
+// Rules R1 and R6. The words are those of a source, from a place on.
 pub fn reply_read(source: &[u8], frame: &[u8], buffer: &mut [u8], first: u32, many: u32) -> u32
     ensures { λ r. ⌜ fill r (now (buffer .exit)) ≡ layReply (withCheck (readReply (now (source .entry)) (now (frame .entry)) first many)) (now (buffer .entry)) ⌝ }
 {

@@ -1,4 +1,4 @@
--- 01's own example of the listing. Assumes nothing.
+-- The example of the listing, rule L8. Assumes nothing.
 use Prim.Native.Nat.{ℕ}
 use mathlib.Core.Path.{_≡_, refl}
 use mathlib.Core.List.{List, [], _∷_}
@@ -11,7 +11,7 @@ use Rattle.lists.specs.Lists.{each, some, samePlaces}
 use Rattle.listing.specs.Ascii.{ascii}
 use Rattle.listing.specs.Text.{listing, decimal, decimalWithin, signedDecimal, summaryText, itemText, itemTexts}
 
--- "Input words `0001 0001 000C .. 003C`", two bytes each
+-- the words of rule L8, two bytes each
 abbrev pub input : List ℕ
 input =
     0x00 ∷ 0x01 ∷ 0x00 ∷ 0x01 ∷ 0x00 ∷ 0x0C ∷ 0x00 ∷ 0x03

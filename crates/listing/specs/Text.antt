@@ -1,6 +1,4 @@
--- 01, "Both sides of each line", the listing: "one line of areas, items and bank words in decimal, then for each item its first
--- address in four upper-case hexadecimal digits, kind (u, s, p), low and high in decimal. A bad sheet gives the line `sheet refused`."
--- Each line as its bytes, with single blanks, ended by one line feed. Assumes nothing.
+-- The listing of a sheet, each line as its bytes: rules L2 to L7. Assumes nothing.
 use mathlib.Core.Bool.{cond}
 use Prim.Native.Char.{code}
 use Prim.Native.Nat.{ℕ, zero, suc, _+_, _-_, _/_, _%_}
@@ -20,7 +18,7 @@ use Rattle.listing.specs.Ascii.{ascii}
 abbrev pub digitOf : ℕ → ℕ
 digitOf n = cond (ltb n 10) (0x30 + n) (0x41 + n - 10)
 
--- "in decimal": the digits of a number, the fewest that say it, for numbers of at most so many digits
+-- a number in decimal: the fewest digits that say it, for numbers of at most so many digits
 unfoldable pub decimalWithin : ℕ → ℕ → List ℕ
 decimalWithin zero n = []
 decimalWithin (suc places) n =
@@ -30,22 +28,23 @@ decimalWithin (suc places) n =
 unfoldable pub decimal : ℕ → List ℕ
 decimal n = decimalWithin 10 n
 
--- a number with its sign
+-- rule L5: a number with its sign
 unfoldable pub signedDecimal : ℤ → List ℕ
 signedDecimal (pos n) = decimal n
 signedDecimal (negsuc n) = code "-" ∷ decimal (suc n)
 
--- "in four upper-case hexadecimal digits"
+-- rule L3: four digits
 abbrev pub hexadecimal : ℕ → List ℕ
 hexadecimal n =
     digitOf (n / 4096 % 16) ∷ digitOf (n / 256 % 16) ∷ digitOf (n / 16 % 16) ∷ digitOf (n % 16) ∷ []
 
--- "kind (u, s, p)"
+-- rule L4
 abbrev pub letterOf : ℕ → ℕ
 letterOf zero = code "u"
 letterOf (suc zero) = code "s"
 letterOf (suc (suc kind)) = code "p"
 
+-- rule L7: what stands between words, and at the end of a line
 abbrev pub blank : ℕ
 blank = code " "
 
@@ -56,13 +55,13 @@ lineFeed = code "\n"
 abbrev pub counted : String → ℕ → List ℕ
 counted word n = ascii word ++ decimal n
 
--- "one line of areas, items and bank words in decimal"
+-- rule L2
 unfoldable pub summaryText : List ℕ → List ℕ
 summaryText sheet =
     counted "areas " (areaCount sheet) ++ counted " items " (itemCount sheet) ++ counted " bank " (bankWords sheet)
     ++ (lineFeed ∷ [])
 
--- "its first address .., kind (u, s, p), low and high in decimal", by the areas of the sheet
+-- rule L3, by the areas of the sheet
 unfoldable pub itemText : List Area → Item → List ℕ
 itemText all item =
     hexadecimal (addressOf all (item .place)) ++ (blank ∷ letterOf (item .kind) ∷ blank ∷ [])
@@ -73,6 +72,6 @@ unfoldable pub itemTexts : List Area → List Item → List ℕ
 itemTexts all [] = []
 itemTexts all (item ∷ behind) = itemText all item ++ itemTexts all behind
 
--- what the listing program writes for the bytes that it is given
+-- rules L3 and L6: what the listing program writes for the bytes that it is given
 unfoldable pub listing : List ℕ → List ℕ
 listing sheet = cond (sound sheet) (summaryText sheet ++ itemTexts (areas sheet) (items sheet)) (ascii "sheet refused\n")

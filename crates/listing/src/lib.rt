@@ -49,7 +49,7 @@ fn with_count(line: Line, word: &[u8], count: u16) -> Line
     append::decimal(append::text(line, word), count as u32)
 }
 
-// The line of areas, items and bank words.
+// The first line: rule L2.
 pub fn summary(sheet: &[u8]) -> Line
     ensures { λ r. ⌜ r ≡ lineOf (summaryText (now (sheet .entry))) ⌝ }
 {

@@ -1,4 +1,4 @@
--- Cases in an order: the first that holds wins. 01 states its refusals and its steps of judgement so. Assumes nothing.
+-- Cases in an order: the first that holds wins, as rules J1 and N50 have it. Assumes nothing.
 use mathlib.Core.Path.{_≡_}
 use mathlib.Core.Bool.{Bool, true, false, cond}
 use mathlib.Core.Logic.{_↔_}

@@ -5,7 +5,7 @@ use mathlib.Core.Bool.{Bool, true, false, _&&_, _||_}
 use mathlib.Core.List.{List, [], _∷_}
 use lib.Dec.{leb, eqb}
 
--- "1 to 8" and the like: both ends count
+-- a number lies between two others, or is one of them
 abbrev pub between : ℕ → ℕ → ℕ → Bool
 between low high n = leb low n && leb n high
 

@@ -9,7 +9,7 @@ use sheet_rules::Lies;
 use sheet_rules::Purpose;
 use sheet_rules::Run;
 
-// "access (1 read only, 3 read and write)"
+// The two accesses: rule S21.
 const READ_ONLY: u16 = 1;
 
 const READ_AND_WRITE: u16 = 3;

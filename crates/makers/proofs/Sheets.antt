@@ -1,5 +1,5 @@
--- Each maker's sheet breaks no rule of 01 and says exactly its map: its areas and items, the rows of the map by their addresses, and the
--- header's numbers. Assumes nothing.
+-- Rule M3: each maker's sheet breaks no rule and says exactly its map: its areas and items, the rows of the map by their addresses, and
+-- the header's numbers. Assumes nothing.
 use Prim.Native.Nat.{ℕ}
 use mathlib.Core.Path.{_≡_, refl, ap}
 use mathlib.Core.Bool.{Bool, true}
@@ -15,7 +15,7 @@ use Rattle.sheet_rules.specs.Lookup.{addressOf}
 use Rattle.makers.specs.Maps.{Row, Map, ux, aswe, bore40, bore50, bore80}
 use Rattle.makers.specs.Sheets.{areasOf, itemsOf, sheetOf}
 
--- the meters that 01 maps
+-- the meters that have a map
 pub data Meter : Type 0 where
   ux15-25 aswe-40 aswe-50 aswe-80 : Meter
 
@@ -25,7 +25,7 @@ mapOf aswe-40 = aswe bore40
 mapOf aswe-50 = aswe bore50
 mapOf aswe-80 = aswe bore80
 
--- what 01 says of a meter's numbers: areas as its addresses fall into runs, "18 items" and "B is 34", "22 items" and "B is 38"
+-- a meter's numbers of areas, of items and of bank words: rules M14 and M25
 pub record Counts : Type 0 where
   pub areas : ℕ
   pub items : ℕ

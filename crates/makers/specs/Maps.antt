@@ -1,5 +1,5 @@
--- 01, "Two meters' maps", row by row in the order of their addresses: first address, kind, low and high bound. Every number here is hexadecimal, as
--- in 01. Assumes nothing.
+-- The makers' maps, rules M10 to M25, row by row in the order of their addresses: first address, kind, low and high bound. Every number here is
+-- hexadecimal, as rule G6 has it. Assumes nothing.
 use Prim.Native.Nat.{ℕ, _+_}
 use mathlib.Core.List.{List, [], _∷_}
 use Rattle.range.specs.Range.{unsignedWord, signedWord, unsignedPair}
@@ -12,24 +12,24 @@ pub record Row : Type 0 where
   pub low : ℕ
   pub high : ℕ
 
--- "0101 0..4"
+-- rule M2: a word without sign
 abbrev pub plain : ℕ → ℕ → ℕ → Row
 plain address low high = record { first = address; kind = unsignedWord; low = low; high = high }
 
--- "0100 signed FFF6..003C"
+-- rule M2: a word with sign
 abbrev pub signed : ℕ → ℕ → ℕ → Row
 signed address low high = record { first = address; kind = signedWord; low = low; high = high }
 
--- "pairs 0103, .. each 0..0001869F"
+-- rule M2: a pair
 abbrev pub pair : ℕ → ℕ → ℕ → Row
 pair address low high = record { first = address; kind = unsignedPair; low = low; high = high }
 
--- "010D rate": "the rate's is 0 to 1"
+-- rule M2: a rate
 abbrev pub rate : ℕ → Row
 rate address = plain address 0x0 0x1
 
--- a meter's map: its rows, "Read only" with its first and last address, "Functions", "clear address" (0 where function 05 is not
--- allowed), and the addresses of the rows that 01 calls address and rate
+-- a meter's map: its rows, the first and the last address of its access 1 area, the functions that it allows, its clear address (0 where 05 is
+-- not among them), and the addresses of the rows that are its address and its rate
 pub record Map : Type 0 where
   pub rows : List Row
   pub readOnlyFirst : ℕ
@@ -39,7 +39,7 @@ pub record Map : Type 0 where
   pub address : ℕ
   pub rate : ℕ
 
--- "UX15/25 (18 items)"
+-- rules M10 and M32
 abbrev pub uxRows : List Row
 uxRows =
     signed 0x0100 0xFFF6 0x003C
@@ -62,6 +62,7 @@ uxRows =
     ∷ plain 0x0116 0x0 0x4
     ∷ []
 
+-- rules M11 to M13, of UX15/25
 abbrev pub ux : Map
 ux =
     record {
@@ -74,7 +75,7 @@ ux =
       rate = 0x010D;
     }
 
--- "AS-WE (22 items)"; `bore` is the high bound of 0109, which is all that a bore changes
+-- rules M20 and M30; `bore` is the high bound of 0109, which is all that a bore changes
 abbrev pub asweRows : ℕ → List Row
 asweRows bore =
     plain 0x00FF 0x0 0x1
@@ -101,6 +102,7 @@ asweRows bore =
     ∷ plain 0x0124 0x0 0x03E8
     ∷ []
 
+-- rules M21, M23 and M24, of AS-WE
 abbrev pub aswe : ℕ → Map
 aswe bore =
     record {
@@ -113,7 +115,7 @@ aswe bore =
       rate = 0x0107;
     }
 
--- "0109 0..10, 0..1E or 0..3C for bore 40, 50 or 80": the high bound of 0109 for each bore
+-- rules M22 and G2: the high bound of 0109 for each bore
 abbrev pub bore40 : ℕ
 bore40 = 0x10
 

@@ -13,7 +13,7 @@ use Rattle.sheet_rules.specs.Rules.{readOnly, readAndWrite, lengthsSum}
 use Rattle.sheet_rules.specs.Lookup.{liesIn, placeIn}
 use Rattle.makers.specs.Maps.{Row, Map}
 
--- ---- areas: one for each unbroken run of addresses
+-- ---- areas: one for each unbroken run of addresses, rule M1
 
 -- an unbroken run of addresses
 pub record Run : Type 0 where
@@ -44,7 +44,7 @@ runs map =
     runsOf (map .rows)
     ++ (record { first = map .readOnlyFirst; last = map .readOnlyLast; access = readOnly } ∷ [])
 
--- "an area's first place is the sum of the lengths before it"
+-- the runs as areas, each at the place that rule S24 gives it
 unfoldable pub placed : ℕ → List Run → List Area
 placed before [] = []
 placed before (run ∷ behind) =
@@ -68,7 +68,7 @@ unfoldable pub itemsOf : Map → List Item
 unfolding areasOf itemsAt
 itemsOf map = itemsAt (areasOf map) (map .rows)
 
--- ---- the sheet, word by word
+-- ---- the sheet, word by word (its numbers: rules M14 and M25)
 
 unfoldable pub headerWords : Map → List ℕ
 unfolding areasOf liesIn lengthsSum

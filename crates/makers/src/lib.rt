@@ -1,4 +1,4 @@
-// The two makers' sheets, made from 01's maps.
+// The two makers' sheets: rules M10 to M25.
 ghost use mathlib.Core.Path.{_≡_};
 ghost use Rattle.makers.specs.Maps.{ux, aswe, bore40, bore50, bore80};
 ghost use Rattle.makers.specs.Sheets.{sheetOf};

@@ -75,7 +75,7 @@ pub(crate) fn judged(sheet: &[u8], bank: &[u8], frame: &[u8]) -> Judged
     judged_length(sheet, bank, frame, parts)
 }
 
-// Step 4: 03, 05, 06 have 8 bytes, and 10 has 9 plus its byte count.
+// Step 4: rules J40 and J41.
 fn judged_length(sheet: &[u8], bank: &[u8], frame: &[u8], parts: Parts) -> Judged
     requires { ⌜ Known (now sheet) (now frame) parts ⌝ }
     ensures { λ r. ⌜ r ≡ judgedFrom 3 (now (sheet .entry)) (now (bank .entry)) (now (frame .entry)) ⌝ }

@@ -1,5 +1,5 @@
--- Case set P of 01, "Both sides of each line", as one table under one statement. Frames and replies are typed from 01, with their checks
--- behind them; the words that change are typed from 01 at their addresses. Assumes nothing.
+-- Case set P, rules P0 to P12, as one table under one statement. Frames and replies are typed from document 01, with their checks behind
+-- them; the words that change are typed from it at their addresses. Assumes nothing.
 use mathlib.Core.Path.{_≡_, refl}
 use mathlib.Core.Bool.{Bool, true, _&&_}
 use mathlib.Core.List.{List, [], _∷_, _++_}

@@ -1,5 +1,5 @@
--- What a call with one frame comes to: a refusal leaves the bank, and else the frame is acted on; a reply has 5 to 99 bytes and
--- passes the check; only a good clear, a good write and a write with a bad item change the bank. Assumes nothing.
+-- What a call with one frame comes to: a refusal leaves the bank, and else the frame is acted on; a reply has 5 to 99 bytes (rule R8) and
+-- passes the check; only good clears and writes change the bank, and writes that stop at a bad item (rule K9). Assumes nothing.
 use mathlib.Core.Path.{_≡_, refl, sym, ap, _∙_}
 use mathlib.Core.Bool.{Bool, true, false, cond, false≢true}
 use mathlib.Core.List.{List, [], _∷_}

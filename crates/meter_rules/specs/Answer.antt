@@ -21,14 +21,14 @@ use Rattle.meter_rules.specs.Steps.{judgedFrame}
 use Rattle.meter_rules.specs.Reply.{errorCode, replyTo, storesOf}
 use Rattle.frame.specs.Reply.{errorLength, laid}
 
--- 01, "Numbers handed back to the firmware": the number of each answer
+-- rules N0 to N5 and F4: the number of each answer
 abbrev pub answeredNumber : Answered → ℕ
 answeredNumber (Reply length rate) = 0
 answeredNumber (Error code rate) = 0
 answeredNumber Silence = 1
 answeredNumber (Refused refusal) = refusalNumber refusal
 
--- ".. for a frame: length and rate"; with silence and refusals both are 0
+-- rules N0, N1, N53 and N54: length and rate; with silence and refusals both are 0
 abbrev pub lengthIn : Answered → ℕ
 lengthIn (Reply length rate) = length
 lengthIn (Error code rate) = errorLength
@@ -41,7 +41,7 @@ rateIn (Error code rate) = rate
 rateIn Silence = 0
 rateIn (Refused refusal) = 0
 
--- 5 "answer buffer under 100 bytes"
+-- rule N5
 abbrev pub leastBuffer : ℕ
 leastBuffer = 100
 
@@ -61,26 +61,26 @@ outcome answered bank buffer = record { answered = answered; bank = bank; buffer
 abbrev pub answeredBy : ℕ → ℕ → ℕ → Answered
 answeredBy code length rate = cond (eqb code 0) (cond (eqb length 0) Silence (Reply length rate)) (Error code rate)
 
--- what becomes of a judged frame; "Station and rate are those before the frame, also after an error that stored part."
+-- what becomes of a judged frame; rule R7: the rate is the bank's before the frame
 unfoldable pub actedOn : Judged → List ℕ → List ℕ → List ℕ → List ℕ → Outcome
 actedOn judged sheet bank frame buffer =
     outcome (answeredBy (errorCode judged) (length (replyTo judged bank frame)) (rateOf sheet bank))
     (stored bank (storesOf judged sheet frame))
     (laid (replyTo judged bank frame) buffer)
 
--- "Checked in the order 2, 3, 4, 5": whether the call is refused
+-- rules N50 and N51: whether the call is refused
 abbrev pub frameRefusals : Lent → List ℕ → List (Case Refusal)
 frameRefusals given buffer = checkRefusals given ++ (when (smallBuffer buffer) SmallBuffer ∷ [])
 
 unfoldable pub frameCheck : Lent → List ℕ → Answer
 frameCheck given buffer = answerBy (frameRefusals given buffer)
 
--- the effect of a call with one frame: what the judged frame stores, none where the call is refused
+-- rule N52, the effect of a call with one frame: what the judged frame stores, none where the call is refused
 abbrev pub frameEffect : Lent → List ℕ → List ℕ → List Store
 frameEffect given frame buffer =
     effectOf (frameCheck given buffer) (storesOf (judgedFrame (given .sheet) (given .bank) frame) (given .sheet) frame)
 
--- a refusal writes nothing
+-- rule N52: a refusal writes nothing
 abbrev pub unlessRefused : Answer → Lent → List ℕ → Outcome → Outcome
 unlessRefused Done given buffer acted = acted
 unlessRefused (answer.Refused refusal) given buffer acted = outcome (Refused refusal) (given .bank) buffer

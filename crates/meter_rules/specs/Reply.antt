@@ -10,7 +10,7 @@ use Rattle.meter_rules.specs.declared.Judged.{Judged}
 use Rattle.meter_rules.specs.declared.Judged.the-variants.{FailsCheck, OtherStation, FunctionNotAllowed, WrongLength, WrongCount, WrongAddress, WrongValue, BadItem, GoodRead, GoodClear, GoodWrite}
 use Rattle.meter_rules.specs.Write.{runStores}
 
--- "error 01", "error 02", "error 03"; 0 where a judgement is no error
+-- rules R4, J30, J50 to J52, J60 to J65, J70 and J71: the code of an error; 0 where a judgement is no error
 abbrev pub errorCode : Judged → ℕ
 errorCode FailsCheck = 0
 errorCode OtherStation = 0
@@ -43,7 +43,7 @@ unfoldable pub replyTo : Judged → List ℕ → List ℕ → List ℕ
 replyTo judged bank frame =
     cond (eqb (errorCode judged) 0) (goodReply judged bank frame) (withCheck (errorReply frame (errorCode judged)))
 
--- what a frame stores: "Items in front of the first bad one are stored; the rest of the bank stays." "A good 05 sets the mark to 0."
+-- rules K5 to K10: what a frame stores
 unfoldable pub storesOf : Judged → List ℕ → List ℕ → List Store
 storesOf FailsCheck sheet frame = []
 storesOf OtherStation sheet frame = []

@@ -1,4 +1,4 @@
--- 01, "Order of judgement for a frame": the conditions of steps 1 to 7, step 7 as two; the first that holds wins. Assumes nothing.
+-- The judgement of a frame: the conditions of steps 1 to 7, step 7 as two, and their order. Assumes nothing.
 use Prim.Native.Nat.{ℕ, _+_, _*_}
 use mathlib.Core.Bool.{Bool, not, cond, _&&_, _||_}
 use mathlib.Core.List.{List, [], _∷_}
@@ -16,15 +16,15 @@ use Rattle.sheet_rules.specs.declared.Purpose.the-variants.{Read, Write}
 use Rattle.sheet_rules.specs.Runs.{allOpen}
 use Rattle.meter_rules.specs.Write.{firstPlace, someBad, stopPlace}
 
--- 1. "Length not 4..100, or wrong check: silence."
+-- step 1: rule J10
 abbrev pub failsCheck : List ℕ → Bool
 failsCheck frame = not (passes frame)
 
--- 2. "Station byte differs from the bank's address: silence. Address 0 is compared like any other."
+-- step 2: rules J20 and J21
 abbrev pub otherStation : List ℕ → List ℕ → List ℕ → Bool
 otherStation sheet bank frame = not (eqb (station frame) (stationOf sheet bank))
 
--- a function is one of the four, and the sheet allows it
+-- rules J30 and S13: a function is one of the four, and the sheet allows it
 abbrev pub codeAllowed : List ℕ → ℕ → Bool
 codeAllowed sheet code =
     (eqb code reads && allowed sheet bitOf03) || (eqb code clears && allowed sheet bitOf05)
@@ -33,40 +33,38 @@ codeAllowed sheet code =
 abbrev pub functionAllowed : List ℕ → List ℕ → Bool
 functionAllowed sheet frame = codeAllowed sheet (function frame)
 
--- 3. "Function not allowed: error 01."
+-- step 3: rule J30
 abbrev pub functionNotAllowed : List ℕ → List ℕ → Bool
 functionNotAllowed sheet frame = not (functionAllowed sheet frame)
 
--- 4. "03, 05, 06 not of 8 bytes; 10 below 9 bytes or not 9 plus its byte count: silence."
+-- step 4: rules J40 and J41
 abbrev pub wrongLength : List ℕ → Bool
 wrongLength frame =
     cond (eqb (function frame) writesMany) (ltb (length frame) 9 || not (eqb (length frame) (9 + byteCount frame)))
     (not (eqb (length frame) 8))
 
--- 5. "03 with count 0; 10 with count 0 or byte count not twice the count: error 03."
+-- step 5: rules J50 to J52
 abbrev pub wrongCount : List ℕ → Bool
 wrongCount frame =
     (eqb (function frame) reads && eqb (second frame) 0)
     || (eqb (function frame) writesMany && (eqb (second frame) 0 || not (eqb (byteCount frame) (2 * second frame))))
 
--- 6. "An address of the run in no area, or for a write in an access 1 area, or above FFFF; 03 with count over 47; 05 at another address
--- than the clear address: error 02." The areas of a sheet of bytes end at FFFF at the most, so an
--- address above it lies in none.
+-- step 6: rules J60 to J65. The areas of a sheet of bytes end at FFFF at the most, so an address above it lies in none: rule J62.
 abbrev pub wrongAddress : List ℕ → List ℕ → Bool
 wrongAddress sheet frame =
     (eqb (function frame) reads && (ltb mostRead (second frame) || not (allOpen Read sheet (run frame))))
     || (isWrite frame && not (allOpen Write sheet (run frame)))
     || (eqb (function frame) clears && not (eqb (start frame) (clearAddress sheet)))
 
--- 7. "05 with a value other than 0 ..: error 03."
+-- step 7 for a clear: rule J70
 abbrev pub wrongValue : List ℕ → Bool
 wrongValue frame = eqb (function frame) clears && not (eqb (second frame) 0)
 
--- 7. ".. a write with a bad item: error 03."
+-- step 7 for a write: rule J71
 abbrev pub badWrite : List ℕ → List ℕ → List ℕ → Bool
 badWrite sheet bank frame = isWrite frame && someBad sheet bank frame
 
--- 01's order: the first step whose condition holds says where the frame stops
+-- rule J1: the first step whose condition holds says where the frame stops
 abbrev pub steps : List ℕ → List ℕ → List ℕ → List (Case Judged)
 steps sheet bank frame =
     when (failsCheck frame) FailsCheck
@@ -79,12 +77,12 @@ steps sheet bank frame =
     ∷ when (badWrite sheet bank frame) (BadItem (firstPlace sheet frame) (stopPlace sheet bank frame))
     ∷ []
 
--- a frame that no step stops: a read, a clear or a write
+-- rule J80, a frame that no step stops: a read, a clear or a write
 abbrev pub goodFrame : List ℕ → List ℕ → Judged
 goodFrame sheet frame =
     cond (eqb (function frame) reads) (GoodRead (firstPlace sheet frame) (count frame))
     (cond (eqb (function frame) clears) GoodClear (GoodWrite (firstPlace sheet frame) (count frame)))
 
--- where a frame stops, or that it is good
+-- rules J1 and J80: where a frame stops, or that it is good
 unfoldable pub judgedFrame : List ℕ → List ℕ → List ℕ → Judged
 judgedFrame sheet bank frame = firstCase (steps sheet bank frame) (goodFrame sheet frame)

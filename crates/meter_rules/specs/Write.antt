@@ -1,4 +1,4 @@
--- 01: "A write is cut into items." The places of a run, the item that a write stops at, and what it stores. Assumes nothing.
+-- A write, item by item: the places of a run, the item that a write stops at, and what it stores (rules K1 to K6). Assumes nothing.
 use Prim.Native.Nat.{ℕ, _+_, _-_}
 use mathlib.Core.Bool.{Bool, not, cond, _&&_, _||_}
 use mathlib.Core.List.{List, [], _∷_, map}
@@ -16,27 +16,27 @@ use Rattle.frame.specs.Frame.{start, count, sent}
 abbrev pub firstPlace : List ℕ → List ℕ → ℕ
 firstPlace sheet frame = placeIn (liesIn (areas sheet) (start frame))
 
--- a place is in the run: one of so many from a first one on
+-- rule K1, a place is in the run: one of so many from a first one on
 abbrev pub inRun : ℕ → ℕ → ℕ → Bool
 inRun first many place = leb first place && ltb place (first + many)
 
--- the word that would be at a place: the word sent if the place is in the run, else the bank's
+-- rules K2 and K3, the word that would be at a place: the word sent if the place is in the run, else the bank's
 abbrev pub wouldBe : ℕ → ℕ → List ℕ → List ℕ → ℕ → ℕ
 wouldBe first many bank frame place = cond (inRun first many place) (sent frame (place - first)) (wordOf bank place)
 
--- an item is touched if one of its places is in the run
+-- rule K1: an item is touched if one of its places is in the run
 abbrev pub touched : ℕ → ℕ → Item → Bool
 touched first many item = inRun first many (item .place) || (isPair item && inRun first many (item .place + 1))
 
--- "A pair with both halves in the write is one item; a half alone is judged with the other half now in the bank."
+-- rules K2 to K4 and K11
 unfoldable pub badItem : ℕ → ℕ → List ℕ → List ℕ → Item → Bool
 badItem first many bank frame item = touched first many item && not (goodBy (wouldBe first many bank frame) item)
 
--- "a write with a bad item"
+-- rules K4 and J71: some item is bad
 unfoldable pub someBad : List ℕ → List ℕ → List ℕ → Bool
 someBad sheet bank frame = some (badItem (firstPlace sheet frame) (count frame) bank frame) (items sheet)
 
--- the first place of the first bad item; the end of the run where no item is bad
+-- rule K5, the first place of the first bad item; the end of the run where no item is bad
 unfoldable pub stopIn : ℕ → ℕ → List ℕ → List ℕ → List Item → ℕ
 stopIn first many bank frame [] = first + many
 stopIn first many bank frame (item ∷ behind) =
@@ -49,7 +49,7 @@ stopPlace sheet bank frame = stopIn (firstPlace sheet frame) (count frame) bank 
 abbrev pub runStore : List ℕ → ℕ → ℕ → Store
 runStore frame first k = record { place = first + k; word = sent frame k }
 
--- the words of a run, from its first place on, that stand in front of a stop; none where the stop is in front of the run, as where its
--- first word is the lower half of a bad pair
+-- rules K5 and K6, the words of a run, from its first place on, that stand in front of a stop; none where the stop is in front of the run, as
+-- where its first word is the lower half of a bad pair
 unfoldable pub runStores : List ℕ → ℕ → ℕ → List Store
 runStores frame first stop = map (runStore frame first) (upFrom 0 (stop - first))

@@ -7,7 +7,7 @@ use lib.ListN.{length}
 use Rattle.check_value.specs.Check.{valueOf}
 use Rattle.plain.specs.Numbers.{byte, Bytes}
 
--- a frame of 4 to 100 bytes: a body with its check value behind it, low byte first
+-- rule D30, a frame that was sent right: a body with its check value behind it, low byte first
 pub record Sent (frame : List ℕ) : Type 0 where
   pub bytes : Bytes frame
   pub least : 4 ≤ length frame
@@ -15,7 +15,7 @@ pub record Sent (frame : List ℕ) : Type 0 where
   pub body : List ℕ
   pub itsCheck : frame ≡ body ++ (valueOf body % 256 ∷ valueOf body / 256 ∷ [])
 
--- the k-th bit in the order sent: eight of each byte, the lowest first
+-- rules D33 and C7, the k-th bit in sending order: eight of each byte, the lowest first
 abbrev pub bit : List ℕ → ℕ → ℕ
 bit frame k = byte frame (k / 8) / 2 ^ (k % 8) % 2
 
@@ -23,7 +23,7 @@ bit frame k = byte frame (k / 8) / 2 ^ (k % 8) % 2
 abbrev pub Changed : List ℕ → List ℕ → ℕ → Type 0
 Changed sent received k = (k < 8 * length sent) × (bit sent k ≡ bit received k → ⊥)
 
--- the length is kept; at least one bit was changed; and one, two or three, or all in one run of sixteen
+-- rule D31: the length is kept; at least one bit was changed; and one, two or three, or all in one run of sixteen
 pub record Damage (sent received : List ℕ) : Type 0 where
   pub bytes : Bytes received
   pub sameLength : length received ≡ length sent

@@ -1,4 +1,4 @@
--- What a frame gets: seven conditions in plain numbers, in 01's order; the first that fails decides. Functions, lengths, counts, addresses and
+-- What a frame gets: seven conditions in plain numbers, in the order of rule J1; the first that fails decides. Functions, lengths, counts, addresses and
 -- bounds stand here as numbers, and every condition says what must hold. Assumes nothing.
 use mathlib.Core.Path.{_≡_}
 use mathlib.Core.Bool.{cond}
@@ -11,17 +11,17 @@ use Rattle.check_value.specs.Check.{valueOf}
 use Rattle.plain.specs.Numbers.{byte, word, signedAndMore}
 use Rattle.plain.specs.Sheet.{ItemRow, LiesAt}
 
--- ---- 1: 4 to 100 bytes, and the last two hold the check value of those before them, low byte first
+-- ---- 1, rules J10 and C4 to C6: the length, and the last two bytes hold the check value of those before them, low byte first
 pub record Whole (frame : List ℕ) : Type 0 where
   pub least : 4 ≤ length frame
   pub most : length frame ≤ 100
   pub check : byte frame (length frame - 2) + 256 * byte frame (length frame - 1) ≡ valueOf (take (length frame - 2) frame)
 
--- ---- 2: the first byte is the word of the bank at the place that header word 8 gives
+-- ---- 2, rules J20 and J21: the first byte is the word of the bank at the place that header word 8 gives
 abbrev pub OurStation : List ℕ → List ℕ → List ℕ → Type 0
 OurStation sheet bank frame = byte frame 0 ≡ word bank (2 * word sheet 16)
 
--- ---- 3: the second byte is a function whose bit is set in header word 6
+-- ---- 3, rules J30 and S13: the second byte is a function whose bit is set in header word 6
 abbrev pub Set : ℕ → ℕ → Type 0
 Set sum bit = sum / bit % 2 ≡ 1
 
@@ -30,17 +30,17 @@ Allowed sheet frame =
     ((byte frame 1 ≡ 0x03) × Set (word sheet 12) 1) ⊎ ((byte frame 1 ≡ 0x05) × Set (word sheet 12) 2)
     ⊎ ((byte frame 1 ≡ 0x06) × Set (word sheet 12) 4) ⊎ ((byte frame 1 ≡ 0x10) × Set (word sheet 12) 8)
 
--- ---- 4: 8 bytes; for 10 nine and as many as its byte count says
+-- ---- 4, rules J40 and J41: 8 bytes; for 10 nine and as many as its byte count says
 pub record RightLength (frame : List ℕ) : Type 0 where
   pub eight : (byte frame 1 ≡ 0x10 → ⊥) → length frame ≡ 8
   pub nineAndMore : byte frame 1 ≡ 0x10 → length frame ≡ 9 + byte frame 6
 
--- ---- 5: a read and a 10 ask for at least one register, and the byte count of a 10 is twice its count
+-- ---- 5, rules J50 to J52: a read and a 10 ask for at least one register, and the byte count of a 10 is twice its count
 pub record RightCount (frame : List ℕ) : Type 0 where
   pub ofRead : byte frame 1 ≡ 0x03 → 1 ≤ word frame 4
   pub ofMany : byte frame 1 ≡ 0x10 → (1 ≤ word frame 4) × (byte frame 6 ≡ 2 * word frame 4)
 
--- ---- 6: the addresses
+-- ---- 6, rules J60 to J65: the addresses
 
 -- how many registers a frame reads or writes, from the address in its third and fourth byte on: one for 06, else its count
 abbrev pub registers : List ℕ → ℕ
@@ -68,7 +68,7 @@ pub record RightAddress (sheet frame : List ℕ) : Type 0 where
   pub written : (byte frame 1 ≡ 0x06) ⊎ (byte frame 1 ≡ 0x10) → (k : ℕ) → k < registers frame → Writable sheet (address frame k)
   pub cleared : byte frame 1 ≡ 0x05 → word frame 2 ≡ word sheet 20
 
--- ---- 7: the value of a clear, and the items of a write
+-- ---- 7, rules J70, J71 and K1 to K4: the value of a clear, and the items of a write
 
 -- the k-th word that a write sends: behind four bytes for 06, behind seven for 10
 abbrev pub sentWord : List ℕ → ℕ → ℕ
@@ -110,7 +110,7 @@ pub data Fate : Type 0 where
   error : ℕ → Fate
   good : Fate
 
--- the first condition that fails decides; where none fails there is a reply without error
+-- rules J1, J80, D20 and D24: the first condition that fails decides; where none fails there is a reply without error
 pub data Gets (sheet bank frame : List ℕ) : Fate → Type 0 where
   notWhole : (Whole frame → ⊥) → Gets sheet bank frame silence
   otherStation : Whole frame → (OurStation sheet bank frame → ⊥) → Gets sheet bank frame silence

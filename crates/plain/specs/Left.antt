@@ -28,18 +28,18 @@ pub record Closed (before after : List ℕ) (n : ℕ) : Type 0 where
   pub check : byte after (n - 2) + 256 * byte after (n - 1) ≡ valueOf (take (n - 2) after)
   pub beyond : (k : ℕ) → n ≤ k → byte after k ≡ byte before k
 
--- a byte with its top bit set
+-- rule R5
 abbrev pub marked : ℕ → ℕ
 marked b = cond (ltb b 0x80) (b + 0x80) b
 
--- station, function with its top bit set, code, check
+-- rules R4 to R6
 pub record ErrorReply (frame before after : List ℕ) (code : ℕ) : Type 0 where
   pub closed : Closed before after 5
   pub station : byte after 0 ≡ byte frame 0
   pub function : byte after 1 ≡ marked (byte frame 1)
   pub itsCode : byte after 2 ≡ code
 
--- station, 03, twice the count, the bank's words at the addresses, check
+-- rules R1 and R6: the words are the bank's at the addresses
 pub record ReadReply (sheet bank frame before after : List ℕ) : Type 0 where
   pub closed : Closed before after (5 + 2 * registers frame)
   pub station : byte after 0 ≡ byte frame 0
@@ -47,12 +47,12 @@ pub record ReadReply (sheet bank frame before after : List ℕ) : Type 0 where
   pub bytes : byte after 2 ≡ 2 * registers frame
   pub words : (k place access : ℕ) → k < registers frame → LiesAt sheet (address frame k) place access → word after (3 + 2 * k) ≡ word bank (2 * place)
 
--- the first six bytes as they came, and their check
+-- rules R2, R3 and R6: the first six bytes as they came, and their check
 pub record Echo (frame before after : List ℕ) : Type 0 where
   pub closed : Closed before after 8
   pub six : (k : ℕ) → k < 6 → byte after k ≡ byte frame k
 
--- what is handed back and sent, for each fate; the rate is the one before the frame, the word at the place that header word 9 gives
+-- rules N0, N1 and R7, what is handed back and sent, for each fate; the rate is the one before the frame, the word at the place that header word 9 gives
 pub data Answered (sheet bank frame before : List ℕ) (left : Left) : Fate → Type 0 where
   quiet : left ≡ record { number = 1; size = 0; rate = 0; bank = bank; buffer = before } → Answered sheet bank frame before left silence
   erred : {code : ℕ} → left .number ≡ 0 → left .size ≡ 5 → left .rate ≡ word bank (2 * word sheet 18) → ErrorReply frame before (left .buffer) code
@@ -74,25 +74,25 @@ pub record LetThrough (sheet bank frame : List ℕ) : Type 0 where
   pub addressed : RightAddress sheet frame
   pub writes : (byte frame 1 ≡ 0x06) ⊎ (byte frame 1 ≡ 0x10)
 
--- the k-th word sent is stored at a place: the write goes there, and the place stands in front of every item that would be out of range
+-- rules K5 to K7, the k-th word sent is stored at a place: the write goes there, and the place stands in front of every item that would be out of range
 pub record Stored (sheet bank frame : List ℕ) (k place : ℕ) : Type 0 where
   pub through : LetThrough sheet bank frame
   pub goes : Goes sheet frame k place
   pub inFront : (kind first low high value : ℕ) → ItemRow sheet kind first low high → Touches sheet frame kind first
       → ValueWouldBe sheet bank frame first value kind → (Within kind low high value → ⊥) → place < first
 
--- a good clear sets the mark, the word behind the bank's B words (header word 5)
+-- rule K8, a good clear sets the mark, the word behind the bank's B words (header word 5)
 abbrev pub Clears : List ℕ → List ℕ → List ℕ → ℕ → Type 0
 Clears sheet bank frame place = Gets sheet bank frame good × (byte frame 1 ≡ 0x05) × (place ≡ word sheet 10)
 
--- the word at a place afterwards: a word sent that is stored there, 0 for the mark of a good clear, and else the word from before
+-- rule K9, the word at a place afterwards: a word sent that is stored there, 0 for the mark of a good clear, and else the word from before
 pub data WordLeft (sheet bank frame : List ℕ) (place w : ℕ) : Type 0 where
   stored : (k : ℕ) → Stored sheet bank frame k place → w ≡ sentWord frame k → WordLeft sheet bank frame place w
   cleared : Clears sheet bank frame place → w ≡ 0 → WordLeft sheet bank frame place w
   asBefore : ((k : ℕ) → Stored sheet bank frame k place → ⊥) → (Clears sheet bank frame place → ⊥) → w ≡ word bank (2 * place)
       → WordLeft sheet bank frame place w
 
--- ---- all of it
+-- ---- rules D20 to D23: all of it
 
 pub record Leaves (sheet bank frame before : List ℕ) (left : Left) : Type 0 where
   pub fate : Fate

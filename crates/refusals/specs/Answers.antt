@@ -1,4 +1,4 @@
--- 01, "Numbers handed back to the firmware": the number of each refusal, and the answer of a call by its refusals. Assumes nothing.
+-- Section N of the rules: the number of each refusal, and the answer of a call by its refusals. Assumes nothing.
 use Prim.Native.Nat.{ℕ}
 use mathlib.Core.List.{List}
 use Rattle.lists.specs.Cases.{Case, mapped, firstCase}
@@ -7,8 +7,7 @@ use Rattle.refusals.specs.declared.Refusal.the-variants.{BrokenSheet, Mi
 use Rattle.refusals.specs.declared.Answer.{Answer}
 use Rattle.refusals.specs.declared.Answer.the-variants.{Done, Refused}
 
--- 2 "sheet breaks a rule", 3 "bank not 2B + 2 bytes", 4 "bank not sound", 5 "answer buffer under 100 bytes", 6 "posted address not all in
--- access 1 areas", 7 "posted bytes empty or odd; mark not 0 or 1"
+-- rules N2 to N7 and F4
 abbrev pub refusalNumber : Refusal → ℕ
 refusalNumber BrokenSheet = 2
 refusalNumber MisfittingBank = 3
@@ -17,11 +16,11 @@ refusalNumber SmallBuffer = 5
 refusalNumber NotReadOnly = 6
 refusalNumber BadInput = 7
 
--- 0 "done"
+-- rule N0, done
 abbrev pub answerNumber : Answer → ℕ
 answerNumber Done = 0
 answerNumber (Refused refusal) = refusalNumber refusal
 
--- the answer of a call by its refusals in their order: the first that holds, or done
+-- rule N50, the answer of a call by its refusals in their order: the first that holds, or done
 abbrev pub answerBy : List (Case Refusal) → Answer
 answerBy refusals = firstCase (mapped Refused refusals) Done

@@ -1,6 +1,6 @@
-// What a call answers: done, or refused and why. specs/ has 01's numbers of the refusals. There is no code here.
+// What a call answers: done, or refused and why. specs/ has the numbers of the refusals. There is no code here.
 
-// Why a call is refused, in the order of 01's numbers.
+// Why a call is refused: rules N2 to N7, in the order of their numbers.
 pub enum Refusal {
     BrokenSheet,
     MisfittingBank,

@@ -7,7 +7,7 @@ use sheet_rules::Area;
 use sheet_rules::Header;
 use sheet_rules::Item;
 
-// "offset of area rows, 12"
+// Area rows begin behind the header: rule S2.
 const AREA_ROWS: usize = 12;
 
 // A word of the sheet, counted from 0; 0 past the end.
@@ -18,49 +18,49 @@ fn word(sheet: &[u8], n: usize) -> u16
     words::word_at(sheet, 2 * n)
 }
 
-// Header word 1, "number of areas A".
+// Header word 1: rule S1.
 pub fn area_count(sheet: &[u8]) -> u16
     ensures { λ r. ⌜ r ≡ areaCount (now (sheet .entry)) ⌝ }
 {
     word(sheet, 1)
 }
 
-// Header word 3, "number of items I".
+// Header word 3: rule S3.
 pub fn item_count(sheet: &[u8]) -> u16
     ensures { λ r. ⌜ r ≡ itemCount (now (sheet .entry)) ⌝ }
 {
     word(sheet, 3)
 }
 
-// Header word 5, "number of bank words B".
+// Header word 5: rule S5.
 pub fn bank_words(sheet: &[u8]) -> u16
     ensures { λ r. ⌜ r ≡ bankWords (now (sheet .entry)) ⌝ }
 {
     word(sheet, 5)
 }
 
-// Header word 6, "functions allowed".
+// Header word 6: rule S6.
 pub fn functions(sheet: &[u8]) -> u16
     ensures { λ r. ⌜ r ≡ functions (now (sheet .entry)) ⌝ }
 {
     word(sheet, 6)
 }
 
-// Header word 8, "place of the RTU address".
+// Header word 8: rule S8.
 pub fn address_place(sheet: &[u8]) -> u16
     ensures { λ r. ⌜ r ≡ addressPlace (now (sheet .entry)) ⌝ }
 {
     word(sheet, 8)
 }
 
-// Header word 9, "place of the bit rate".
+// Header word 9: rule S9.
 pub fn rate_place(sheet: &[u8]) -> u16
     ensures { λ r. ⌜ r ≡ ratePlace (now (sheet .entry)) ⌝ }
 {
     word(sheet, 9)
 }
 
-// Header word 10, "clear address".
+// Header word 10: rule S10.
 pub fn clear_address(sheet: &[u8]) -> u16
     ensures { λ r. ⌜ r ≡ clearAddress (now (sheet .entry)) ⌝ }
 {
@@ -97,7 +97,7 @@ fn word_inside(sheet: &[u8], n: usize) -> u16
     upper * 256 + lower
 }
 
-// "In two words": the upper one, and the lower one.
+// Two words as one number, the upper one first.
 fn joined(upper: u16, lower: u16) -> u32
     ensures { λ r. ⌜ r ≡ upper * 65536 + lower ⌝ }
 {

@@ -109,6 +109,6 @@ module _ {M : Type 1} (𝓤 : URA M) (H : Heap 𝓤) where
       pub promised : call .promise number left
       pub lies : Satisfies 𝓤 H 𝓜 memory (sep 𝓤 (Lie (after (call .args) left)) F)
 
-    -- every call returns, from every memory in which what is handed over lies, beside anything else
+    -- rule D13, every call returns, from every memory in which what is handed over lies, beside anything else
     abbrev pub Returns : Type 2
     Returns = (σ : Memory) (F : SProp 𝓤) → Fit (call .args) → Satisfies 𝓤 H 𝓜 σ (sep 𝓤 (Lie (call .args)) F) → ∥ Returned σ F ∥₁

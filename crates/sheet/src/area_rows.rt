@@ -8,14 +8,14 @@ ghost use Rattle.sheet_rules.specs.Rules.{bitOf05, readable, accessRule, firstL
 use sheet_rules::Area;
 use sheet_rules::Header;
 
-// "1 for 03, 2 for 05, 4 for 06, 8 for 10, summed": whether 05 is in the sum.
+// Rule S13: whether 05 is in the sum.
 fn sums_05(functions: u16) -> bool
     ensures { λ r. ⌜ r ≡ eqb (functions / bitOf05 % 2) 1 ⌝ }
 {
     functions / 2 % 2 == 1
 }
 
-// "If function 05 is allowed ..; otherwise word 10 is 0."
+// Rule S27.
 fn word_sound_without_05(allowed: bool, clear: u16) -> bool
     ensures { λ r. ⌜ r ≡ (allowed || eqb clear 0) ⌝ }
 {
@@ -25,7 +25,7 @@ fn word_sound_without_05(allowed: bool, clear: u16) -> bool
     clear == 0
 }
 
-// "access (1 read only, 3 read and write)"
+// Rule S21.
 fn known_access(access: u16) -> bool
     ensures { λ r. ⌜ r ≡ readable access ⌝ }
 {
@@ -35,7 +35,7 @@ fn known_access(access: u16) -> bool
     access == 3
 }
 
-// "If function 05 is allowed, the clear address lies in no area", for one area.
+// Rule S26, for one area.
 fn clear_outside(allowed: bool, clear: u16, area: Area) -> bool
     ensures { λ r. ⌜ r ≡ not (allowed && inArea clear area) ⌝ }
 {

@@ -1,11 +1,11 @@
-// The header's rules. 01: "Header, 12 words: 0 version, 1; 1 number of areas A, 1 to 8; ..".
+// The header: rules S0 to S12.
 ghost use mathlib.Core.Path.{_≡_};
 ghost use Rattle.lists.specs.Lists.{between};
 ghost use Rattle.sheet_rules.specs.Rows.{headerOf};
 ghost use Rattle.sheet_rules.specs.Rules.{headerSound};
 use sheet_rules::Header;
 
-// Whether a number is one of "1 to 8" and the like.
+// Whether a number lies between two others, or is one of them.
 fn between(low: u16, high: u16, n: u16) -> bool
     ensures { λ r. ⌜ r ≡ between low high n ⌝ }
 {

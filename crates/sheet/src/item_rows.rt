@@ -58,7 +58,7 @@ fn size_of(item: Item) -> u32
     1
 }
 
-// "For kinds 0 and 1 the first word of each bound is 0 and the second is the bound".
+// Rule S42.
 fn bounds_sound(item: Item) -> bool
     ensures { λ r. ⌜ r ≡ boundsRule item ⌝ }
 {
@@ -71,7 +71,7 @@ fn bounds_sound(item: Item) -> bool
     item.high < 0x10000
 }
 
-// The rules of an item by itself: its kind, its bounds, and "Low is not above high".
+// The rules of an item by itself: rules S41, S42 and S44.
 fn row_sound(item: Item) -> bool
     ensures { λ r. ⌜ r ≡ (kindRule item && boundsRule item && lowHighRule item) ⌝ }
 {
@@ -96,7 +96,7 @@ fn covers(item: Item, cover: Cover) -> bool
     cover.next + size <= cover.end
 }
 
-// A "kind 0 item" at a place, "whose range holds 1".
+// Rules S61 and S62, of an item and a place.
 fn setting_at(item: Item, place: u16) -> bool
     ensures { λ r. ⌜ r ≡ settingAt place item ⌝ }
 {
@@ -109,8 +109,7 @@ fn setting_at(item: Item, place: u16) -> bool
     range::in_range(item.kind, item.low, item.high, 1)
 }
 
-// Whether the address's item is found: before, or here. "the address range is within 0 to FF". The place is tested first: it is the
-// one of few items.
+// Whether the address's item is found: before, or here. Rule S63. The place is tested first: it is the one of few items.
 fn address_found(before: bool, item: Item, place: u16) -> bool
     ensures { λ r. ⌜ r ≡ (before || addressItem place item) ⌝ }
 {
@@ -126,7 +125,7 @@ fn address_found(before: bool, item: Item, place: u16) -> bool
     true
 }
 
-// Whether the rate's item is found: before, or here. "the rate's is 0 to 1".
+// Whether the rate's item is found: before, or here. Rule S64.
 fn rate_found(before: bool, item: Item, place: u16) -> bool
     ensures { λ r. ⌜ r ≡ (before || rateItem place item) ⌝ }
 {

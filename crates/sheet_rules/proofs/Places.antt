@@ -1,5 +1,4 @@
--- 01: "Items ascend, and cover each place of every access 3 area exactly once and no other place", of a sound sheet, in its own words.
--- Assumes nothing.
+-- Rules S46 and S47 of a sound sheet, part by part, in plain words. Assumes nothing.
 use mathlib.Core.Path.{_≡_, refl, sym, ap, ap₂, subst, _∙_}
 use mathlib.Core.Bool.{Bool, true, false, _&&_, _||_, false≢true, or-true, cond}
 use mathlib.Core.List.{List, [], _∷_, _++_}
@@ -207,11 +206,11 @@ module _ (sheet : List ℕ) (keeps : sound sheet ≡ true) where
   apart i j x y less inside m n =
       items-apart (itemAt sheet) 0 0 (itemCount sheet) i j x y rising less inside (counted i m) (counted j n)
 
-  -- "Items ascend"
+  -- rule S46
   pub items-ascend : (i j : ℕ) → i < j → j < itemCount sheet → itemAt sheet i .place < itemAt sheet j .place
   items-ascend i j less inside = apart i j (itemAt sheet i .place) (itemAt sheet j .place) less inside here here
 
-  -- "cover each place of every access 3 area"
+  -- rule S47: each place of an access 3 area is held
   pub covered-by : (place : ℕ) → inWritable (areas sheet) place ≡ true
       → (k : ℕ) × (k < itemCount sheet) × (holds (itemAt sheet k) place ≡ true)
   unfolding items
@@ -225,7 +224,7 @@ module _ (sheet : List ℕ) (keeps : sound sheet ≡ true) where
             (subst (λ (n : ℕ). Among place (placesOf (itemAt sheet n))) same (found .2)),
       )
 
-  -- "exactly once"
+  -- rule S47: by one item alone
   pub covered-once : (place i j : ℕ) → i < itemCount sheet → j < itemCount sheet → holds (itemAt sheet i) place ≡ true
       → holds (itemAt sheet j) place ≡ true → i ≡ j
   covered-once place i j i-inside j-inside e f = go (ltb i j) (ltb j i) refl refl
@@ -241,7 +240,7 @@ module _ (sheet : List ℕ) (keeps : sound sheet ≡ true) where
       go false true l r = absurd (omega (arith, apart j i place place (ltb-true j i r) i-inside n m))
       go false false l r = omega (arith, ltb-false i j l, ltb-false j i r)
 
-  -- "and no other place"
+  -- rule S47: and no place besides
   pub covered-only : (place k : ℕ) → k < itemCount sheet → holds (itemAt sheet k) place ≡ true → inWritable (areas sheet) place ≡ true
   unfolding items
   covered-only place k inside e =

@@ -155,7 +155,7 @@ module _ (sheet : List ℕ) where
   pub sound-numbers : sound sheet ≡ true → HeaderNumbers
   sound-numbers e = header-numbers (sound-parts e .header)
 
-  -- 01: "The byte length is exactly twice word 7 (at most 856)."
+  -- rule S12: at most 856 bytes
   pub length-bound : sound sheet ≡ true → length sheet ≤ 856
   length-bound e =
       let n = sound-numbers e in

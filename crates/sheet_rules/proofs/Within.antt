@@ -1,5 +1,5 @@
--- Areas whose places follow one another share no place: a pair lies within one area just where it ends within the area of its first
--- place. Assumes nothing.
+-- Areas whose places follow one another share no place: rule S48 holds of a pair just where it ends within the area of its first place.
+-- Assumes nothing.
 use mathlib.Core.Path.{_≡_, refl, ap, ap₂}
 use mathlib.Core.Bool.{Bool, true, false, _&&_, _||_, and-false, or-false}
 use mathlib.Core.List.{List, [], _∷_}

@@ -9,7 +9,7 @@ use Rattle.sheet_rules.specs.declared.Lies.{Lies}
 use Rattle.sheet_rules.specs.declared.Lies.the-variants.{At, Nowhere}
 use Rattle.sheet_rules.specs.Rules.{inArea, placeInArea, isPair}
 
--- what lies at an address: a place of the bank with the access of its area, or nothing
+-- rule S29, what lies at an address: a place of the bank with the access of its area, or nothing
 unfoldable pub liesIn : List Area → ℕ → Lies
 liesIn [] address = Nowhere
 liesIn (area ∷ behind) address =
@@ -26,6 +26,6 @@ addressOf [] place = 0x10000
 addressOf (area ∷ behind) place =
     cond (placeInArea place area) (area .first + (place - area .place)) (addressOf behind place)
 
--- a place is one of an item's
+-- rule S45: a place is one of an item's
 abbrev pub holds : Item → ℕ → Bool
 holds item place = eqb (item .place) place || (isPair item && eqb (item .place + 1) place)

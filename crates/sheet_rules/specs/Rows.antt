@@ -1,5 +1,5 @@
--- 01, "The sheet: a header of counts and offsets": the header's words, and the area and item rows read from the bytes. Total on any
--- bytes: a word past the end is 0. Assumes nothing.
+-- The words of a sheet's header, and its area and item rows, read from the bytes. Total on any bytes: a word past the end is 0. Assumes
+-- nothing.
 use Prim.Native.Nat.{ℕ, zero, suc, _+_, _*_, _-_}
 use mathlib.Core.List.{List, [], _∷_}
 use Rattle.words.specs.Words.{wordAt}
@@ -8,59 +8,59 @@ use Rattle.sheet_rules.specs.declared.Header.{Header}
 use Rattle.sheet_rules.specs.declared.Item.{Item}
 use Rattle.lists.specs.Lists.{rows}
 
--- "16-bit words, two bytes each, upper byte first", counted from 0
+-- a word of the sheet, counted from 0: rule G7
 abbrev pub word : List ℕ → ℕ → ℕ
 word sheet n = wordAt sheet (2 * n)
 
--- a bound "in two words"
+-- a number in two words, the upper one first: rule S40
 abbrev pub twoWords : List ℕ → ℕ → ℕ
 twoWords sheet n = word sheet n * 65536 + word sheet (n + 1)
 
--- "Header, 12 words: 0 version .."
+-- rule S0: the version
 abbrev pub version : List ℕ → ℕ
 version sheet = word sheet 0
 
--- "1 number of areas A"
+-- rule S1: A, how many areas there are
 abbrev pub areaCount : List ℕ → ℕ
 areaCount sheet = word sheet 1
 
--- "2 offset of area rows"
+-- rule S2: where the area rows begin
 abbrev pub areaOffset : List ℕ → ℕ
 areaOffset sheet = word sheet 2
 
--- "3 number of items I"
+-- rule S3: I, how many items there are
 abbrev pub itemCount : List ℕ → ℕ
 itemCount sheet = word sheet 3
 
--- "4 offset of item rows"
+-- rule S4: where the item rows begin
 abbrev pub itemOffset : List ℕ → ℕ
 itemOffset sheet = word sheet 4
 
--- "5 number of bank words B"
+-- rule S5: B, how many words a bank has without its mark
 abbrev pub bankWords : List ℕ → ℕ
 bankWords sheet = word sheet 5
 
--- "6 functions allowed"
+-- rule S6: which functions are allowed
 abbrev pub functions : List ℕ → ℕ
 functions sheet = word sheet 6
 
--- "7 length of the sheet in words"
+-- rule S7: how many words the sheet has
 abbrev pub sheetWords : List ℕ → ℕ
 sheetWords sheet = word sheet 7
 
--- "8 place of the RTU address"
+-- rule S8: the place of the meter's address
 abbrev pub addressPlace : List ℕ → ℕ
 addressPlace sheet = word sheet 8
 
--- "9 place of the bit rate"
+-- rule S9: the place of the rate
 abbrev pub ratePlace : List ℕ → ℕ
 ratePlace sheet = word sheet 9
 
--- "10 clear address"
+-- rule S10: the clear address
 abbrev pub clearAddress : List ℕ → ℕ
 clearAddress sheet = word sheet 10
 
--- "11 zero"
+-- rule S11: the word without a meaning
 abbrev pub spareWord : List ℕ → ℕ
 spareWord sheet = word sheet 11
 
@@ -82,7 +82,7 @@ headerOf sheet =
       spare = spareWord sheet;
     }
 
--- where the rows of a sound sheet stand: "offset of area rows, 12", "offset of item rows, 12 + 4A", "12 + 4A + 6I"
+-- where rows are read, and where they end: rules S2, S4, S7 and S14
 abbrev pub areaRows : ℕ
 areaRows = 12
 
@@ -92,7 +92,7 @@ itemRows sheet = 12 + 4 * areaCount sheet
 abbrev pub rowsEnd : List ℕ → ℕ
 rowsEnd sheet = 12 + 4 * areaCount sheet + 6 * itemCount sheet
 
--- "Area row: first address, last address, first place, access"
+-- rule S20: an area row
 unfoldable pub areaAt : List ℕ → ℕ → Area
 areaAt sheet k =
     record {
@@ -102,7 +102,7 @@ areaAt sheet k =
       access = word sheet (areaRows + 4 * k + 3);
     }
 
--- "Item row: kind .., first place, low bound in two words, high bound in two words", from a word on
+-- rule S40: an item row, from a word on
 unfoldable pub itemFrom : List ℕ → ℕ → Item
 itemFrom sheet n =
     record {
@@ -123,7 +123,7 @@ itemEnd before k = 2 * itemStart before k + 12
 abbrev pub itemRow : List ℕ → ℕ → ℕ → Item
 itemRow sheet before k = itemFrom sheet (itemStart before k)
 
--- the item row at an index: "offset of item rows, 12 + 4A"
+-- rule S4: the item row at an index, behind all area rows
 abbrev pub itemAt : List ℕ → ℕ → Item
 itemAt sheet k = itemRow sheet (areaCount sheet) k
 

@@ -1,5 +1,4 @@
--- 01, "The sheet: a header of counts and offsets": its rules, each a definition, in 01's order. Each has its answer on any bytes, whatever
--- the others say. Assumes nothing.
+-- The rules of a sheet, each a definition, in their order. Each has its answer on any bytes, whatever the others say. Assumes nothing.
 use Prim.Native.Nat.{ℕ, _+_, _-_, _*_, _/_, _%_}
 use mathlib.Core.Bool.{Bool, true, not, _&&_, _||_, cond}
 use mathlib.Core.List.{List, [], _∷_, _++_}
@@ -18,43 +17,43 @@ use Rattle.lists.specs.Lists.{between, each, samePlaces, some, upFrom}
 
 -- ---- the header
 
--- "0 version, 1"
+-- rule S0
 abbrev pub versionRule : List ℕ → Bool
 versionRule sheet = eqb (version sheet) 1
 
--- "1 number of areas A, 1 to 8"
+-- rule S1
 abbrev pub areaCountRule : List ℕ → Bool
 areaCountRule sheet = between 1 8 (areaCount sheet)
 
--- "2 offset of area rows, 12"
+-- rule S2
 abbrev pub areaOffsetRule : List ℕ → Bool
 areaOffsetRule sheet = eqb (areaOffset sheet) areaRows
 
--- "3 number of items I, 2 to 64"
+-- rule S3
 abbrev pub itemCountRule : List ℕ → Bool
 itemCountRule sheet = between 2 64 (itemCount sheet)
 
--- "4 offset of item rows, 12 + 4A"
+-- rule S4
 abbrev pub itemOffsetRule : List ℕ → Bool
 itemOffsetRule sheet = eqb (itemOffset sheet) (itemRows sheet)
 
--- "5 number of bank words B, 2 to 256"
+-- rule S5
 abbrev pub bankWordsRule : List ℕ → Bool
 bankWordsRule sheet = between 2 256 (bankWords sheet)
 
--- "6 functions allowed, 0 to 15"
+-- rule S6
 abbrev pub functionsRule : List ℕ → Bool
 functionsRule sheet = between 0 15 (functions sheet)
 
--- "7 length of the sheet in words, 12 + 4A + 6I"
+-- rule S7
 abbrev pub sheetWordsRule : List ℕ → Bool
 sheetWordsRule sheet = eqb (sheetWords sheet) (rowsEnd sheet)
 
--- "11 zero"
+-- rule S11
 abbrev pub spareWordRule : List ℕ → Bool
 spareWordRule sheet = eqb (spareWord sheet) 0
 
--- "The byte length is exactly twice word 7"
+-- rule S12
 abbrev pub byteLengthRule : List ℕ → Bool
 byteLengthRule sheet = eqb (length sheet) (2 * sheetWords sheet)
 
@@ -63,7 +62,7 @@ headerSound sheet =
     versionRule sheet && areaCountRule sheet && areaOffsetRule sheet && itemCountRule sheet && itemOffsetRule sheet
     && bankWordsRule sheet && functionsRule sheet && sheetWordsRule sheet && spareWordRule sheet && byteLengthRule sheet
 
--- ---- the functions allowed: "1 for 03, 2 for 05, 4 for 06, 8 for 10, summed"
+-- ---- the functions allowed: rule S13
 abbrev pub bitOf03 : ℕ
 bitOf03 = 1
 
@@ -82,7 +81,7 @@ allowed sheet bit = eqb (functions sheet / bit % 2) 1
 
 -- ---- the area rows
 
--- "access (1 read only, 3 read and write)"
+-- rule S21: the two sorts of access
 abbrev pub readOnly : ℕ
 readOnly = 1
 
@@ -92,21 +91,21 @@ readAndWrite = 3
 abbrev pub accessRule : Area → Bool
 accessRule area = eqb (area .access) readOnly || eqb (area .access) readAndWrite
 
--- "First is not above last"
+-- rule S22
 abbrev pub firstLastRule : Area → Bool
 firstLastRule area = leb (area .first) (area .last)
 
--- how many addresses, and so places, an area has; none where first is above last
+-- rule S28: how many addresses, and so places, an area has; none where first is above last
 abbrev pub lengthOf : Area → ℕ
 lengthOf area = area .last + 1 - area .first
 
--- "areas ascend and share no address": each ends in front of every one behind it
+-- rule S23: each area ends in front of every one behind it
 unfoldable pub areasAscend : List Area → Bool
 unfolding each
 areasAscend [] = true
 areasAscend (area ∷ behind) = each (λ later. ltb (area .last) (later .first)) behind && areasAscend behind
 
--- "an area's first place is the sum of the lengths before it"
+-- rule S24, for areas with so many addresses in front of them
 unfoldable pub placesFollow : ℕ → List Area → Bool
 placesFollow before [] = true
 placesFollow before (area ∷ behind) = eqb (area .place) before && placesFollow (before + lengthOf area) behind
@@ -115,7 +114,7 @@ unfoldable pub lengthsSum : List Area → ℕ
 lengthsSum [] = 0
 lengthsSum (area ∷ behind) = lengthOf area + lengthsSum behind
 
--- "the lengths sum to B"
+-- rule S25
 abbrev pub lengthsSumRule : List ℕ → Bool
 lengthsSumRule sheet = eqb (lengthsSum (areas sheet)) (bankWords sheet)
 
@@ -123,7 +122,7 @@ lengthsSumRule sheet = eqb (lengthsSum (areas sheet)) (bankWords sheet)
 abbrev pub inArea : ℕ → Area → Bool
 inArea address area = leb (area .first) address && leb address (area .last)
 
--- "If function 05 is allowed, the clear address lies in no area; otherwise word 10 is 0."
+-- rules S26 and S27
 abbrev pub clearAddressRule : List ℕ → Bool
 clearAddressRule sheet =
     cond (allowed sheet bitOf05) (not (some (inArea (clearAddress sheet)) (areas sheet))) (eqb (clearAddress sheet) 0)
@@ -135,22 +134,22 @@ areasSound sheet =
 
 -- ---- the item rows
 
--- "kind (0 unsigned word, 1 signed word, 2 unsigned pair ..)"
+-- rule S41
 abbrev pub kindRule : Item → Bool
 kindRule item = between 0 2 (item .kind)
 
 abbrev pub isPair : Item → Bool
 isPair item = eqb (item .kind) unsignedPair
 
--- "For kinds 0 and 1 the first word of each bound is 0 and the second is the bound"
+-- rule S42
 abbrev pub boundsRule : Item → Bool
 boundsRule item = isPair item || (eqb (item .low / 65536) 0 && eqb (item .high / 65536) 0)
 
--- "Low is not above high", "signed for kind 1"
+-- rule S44
 abbrev pub lowHighRule : Item → Bool
 lowHighRule item = notAbove (item .kind) (item .low) (item .high)
 
--- the places of an item: its first place, and the next one for a pair
+-- rule S45, the places of an item: its first place, and the next one for a pair
 abbrev pub placesOf : Item → List ℕ
 placesOf item = item .place ∷ cond (isPair item) ((item .place + 1) ∷ []) []
 
@@ -172,8 +171,7 @@ writablePlaces [] = []
 writablePlaces (area ∷ behind) =
     cond (writable (area .access)) (upFrom (area .place) (lengthOf area)) [] ++ writablePlaces behind
 
--- "Items ascend, and cover each place of every access 3 area exactly once and no other place": the places of the items, row after row,
--- are the places of the access 3 areas, row after row
+-- rules S46 and S47: the places of the items, row after row, are the places of the access 3 areas, row after row
 abbrev pub coverRule : List ℕ → Bool
 coverRule sheet = samePlaces (itemPlaces (items sheet)) (writablePlaces (areas sheet))
 
@@ -185,7 +183,7 @@ placeInArea place area = leb (area .place) place && ltb place (area .place + len
 abbrev pub pairWithin : List Area → ℕ → Bool
 pairWithin all place = some (λ area. placeInArea place area && placeInArea (place + 1) area) all
 
--- "a pair lies within one area"
+-- rule S48
 abbrev pub pairRule : List Area → Item → Bool
 pairRule all item = not (isPair item) || pairWithin all (item .place)
 
@@ -196,41 +194,41 @@ itemsSound sheet =
 
 -- ---- the address and the rate
 
--- "the address range is within 0 to FF"
+-- rule S63: the addresses that a meter may have
 abbrev pub lowestStation : ℕ
 lowestStation = 0
 
 abbrev pub highestStation : ℕ
 highestStation = 0xFF
 
--- a "kind 0 item" whose first place is a given one and "whose range holds 1"
+-- rules S61 and S62: an item of kind 0 whose first place is a given one, and whose range has 1 in it
 abbrev pub settingAt : ℕ → Item → Bool
 settingAt place item =
     eqb (item .kind) unsignedWord && eqb (item .place) place && inRange (item .kind) (item .low) (item .high) 1
 
--- "the address range is within 0 to FF"
+-- rule S63
 abbrev pub addressItem : ℕ → Item → Bool
 addressItem place item = settingAt place item && leb lowestStation (item .low) && leb (item .high) highestStation
 
--- "the rate's is 0 to 1"
+-- rule S64
 abbrev pub rateItem : ℕ → Item → Bool
 rateItem place item = settingAt place item && eqb (item .low) 0 && eqb (item .high) 1
 
--- "Address and rate are different places, each a kind 0 item whose range holds 1; the address range is within 0 to FF, the rate's is 0 to 1."
+-- rules S60 to S64
 unfoldable pub settingsSound : List ℕ → Bool
 settingsSound sheet =
     not (eqb (addressPlace sheet) (ratePlace sheet)) && some (addressItem (addressPlace sheet)) (items sheet)
     && some (rateItem (ratePlace sheet)) (items sheet)
 
--- ---- a sheet that breaks no rule
+-- ---- rule S70: a sheet that breaks no rule
 unfoldable pub sound : List ℕ → Bool
 sound sheet = headerSound sheet && areasSound sheet && itemsSound sheet && settingsSound sheet
 
--- 2 "sheet breaks a rule"
+-- rule N2
 abbrev pub brokenSheet : List ℕ → Bool
 brokenSheet sheet = not (sound sheet)
 
--- what the check of a sheet refuses, and what it answers
+-- rules S71 and N51: what the check of a sheet refuses, and what it answers
 abbrev pub sheetRefusals : List ℕ → List (Case Refusal)
 sheetRefusals sheet = when (brokenSheet sheet) BrokenSheet ∷ []
 

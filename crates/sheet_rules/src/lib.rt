@@ -1,7 +1,6 @@
 // The rules of a sheet, with their laws: specs/ and proofs/ hold them. Here are the types that they speak of; there is no code.
 
-// The header. 01: "Header, 12 words": the numbers of areas, items and bank words, the places of the address and the rate, the clear
-// address, and the rest.
+// The header: rules S0 to S11.
 pub struct Header {
     pub version: u16,
     pub areas: u16,
@@ -17,7 +16,7 @@ pub struct Header {
     pub spare: u16,
 }
 
-// An area row. 01: "first address, last address, first place, access".
+// An area row: rule S20.
 pub struct Area {
     pub first: u16,
     pub last: u16,
@@ -25,7 +24,7 @@ pub struct Area {
     pub access: u16,
 }
 
-// An item row. 01: "kind .., first place, low bound in two words, high bound in two words".
+// An item row: rule S40.
 pub struct Item {
     pub kind: u16,
     pub place: u16,
@@ -33,7 +32,7 @@ pub struct Item {
     pub high: u32,
 }
 
-// What lies at an address.
+// What lies at an address: rule S29.
 pub enum Lies {
     At { place: u32, access: u16 },
     Nowhere,

@@ -1,4 +1,4 @@
--- Bytes and sixteen-bit words of a list of bytes, each total. 01, "The sheet": "16-bit words, two bytes each, upper byte first".
+-- Bytes and sixteen-bit words of a list of bytes, each total: rule G7.
 -- A read past the end gives 0; a store that does not fit changes nothing. Assumes nothing.
 use Prim.Native.Nat.{ℕ, _+_, _*_, _/_, _%_}
 use mathlib.Core.Bool.{cond}
