@@ -55,10 +55,10 @@ registers:
 registers-check:
 	@python3 tools/registers.py --check
 
-# What the C programs are linked with and compared to. `rt` says much, which is shown where it fails.
+# What the C programs are linked with and compared to, checked together so that both cores work. `rt` says much, which is shown where it fails.
 built: kit
 	@mkdir -p target && test -w target || { echo "the folder target may not be written" >&2; exit 1; }
-	@said=$$(rt staticlib cedarskein 2>&1 && rt check sheet_files 2>&1) || { echo "$$said"; exit 1; }
+	@said=$$(rt check cedarskein sheet_files 2>&1 && rt staticlib cedarskein 2>&1) || { echo "$$said"; exit 1; }
 
 host: built
 	@$(MAKE) -s -C host test

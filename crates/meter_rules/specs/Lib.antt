@@ -1,4 +1,5 @@
 pub mod Write
 pub mod Steps
+pub mod Judgement
 pub mod Reply
 pub mod Answer

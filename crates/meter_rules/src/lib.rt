@@ -18,6 +18,12 @@ pub enum Judged {
     GoodWrite { first: u32, many: u32 },
 }
 
+// The judgement of a frame by what a call is lent: refused, or where the frame stops.
+pub enum Judgement {
+    Refused(Refusal),
+    Stops(Judged),
+}
+
 // What a call with one frame answers. An error is a reply too: the five bytes of its code.
 pub enum Answered {
     Reply { length: u32, rate: u16 },
