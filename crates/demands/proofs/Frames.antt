@@ -3,7 +3,7 @@
 use mathlib.Core.Path.{_≡_, refl, sym, ap, subst, _∙_}
 use mathlib.Core.Bool.{true, not}
 use mathlib.Core.List.{List}
-use mathlib.Core.Logic.{_↔_}
+use mathlib.Core.Logic.{_↔_, _⊎_}
 use Prim.Native.Nat.{ℕ, _*_, _+_}
 use native.Mathlib.Omega.{arith}
 use lib.ListN.{length}
@@ -13,11 +13,12 @@ use Rattle.bank_rules.specs.Bank.{bankBytes}
 use Rattle.bank_rules.specs.Calls.{Lent}
 use Rattle.meter_rules.specs.Steps.{judgedFrame}
 use Rattle.meter_rules.specs.Answer.{leastBuffer, frameCheck, actedOn, answerOutcome}
-use Rattle.plain.specs.Numbers.{Bytes, word}
+use Rattle.plain.specs.Numbers.{Bytes, byte, word}
 use Rattle.plain.specs.Sheet.{LiesAt}
 use Rattle.plain.specs.Frame as fates
-use Rattle.plain.specs.Frame.{silence, Gets}
+use Rattle.plain.specs.Frame.{Fate, silence, good, Gets, Within, address}
 use Rattle.plain.specs.Damage.{Sent, Damage}
+use Rattle.plain.specs.Registers.{writeOne, TakenWithin}
 use Rattle.plain.specs.Left as plain
 use Rattle.plain.specs.Left.{Left, Leaves}
 use Rattle.plain.proofs.Rows.{word-same}
@@ -62,6 +63,44 @@ module _ (given : Lent) (frame buffer : List ℕ) (accepted : Accepted given buf
         → word (left .bank) (2 * place) ≡ word (given .bank) (2 * place)
     read-only-kept frame-bytes call {address} {place} lies =
         read-only.read-only-kept (given .sheet) (accepted .sheetSound) (given .bank) frame lies (frame-leaves frame-bytes call .words place)
+
+    -- a word that is not as before lies in an access 3 area, at an address of the frame, or is the mark
+    pub changed-writable : Bytes frame → {left : Handed} → Answers given frame buffer left → {place : ℕ}
+        → (word (left .bank) (2 * place) ≡ word (given .bank) (2 * place) → ⊥)
+        → ((k : ℕ) × LiesAt (given .sheet) (address frame k) place 3) ⊎ (place ≡ word (given .sheet) 10)
+    changed-writable frame-bytes call {place} other =
+        read-only.changed-writable (given .sheet) (accepted .sheetSound) (given .bank) frame (frame-leaves frame-bytes call .words place) other
+
+    -- a 06 that is good exactly if a value is within bounds gets the eight bytes of its echo exactly then
+    pub taken-echoed : {at sent kind low high value : ℕ} → TakenWithin (given .sheet) (given .bank) at sent kind low high value
+        → frame ≡ writeOne (given .sheet) (given .bank) at sent → Bytes frame → {left : Handed} → Answers given frame buffer left
+        → (left .length ≡ 8) ↔ Within kind low high value
+    taken-echoed {at} {sent} {kind} {low} {high} {value} within is frame-bytes {left} call =
+        (to (frame-leaves frame-bytes call), from (frame-leaves frame-bytes call))
+      where
+        one : byte frame 1 ≡ 6
+        one = ap (λ (f : List ℕ). byte f 1) is
+
+        sized : {fate : Fate} → plain.Answered (given .sheet) (given .bank) frame buffer (leftBy left) fate → left .length ≡ 8
+            → Gets (given .sheet) (given .bank) frame fate → Gets (given .sheet) (given .bank) frame good
+        sized (plain.quiet e) eight gets = absurd (omega (arith, eight, ap (λ (l : Left). l .size) e))
+        sized (plain.erred n size r reply) eight gets = absurd (omega (arith, eight, size))
+        sized (plain.read asks n size r reply) eight gets = gets
+        sized (plain.echoed asks n size r reply) eight gets = gets
+
+        to : Leaves (given .sheet) (given .bank) frame buffer (leftBy left) → left .length ≡ 8 → Within kind low high value
+        to leaves eight =
+            within .taken .0 (subst (λ (f : List ℕ). Gets (given .sheet) (given .bank) f good) is (sized (leaves .answered) eight (leaves .gets)))
+
+        echo : plain.Answered (given .sheet) (given .bank) frame buffer (leftBy left) good → left .length ≡ 8
+        echo (plain.read asks n size r reply) = absurd (omega (arith, asks, one))
+        echo (plain.echoed asks n size r reply) = size
+
+        from : Leaves (given .sheet) (given .bank) frame buffer (leftBy left) → Within kind low high value → left .length ≡ 8
+        from leaves inside =
+            echo (subst (plain.Answered (given .sheet) (given .bank) frame buffer (leftBy left))
+            (one-fate (given .sheet) (given .bank) frame (accepted .sheetSound) sheet-bytes (leaves .gets)
+            (subst (λ (f : List ℕ). Gets (given .sheet) (given .bank) f good) (sym is) (within .taken .1 inside))) (leaves .answered))
 
     -- demand 3
     pub damaged-silent : (sent : List ℕ) → Sent sent → Damage sent frame → {left : Handed} → Answers given frame buffer left
