@@ -8,3 +8,4 @@ pub mod FreshBank
 pub mod Changes
 pub mod Soundness
 pub mod Posting
+pub mod BankLimits

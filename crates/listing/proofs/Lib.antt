@@ -3,4 +3,5 @@ pub mod Lines
 pub mod Signs
 pub mod Fits
 pub mod Example
+pub mod Makers
 pub mod Determined

@@ -1,0 +1,90 @@
+-- The makers' registers once more, in decimal and as a listing: what the listing of each maker's sheet is, typed from their documents (rules M10 to
+-- M25), as one table under one statement. So a number of a map is typed twice, in two bases, and each holds the other. Assumes nothing.
+use Prim.Native.Nat.{ℕ}
+use mathlib.Core.Path.{_≡_, refl}
+use mathlib.Core.Bool.{Bool, true}
+use mathlib.Core.List.{List, [], _∷_, _++_}
+use Prim.Native.String.{String}
+use Rattle.words.specs.Words.{wordAt, bytesOf}
+use Rattle.range.specs.Range.{numberOf, notAbove, inRange}
+use Rattle.sheet_rules.specs.Rows.{areas, items}
+use Rattle.sheet_rules.specs.Lookup.{addressOf}
+use Rattle.sheet_rules.specs.Rules.{sound, headerSound, areasSound, itemsSound, settingsSound, itemPlaces, writablePlaces, placesFollow, areasAscend, lengthsSum}
+use Rattle.lists.specs.Lists.{each, some, upFrom, samePlaces}
+use Rattle.makers.specs.Maps.{ux, aswe, bore40, bore50, bore80}
+use Rattle.makers.specs.Sheets.{sheetOf}
+use Rattle.listing.specs.Ascii.{ascii}
+use Rattle.listing.specs.Text.{listing, decimal, decimalWithin, signedDecimal, summaryText, itemText, itemTexts}
+
+uxText : List ℕ
+uxText =
+    ascii "areas 2 items 18 bank 34\n"
+    ++ ascii "0100 s -10 60\n"
+    ++ ascii "0101 u 0 4\n"
+    ++ ascii "0102 u 0 1\n"
+    ++ ascii "0103 p 0 99999\n"
+    ++ ascii "0105 p 0 99999\n"
+    ++ ascii "0107 p 0 99999\n"
+    ++ ascii "0109 u 1 16\n"
+    ++ ascii "010A p 0 99999\n"
+    ++ ascii "010C u 0 1\n"
+    ++ ascii "010D u 0 1\n"
+    ++ ascii "010E u 1 247\n"
+    ++ ascii "010F u 0 1\n"
+    ++ ascii "0110 u 0 10000\n"
+    ++ ascii "0111 u 0 2\n"
+    ++ ascii "0112 u 0 1000\n"
+    ++ ascii "0113 p 0 999999\n"
+    ++ ascii "0115 u 0 1\n"
+    ++ ascii "0116 u 0 4\n"
+
+-- by the high bound of 0109, which goes by the bore
+asweText : String → List ℕ
+asweText bore =
+    ascii "areas 5 items 22 bank 38\n"
+    ++ ascii "00FF u 0 1\n"
+    ++ ascii "0100 u 0 1\n"
+    ++ ascii "0101 u 0 10000\n"
+    ++ ascii "0102 u 0 6\n"
+    ++ ascii "0103 u 0 1\n"
+    ++ ascii "0104 u 0 1\n"
+    ++ ascii "0105 u 1 16\n"
+    ++ ascii "0106 u 800 1200\n"
+    ++ ascii "0107 u 0 1\n"
+    ++ ascii "0108 u 0 255\n"
+    ++ (ascii "0109 u 0 " ++ ascii bore ++ ascii "\n")
+    ++ ascii "010D u 500 1999\n"
+    ++ ascii "010E u 0 65535\n"
+    ++ ascii "010F u 1 12\n"
+    ++ ascii "0110 u 1 31\n"
+    ++ ascii "0111 u 0 23\n"
+    ++ ascii "0112 u 0 59\n"
+    ++ ascii "0113 u 1 288\n"
+    ++ ascii "0115 u 0 5\n"
+    ++ ascii "0116 u 1 4\n"
+    ++ ascii "0123 s -100 600\n"
+    ++ ascii "0124 u 0 1000\n"
+
+-- a sheet and its listing
+pub record Row : Type 0 where
+  pub sheet : List ℕ
+  pub text : List ℕ
+
+abbrev pub row : List ℕ → List ℕ → Row
+row sheet text = record { sheet = sheet; text = text }
+
+abbrev pub right : Row → Bool
+right this = samePlaces (listing (this .sheet)) (this .text)
+
+pub table : List Row
+table =
+    row (sheetOf ux) uxText
+    ∷ row (sheetOf (aswe bore40)) (asweText "16")
+    ∷ row (sheetOf (aswe bore50)) (asweText "30")
+    ∷ row (sheetOf (aswe bore80)) (asweText "60")
+    ∷ []
+
+-- every row is right
+pub makers-listed : each right table ≡ true
+unfolding table uxText asweText sheetOf listing ascii decimal decimalWithin signedDecimal summaryText itemText itemTexts addressOf sound areas items wordAt bytesOf numberOf notAbove inRange headerSound areasSound itemsSound settingsSound each some upFrom samePlaces itemPlaces writablePlaces placesFollow areasAscend lengthsSum
+makers-listed = refl
