@@ -1,5 +1,6 @@
 // The door for the board's firmware: the library's calls over byte slices (a pointer and a length) and numbers, as C has them.
 ghost use mathlib.Core.Path.{_≡_};
+ghost use Rattle.words.specs.Words.{Bytes};
 ghost use Rattle.check_value.specs.Check.{startState, taken, valueOf};
 ghost use Rattle.refusals.specs.Answers.{answerNumber};
 ghost use Rattle.sheet_rules.specs.Rules.{sheetAnswer};
@@ -88,6 +89,7 @@ pub extern "C" fn cedarskein_answer(
     rate: &mut u32,
 ) -> u32
     ensures { λ r. ⌜ handed r (now (length .exit)) (now (rate .exit)) (now (bank .exit)) (now (out .exit)) ≡ handedOf (answerOutcome (lent (now (sheet .entry)) (now (bank .entry))) (now (frame .entry)) (now (out .entry))) ⌝ }
+    ensures { λ r. ⌜ Bytes (now (sheet .entry)) × Bytes (now (bank .entry)) × Bytes (now (frame .entry)) × Bytes (now (out .entry)) × Bytes (now (bank .exit)) × Bytes (now (out .exit)) ⌝ }
 {
     let answered = meter::answer(sheet, bank, frame, out);
     *length = numbers::length_of(answered);
