@@ -78,7 +78,8 @@ pub extern "C" fn cedarskein_set_mark(sheet: &[u8], bank: &mut [u8], mark: u32) 
 }
 
 // Answers one frame: 0 with the length of the reply and the rate to send it at, 1 for silence, or 2, 3, 4, 5 in this order. Length
-// and rate are written on every call, zeros where there is no reply.
+// and rate are written on every call, zeros where there is no reply. The second promise is the language's own rule for slices: what is lent
+// and what is left are bytes. It is said here so that the demands need not suppose it.
 #[no_mangle]
 pub extern "C" fn cedarskein_answer(
     sheet: &[u8],

@@ -1,7 +1,7 @@
 -- The calls of the door as the customer sees them: what is lent, what is handed back, and what each lent buffer holds afterwards. Each is
 -- the generated contract's own `Post`, at any lifetimes, arguments, result and exits. Here too: no contract asks anything of its caller, for
--- any input there is an outcome that it allows, and that outcome is the definition's. That what a call is lent is bytes comes with the call
--- where a statement needs it. Assumes nothing.
+-- any input there is an outcome that it allows, and that outcome is the definition's. That what is lent is bytes comes with a call with a frame,
+-- whose statements need it. Assumes nothing.
 use mathlib.Core.Path.{_≡_, refl, sym, subst}
 use mathlib.Core.List.{List, []}
 use mathlib.Core.Logic.{_↔_}
@@ -134,8 +134,8 @@ set-mark-takes κs lent = tt
 pub answer-takes : Takes 6 answer.ps answer-reads.Pre
 answer-takes κs lent = tt
 
--- .. and for any of it, which is bytes where a frame is answered, there is a call that the contract allows, so that no statement about calls is
--- empty
+-- .. and for any of it there is a call that the contract allows, so that no statement about calls is empty. A call with a frame says that bytes
+-- are lent, so there it is for any bytes.
 
 abbrev ref : {X : Type 0} → X → RefT X
 ref x = record { ptr = (0, 0); name = 0; now = x }
