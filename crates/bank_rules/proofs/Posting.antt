@@ -7,7 +7,7 @@ use native.Mathlib.Omega.{arith}
 use native.Mathlib.Nat.{not-suc-le-zero}
 use lib.Dec.{leb}
 use borrow.Author.Tests.{leb-true, leb-false}
-use Rattle.words.proofs.Small.{Bytes}
+use Rattle.words.specs.Words.{Bytes}
 use Rattle.lists.specs.Lists.{upFrom, each}
 use Rattle.lists.proofs.Tests.{first-of, second-of}
 use Rattle.sheet_rules.specs.Rows.{areas}

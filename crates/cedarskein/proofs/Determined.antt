@@ -44,4 +44,5 @@ pub cedarskein-set-mark-determined : Determined 2 set-mark.ps set-mark.r set-mar
 cedarskein-set-mark-determined κs a x y = read-off (λ o. (o .number, (tt, (o .bank, (tt, tt)))))
 
 pub cedarskein-answer-determined : Determined 6 answer.ps answer.r answer-reads.Post
-cedarskein-answer-determined κs a x y = read-off (λ o. (o .number, (tt, (o .bank, (tt, (o .buffer, (o .length, (o .rate, tt))))))))
+cedarskein-answer-determined κs a x y p q =
+    read-off (λ o. (o .number, (tt, (o .bank, (tt, (o .buffer, (o .length, (o .rate, tt)))))))) (p .0) (q .0)

@@ -1,5 +1,6 @@
 // The door for the board's firmware: the library's calls over byte slices (a pointer and a length) and numbers, as C has them.
 ghost use mathlib.Core.Path.{_≡_};
+ghost use Rattle.words.specs.Words.{Bytes};
 ghost use Rattle.check_value.specs.Check.{startState, taken, valueOf};
 ghost use Rattle.refusals.specs.Answers.{answerNumber};
 ghost use Rattle.sheet_rules.specs.Rules.{sheetAnswer};
@@ -77,7 +78,8 @@ pub extern "C" fn cedarskein_set_mark(sheet: &[u8], bank: &mut [u8], mark: u32) 
 }
 
 // Answers one frame: 0 with the length of the reply and the rate to send it at, 1 for silence, or 2, 3, 4, 5 in this order. Length
-// and rate are written on every call, zeros where there is no reply.
+// and rate are written on every call, zeros where there is no reply. The second promise is the language's own rule for slices: what is lent
+// and what is left are bytes. It is said here so that the demands need not suppose it.
 #[no_mangle]
 pub extern "C" fn cedarskein_answer(
     sheet: &[u8],
@@ -88,6 +90,7 @@ pub extern "C" fn cedarskein_answer(
     rate: &mut u32,
 ) -> u32
     ensures { λ r. ⌜ handed r (now (length .exit)) (now (rate .exit)) (now (bank .exit)) (now (out .exit)) ≡ handedOf (answerOutcome (lent (now (sheet .entry)) (now (bank .entry))) (now (frame .entry)) (now (out .entry))) ⌝ }
+    ensures { λ r. ⌜ Bytes (now (sheet .entry)) × Bytes (now (bank .entry)) × Bytes (now (frame .entry)) × Bytes (now (out .entry)) × Bytes (now (bank .exit)) × Bytes (now (out .exit)) ⌝ }
 {
     let answered = meter::answer(sheet, bank, frame, out);
     *length = numbers::length_of(answered);

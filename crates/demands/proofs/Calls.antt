@@ -1,7 +1,8 @@
 -- The calls of the door as the customer sees them: what is lent, what is handed back, and what each lent buffer holds afterwards. Each is
 -- the generated contract's own `Post`, at any lifetimes, arguments, result and exits. Here too: no contract asks anything of its caller, for
--- any input there is an outcome that it allows, and that outcome is the definition's. Assumes nothing.
-use mathlib.Core.Path.{_≡_, refl}
+-- any input there is an outcome that it allows, and that outcome is the definition's. That what is lent is bytes comes with a call with a frame,
+-- whose statements need it. Assumes nothing.
+use mathlib.Core.Path.{_≡_, refl, sym, subst}
 use mathlib.Core.List.{List, []}
 use mathlib.Core.Logic.{_↔_}
 use Prim.Native.Nat.{ℕ}
@@ -9,10 +10,12 @@ use contract.Lifetimes.{Lfts}
 use denote.Ref.{RefT, now}
 use denote.Triple.Clauses.{AtExit}
 use borrow.Fn.Kinds.{PK, RK, In, Out, Dens, endedOf, resT}
+use Rattle.words.specs.Words.{Bytes}
 use Rattle.refusals.specs.Answers.{answerNumber}
 use Rattle.sheet_rules.specs.Rules.{sheetAnswer}
 use Rattle.bank_rules.specs.Calls.{Lent, lent, checkAnswer, freshOutcome, postOutcome, markOutcome}
 use Rattle.meter_rules.specs.Answer.{answerOutcome}
+use Rattle.meter_rules.proofs.Bytes.{answer-bytes}
 use Rattle.cedarskein.specs.Door.{Told, Handed, told, toldOf, handed, handedOf}
 use Rattle.cedarskein.proofs.cedarskein_sheet_check.Kinds as sheet-check
 use Rattle.cedarskein.proofs.cedarskein_sheet_check.Reads as sheet-check-reads
@@ -86,15 +89,27 @@ marks-is (marks call) = call .post
 
 pub answers-is : {given : Lent} {frame buffer : List ℕ} {left : Handed} → Answers given frame buffer left
     → left ≡ handedOf (answerOutcome given frame buffer)
-answers-is (answers call) = call .post
+answers-is (answers call) = call .post .0
 
--- ---- demand 2, rule D20, the whole: what the contract of cedarskein_answer allows is exactly the outcome of the definition
+-- .. and that what it is lent and what it leaves are bytes
+pub answers-bytes : {given : Lent} {frame buffer : List ℕ} {left : Handed} → Answers given frame buffer left
+    → Bytes (given .sheet) × Bytes (given .bank) × Bytes frame × Bytes buffer × Bytes (left .bank) × Bytes (left .buffer)
+answers-bytes (answers call) = call .post .1
+
+-- ---- demand 2, rule D20, the whole: what the contract of cedarskein_answer allows is exactly the outcome of the definition, where bytes are lent
 
 pub answer-exactly : (κs : Lfts 6) (passed : Dens κs answer.ps) (result : resT answer.r κs .Denot) (exit : AtExit (endedOf 6 answer.ps answer.r) κs)
     → answer-reads.Post κs passed result exit
-    ↔ (handed result (now (exit .1 .1 .1 .1 .0)) (now (exit .1 .1 .1 .1 .1 .0)) (now (exit .1 .0)) (now (exit .1 .1 .1 .0))
-    ≡ handedOf (answerOutcome (lent (now (passed .0)) (now (passed .1 .0))) (now (passed .1 .1 .0)) (now (passed .1 .1 .1 .0))))
-answer-exactly κs passed result exit = (λ p. p, λ p. p)
+    ↔ (Bytes (now (passed .0)) × Bytes (now (passed .1 .0)) × Bytes (now (passed .1 .1 .0)) × Bytes (now (passed .1 .1 .1 .0))
+    × (handed result (now (exit .1 .1 .1 .1 .0)) (now (exit .1 .1 .1 .1 .1 .0)) (now (exit .1 .0)) (now (exit .1 .1 .1 .0))
+    ≡ handedOf (answerOutcome (lent (now (passed .0)) (now (passed .1 .0))) (now (passed .1 .1 .0)) (now (passed .1 .1 .1 .0)))))
+answer-exactly κs passed result exit = (
+  λ p. (p .1 .0, p .1 .1, p .1 .2, p .1 .3, p .0),
+  λ q.
+      let kept = answer-bytes (lent (now (passed .0)) (now (passed .1 .0))) (now (passed .1 .1 .0)) (now (passed .1 .1 .1 .0)) (q .1) (q .2) (q .3) in
+      let left = subst (λ (h : Handed). Bytes (h .bank) × Bytes (h .buffer)) (sym (q .4)) kept in
+      (q .4, (q .0, q .1, q .2, q .3, left .0, left .1)),
+)
 
 -- ---- demand 1, rule D10: no contract asks anything of what is lent ..
 
@@ -119,7 +134,8 @@ set-mark-takes κs lent = tt
 pub answer-takes : Takes 6 answer.ps answer-reads.Pre
 answer-takes κs lent = tt
 
--- .. and for any of it there is a call that the contract allows, so that no statement about calls is empty
+-- .. and for any of it there is a call that the contract allows, so that no statement about calls is empty. A call with a frame says that bytes
+-- are lent, so there it is for any bytes.
 
 abbrev ref : {X : Type 0} → X → RefT X
 ref x = record { ptr = (0, 0); name = 0; now = x }
@@ -182,8 +198,10 @@ some-mark given mark =
       post = refl;
     }
 
-pub some-answer : (given : Lent) (frame buffer : List ℕ) → Answers given frame buffer (handedOf (answerOutcome given frame buffer))
-some-answer given frame buffer =
+pub some-answer : (given : Lent) (frame buffer : List ℕ) → Bytes (given .sheet) → Bytes (given .bank) → Bytes frame → Bytes buffer
+    → Answers given frame buffer (handedOf (answerOutcome given frame buffer))
+some-answer given frame buffer sheet-bytes bank-bytes frame-bytes buffer-bytes =
+    let kept = answer-bytes given frame buffer bank-bytes frame-bytes buffer-bytes in
     let left : Handed = handedOf (answerOutcome given frame buffer) in
     answers
     record {
@@ -191,5 +209,5 @@ some-answer given frame buffer =
       lent = (ref (given .sheet), (ref (given .bank), (ref frame, (ref buffer, (ref 0, (ref 0, tt))))));
       result = left .number;
       exit = (ref (given .sheet), (ref (left .bank), (ref frame, (ref (left .buffer), (ref (left .length), (ref (left .rate), tt))))));
-      post = refl;
+      post = (refl, (sheet-bytes, bank-bytes, frame-bytes, buffer-bytes, kept .0, kept .1));
     }

@@ -1,5 +1,6 @@
 -- Demands 2 and 3 over the calls themselves. Demand 2: what is handed back and left is what the plain numbers say (`Leaves`), and they leave
--- no choice. Demand 3: what arrives damaged of a frame that was sent right is met with silence, and nothing is touched. Assumes nothing.
+-- no choice. Demand 3: what arrives damaged of a frame that was sent right is met with silence, and nothing is touched. That what was lent is
+-- bytes is supposed nowhere: the call says it. Assumes nothing.
 use mathlib.Core.Path.{_≡_, refl, sym, ap, subst, _∙_}
 use mathlib.Core.Bool.{true, not}
 use mathlib.Core.List.{List}
@@ -30,7 +31,7 @@ use Rattle.plain.proofs.Once as once
 use Rattle.plain.proofs.Meets.{leftOf, meets}
 use Rattle.cedarskein.specs.Door.{Handed, handed, handedOf}
 use Rattle.demands.specs.Seen.{Accepted, leftBy}
-use Rattle.demands.proofs.Calls.{Answers, answers-is}
+use Rattle.demands.proofs.Calls.{Answers, answers-is, answers-bytes}
 
 module _ (given : Lent) (frame buffer : List ℕ) (accepted : Accepted given buffer) where
   -- where nothing is refused, the frame is acted on
@@ -39,19 +40,26 @@ module _ (given : Lent) (frame buffer : List ℕ) (accepted : Accepted given buf
   acted =
       simp (accepted .sheetSound, accepted .bankFits, accepted .bankWhole, le-ltb (length buffer) leastBuffer (accepted .bufferLong))
 
-  module _ (sheet-bytes : Bytes (given .sheet)) where
+  module _ {left : Handed} (call : Answers given frame buffer left) where
+    sheet-bytes : Bytes (given .sheet)
+    sheet-bytes = answers-bytes call .0
+
+    frame-bytes : Bytes frame
+    frame-bytes = answers-bytes call .2
+
     -- demand 2: what a call hands back and leaves
-    pub frame-leaves : Bytes frame → {left : Handed} → Answers given frame buffer left → Leaves (given .sheet) (given .bank) frame buffer (leftBy left)
-    frame-leaves frame-bytes call =
+    pub frame-leaves : Leaves (given .sheet) (given .bank) frame buffer (leftBy left)
+    frame-leaves =
         subst (λ (h : Handed). Leaves (given .sheet) (given .bank) frame buffer (leftBy h)) (sym (answers-is call ∙ ap handedOf acted))
         (meets (given .sheet) (given .bank) frame buffer (accepted .sheetSound) sheet-bytes frame-bytes (accepted .bankFits) (accepted .bankWhole)
         (accepted .bufferLong))
 
-    -- .. and that leaves no choice
-    pub leaves-once : (one other : Left) → Bytes (one .bank) → Bytes (other .bank) → Bytes (one .buffer) → Bytes (other .buffer)
-        → Leaves (given .sheet) (given .bank) frame buffer one → Leaves (given .sheet) (given .bank) frame buffer other → one ≡ other
-    leaves-once one other a b c d =
-        once.leaves-once (given .sheet) (given .bank) frame (accepted .sheetSound) sheet-bytes buffer size (accepted .bufferLong) one other a b c d
+    -- .. and that leaves no choice: no other outcome of bytes is so
+    pub leaves-once : (other : Left) → Bytes (other .bank) → Bytes (other .buffer) → Leaves (given .sheet) (given .bank) frame buffer other
+        → leftBy left ≡ other
+    leaves-once other bank-bytes buffer-bytes leaves =
+        once.leaves-once (given .sheet) (given .bank) frame (accepted .sheetSound) sheet-bytes buffer size (accepted .bufferLong)
+        (leftBy left) other (answers-bytes call .4) bank-bytes (answers-bytes call .5) buffer-bytes frame-leaves leaves
       where
         size : length (given .bank) ≡ 2 * word (given .sheet) 10 + 2
         size =
@@ -59,24 +67,21 @@ module _ (given : Lent) (frame buffer : List ℕ) (accepted : Accepted given buf
             ∙ omega (arith, word-same (given .sheet) 10)
 
     -- a word that lies in an access 1 area is as before, whatever the frame
-    pub read-only-kept : Bytes frame → {left : Handed} → Answers given frame buffer left → {address place : ℕ} → LiesAt (given .sheet) address place 1
+    pub read-only-kept : {address place : ℕ} → LiesAt (given .sheet) address place 1
         → word (left .bank) (2 * place) ≡ word (given .bank) (2 * place)
-    read-only-kept frame-bytes call {address} {place} lies =
-        read-only.read-only-kept (given .sheet) (accepted .sheetSound) (given .bank) frame lies (frame-leaves frame-bytes call .words place)
+    read-only-kept {address} {place} lies =
+        read-only.read-only-kept (given .sheet) (accepted .sheetSound) (given .bank) frame lies (frame-leaves .words place)
 
     -- a word that is not as before lies in an access 3 area, at an address of the frame, or is the mark
-    pub changed-writable : Bytes frame → {left : Handed} → Answers given frame buffer left → {place : ℕ}
-        → (word (left .bank) (2 * place) ≡ word (given .bank) (2 * place) → ⊥)
+    pub changed-writable : {place : ℕ} → (word (left .bank) (2 * place) ≡ word (given .bank) (2 * place) → ⊥)
         → ((k : ℕ) × LiesAt (given .sheet) (address frame k) place 3) ⊎ (place ≡ word (given .sheet) 10)
-    changed-writable frame-bytes call {place} other =
-        read-only.changed-writable (given .sheet) (accepted .sheetSound) (given .bank) frame (frame-leaves frame-bytes call .words place) other
+    changed-writable {place} other =
+        read-only.changed-writable (given .sheet) (accepted .sheetSound) (given .bank) frame (frame-leaves .words place) other
 
     -- a 06 that is good exactly if a value is within bounds gets the eight bytes of its echo exactly then
     pub taken-echoed : {at sent kind low high value : ℕ} → TakenWithin (given .sheet) (given .bank) at sent kind low high value
-        → frame ≡ writeOne (given .sheet) (given .bank) at sent → Bytes frame → {left : Handed} → Answers given frame buffer left
-        → (left .length ≡ 8) ↔ Within kind low high value
-    taken-echoed {at} {sent} {kind} {low} {high} {value} within is frame-bytes {left} call =
-        (to (frame-leaves frame-bytes call), from (frame-leaves frame-bytes call))
+        → frame ≡ writeOne (given .sheet) (given .bank) at sent → (left .length ≡ 8) ↔ Within kind low high value
+    taken-echoed {at} {sent} {kind} {low} {high} {value} within is = (to frame-leaves, from frame-leaves)
       where
         one : byte frame 1 ≡ 6
         one = ap (λ (f : List ℕ). byte f 1) is
@@ -103,13 +108,11 @@ module _ (given : Lent) (frame buffer : List ℕ) (accepted : Accepted given buf
             (subst (λ (f : List ℕ). Gets (given .sheet) (given .bank) f good) (sym is) (within .taken .1 inside))) (leaves .answered))
 
     -- demand 3
-    pub damaged-silent : (sent : List ℕ) → Sent sent → Damage sent frame → {left : Handed} → Answers given frame buffer left
-        → left ≡ handed 1 0 0 (given .bank) buffer
-    damaged-silent sent is damage {left} call =
-        go (frame-leaves (damage .bytes) call)
+    pub damaged-silent : (sent : List ℕ) → Sent sent → Damage sent frame → left ≡ handed 1 0 0 (given .bank) buffer
+    damaged-silent sent is damage = go frame-leaves
       where
         quiet : Gets (given .sheet) (given .bank) frame silence
-        quiet = fates.notWhole (unmet (whole-tells frame) (ap not (damaged-fails sent frame is damage)))
+        quiet = fates.notWhole (unmet (whole-tells frame) (ap not (damaged-fails sent frame is frame-bytes damage)))
 
         go : Leaves (given .sheet) (given .bank) frame buffer (leftBy left) → left ≡ handed 1 0 0 (given .bank) buffer
         go leaves =

@@ -1,13 +1,14 @@
 -- What the statements of the demands suppose is met: on the UX sheet and a fresh bank, one frame for each sort of damage, and one undamaged
 -- frame that gets a reply; a frame that stops at each step, and good ones; and for each refusal number of each call an input that gets it.
--- (That there are such calls at all: `Calls`.) Assumes nothing.
+-- There is a call with each frame of bytes there (that there is one for all bytes that are lent: `Calls`). Assumes nothing.
 use mathlib.Core.Path.{_≡_, refl, ap}
 use mathlib.Core.Bool.{true}
 use mathlib.Core.List.{List, [], _∷_, _++_, map}
 use Prim.Native.Nat.{ℕ}
 use native.Mathlib.Omega.{arith}
 use lib.ListN.{take, drop, replicate}
-use Rattle.words.specs.Words.{wordAt, withWord, bytesOf}
+use Rattle.words.specs.Words.{Bytes, wordAt, withWord, bytesOf}
+use Rattle.words.proofs.Small.{tested-bytes}
 use Rattle.check_value.specs.Check.{valueOf}
 use Rattle.check_value.specs.Frame.{passes}
 use Rattle.check_value.proofs.Witness.{frameSent, framesReceived, AllDamaged, sent-passes, received-damaged}
@@ -33,6 +34,7 @@ use Rattle.meter_rules.specs.Answer.{frameCheck, actedOn, answerOutcome}
 use Rattle.meter_rules.proofs.CaseSet.{uxMeter, ux-fresh-made}
 use Rattle.cedarskein.specs.Door.{Handed, handed, handedOf, toldOf}
 use Rattle.demands.specs.Seen.{Accepted}
+use Rattle.demands.proofs.Calls.{Answers, some-answer}
 
 abbrev uxSheet : List ℕ
 uxSheet = sheetOf ux
@@ -63,6 +65,11 @@ undamaged-passes = sent-passes
 -- what the meter answers
 abbrev answerTo : List ℕ → Handed
 answerTo frame = handedOf (answerOutcome (lent uxSheet freshBank) frame answerBuffer)
+
+pub called : (frame : List ℕ) → Bytes frame → Answers (lent uxSheet freshBank) frame answerBuffer (answerTo frame)
+unfolding sheetOf bytesOf
+called frame frame-bytes =
+    some-answer (lent uxSheet freshBank) frame answerBuffer (tested-bytes uxSheet tt) (tested-bytes freshBank tt) frame-bytes (tested-bytes answerBuffer tt)
 
 pub damaged-answers : map answerTo framesReceived ≡ map (λ frame. handed 1 0 0 freshBank answerBuffer) framesReceived
 unfolding allOpen answerOutcome frameCheck actedOn judgedFrame replyTo storesOf withCheck runStores stopPlace stopIn badItem someBad stored passes valueOf liesIn bytesOf firstCase bankSound goodBy sound headerSound areasSound itemsSound settingsSound each some upFrom samePlaces itemPlaces writablePlaces placesFollow areasAscend lengthsSum areas items wordAt withWord inRange sheetOf

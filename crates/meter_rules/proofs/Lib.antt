@@ -5,6 +5,7 @@ pub mod Stopping
 pub mod Placing
 pub mod Closing
 pub mod Outcomes
+pub mod Bytes
 pub mod Written
 pub mod Keeping
 pub mod Soundness

@@ -1,16 +1,17 @@
 -- Damage in plain numbers is damage as the check value's law has it, and a frame so sent passes. Assumes nothing.
 use mathlib.Core.Path.{_≡_, refl, sym, ap, ap₂, subst, _∙_}
-use mathlib.Core.Bool.{Bool, true, false, xor, cond, _&&_, true≢false, false≢true}
+use mathlib.Core.Bool.{Bool, true, false, xor, cond, true≢false, false≢true}
 use mathlib.Core.Logic.{_⊎_, inl, inr}
 use mathlib.Core.List.{List, [], _∷_, _++_}
 use Prim.Native.Nat.{ℕ, zero, suc, _+_, _-_, _*_, _/_, _%_, _^_, _≤_, _<_}
 use native.Mathlib.Omega.{arith}
 use native.Mathlib.Nat.{div-one, zero-add}
-use lib.Dec.{T, eqb, ltb}
+use lib.Dec.{eqb, ltb}
 use lib.ListN.{length, getD, length-append, List·getD-append}
 use lib.Seq.{getD-append-add}
-use lib.Pow.{areBytes, shr-shr}
-use borrow.Author.Tests.{eqb-true, eqb-false, eq-eqb, lt-ltb, ltb-true, ltb-false}
+use lib.Pow.{shr-shr}
+use borrow.Author.Tests.{eqb-true, eqb-false, eq-eqb, ltb-true, ltb-false}
+use Rattle.words.proofs.Small.{are-bytes}
 use Rattle.check_value.specs.Damage.{lowBits, wire, differing, changed, consIf, allWithin, WithinOneRun, Damaged}
 use Rattle.check_value.specs.Frame.{passes}
 use Rattle.check_value.specs.Check.{valueOf}
@@ -20,16 +21,6 @@ use Rattle.check_value.proofs.Damage.{damage-caught}
 use Rattle.lists.proofs.Among.{Among, here, there, among-nil, among-cons, among-same}
 use Rattle.plain.specs.Numbers.{byte, Bytes}
 use Rattle.plain.specs.Damage.{Sent, bit, Changed, Damage}
-
--- ---- bytes
-
-bytes-so : (bytes : List ℕ) → Bytes bytes → T (areBytes bytes)
-bytes-so [] small = tt
-bytes-so (b ∷ rest) small = go (ltb b 256) (lt-ltb b 256 (small 0)) (bytes-so rest (λ at. small (suc at)))
-  where
-    go : (here : Bool) → here ≡ true → T (areBytes rest) → T (here && areBytes rest)
-    go true e t = t
-    go false e t = absurd (false≢true e)
 
 -- ---- the bits of a byte, and of a frame
 
@@ -231,11 +222,11 @@ module _ (sent received : List ℕ) (damage : Damage sent received) where
           one-of p (inr (inr e)) = there (there (among-same e))
       go (inr (first, only)) = inr (first, all-within first (changed sent received) (λ p m. only p (place-changed p m)))
 
-  pub damage-so : Sent sent → Damaged sent received
-  damage-so is =
+  pub damage-so : Sent sent → Bytes received → Damaged sent received
+  damage-so is small =
       record {
-        sentBytes = bytes-so sent (is .bytes);
-        receivedBytes = bytes-so received (damage .bytes);
+        sentBytes = are-bytes sent (is .bytes);
+        receivedBytes = are-bytes received small;
         sameLength = damage .sameLength;
         atLeastOne = some-place (changed sent received) (changed-place (damage .atLeastOne .0) (damage .atLeastOne .1));
         fewOrOneRun = few-or-run;
@@ -249,5 +240,5 @@ sent-passes {frame} is =
     let long : length frame ≡ length (is .body) + 2 = ap length (is .itsCheck) ∙ whole in
     ap passes (is .itsCheck) ∙ closed-passes (is .body) (omega (arith, is .least, long)) (omega (arith, is .most, long))
 
-pub damaged-fails : (sent received : List ℕ) → Sent sent → Damage sent received → passes received ≡ false
-damaged-fails sent received is damage = damage-caught sent received (sent-passes is) (damage-so sent received damage is)
+pub damaged-fails : (sent received : List ℕ) → Sent sent → Bytes received → Damage sent received → passes received ≡ false
+damaged-fails sent received is small damage = damage-caught sent received (sent-passes is) (damage-so sent received damage is small)

@@ -3,12 +3,12 @@ use mathlib.Core.Path.{_≡_, refl, sym, ap, ap₂, subst, _∙_}
 use mathlib.Core.Bool.{Bool, true, false, not, _&&_, _||_, true≢false}
 use mathlib.Core.Logic.{inl, inr}
 use mathlib.Core.List.{List, [], _∷_}
-use Prim.Native.Nat.{ℕ, zero, suc, _+_, _-_, _*_, _/_, _%_, _≤_, _<_}
+use Prim.Native.Nat.{ℕ, _+_, _-_, _*_, _/_, _%_, _≤_, _<_}
 use native.Mathlib.Omega.{arith}
 use lib.Dec.{T, leb, ltb, eqb}
 use lib.Pow.{areBytes}
 use borrow.Author.Tests.{eq-eqb, leb-true, ltb-true}
-use Rattle.words.specs.Words.{byteAt, wordAt}
+use Rattle.words.proofs.Small.{tested-bytes}
 use Rattle.lists.specs.Lists.{each}
 use Rattle.lists.proofs.Tests.{first-of, second-of}
 use Rattle.lists.proofs.Among.{Among, here, there, among-nil, each-among, some-among}
@@ -141,15 +141,6 @@ row-of all (item ∷ l) (there m) =
     let found = row-of all l m in
     (found .0, there (found .1), found .2)
 
-byte-below : (bytes : List ℕ) → T (areBytes bytes) → Bytes bytes
-byte-below [] t at = omega arith
-byte-below (b ∷ rest) t at = go (ltb b 256) refl t at (byte-below rest)
-  where
-    go : (small : Bool) → ltb b 256 ≡ small → T (small && areBytes rest) → (at : ℕ) → (T (areBytes rest) → Bytes rest) → byteAt (b ∷ rest) at < 256
-    go true e t zero again = ltb-true b 256 e
-    go true e t (suc at) again = again t at
-    go false e t at again = absurd t
-
 sheet-bytes : (meter : Meter) → T (areBytes (sheetOf (mapOf meter)))
 unfolding sheetOf
 sheet-bytes ux15-25 = tt
@@ -179,7 +170,7 @@ as-printed meter bank row m = go (row-of (areas sheet) (items sheet) (subst (Amo
         → AsPrinted (sheetOf (mapOf meter)) bank row
     go (item, among, same) =
         let keeps = sheet-sound meter in
-        let bytes = byte-below (sheetOf (mapOf meter)) (sheet-bytes meter) in
+        let bytes = tested-bytes (sheetOf (mapOf meter)) (sheet-bytes meter) in
         subst (AsPrinted (sheetOf (mapOf meter)) bank) (sym same)
         record {
           ofWord = word-taken (sheetOf (mapOf meter)) bank keeps bytes set06 item among;

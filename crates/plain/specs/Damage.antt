@@ -25,7 +25,6 @@ Changed sent received k = (k < 8 * length sent) × (bit sent k ≡ bit received 
 
 -- rule D31: the length is kept; at least one bit was changed; and one, two or three, or all in one run of sixteen
 pub record Damage (sent received : List ℕ) : Type 0 where
-  pub bytes : Bytes received
   pub sameLength : length received ≡ length sent
   pub atLeastOne : (k : ℕ) × Changed sent received k
   pub fewOrOneRun : ((a b c : ℕ) × ((k : ℕ) → Changed sent received k → (k ≡ a) ⊎ (k ≡ b) ⊎ (k ≡ c)))

@@ -28,7 +28,7 @@ use Rattle.cedarskein.proofs.cedarskein_answer.Met as answer-kept
 use Rattle.runs.specs.Runs.{Place, Call, Returns}
 use Rattle.runs.specs.Calls.{check-start-call, check-take-call, check-value-call, sheet-check-call, bank-check-call, bank-fresh-call, post-call, set-mark-call, answer-call}
 use Rattle.runs.proofs.Lending.{lifetimesOf, sharesOf, argsOf, valssOf}
-use Rattle.runs.proofs.Returning.{returns}
+use Rattle.runs.proofs.Returning.{returns, returns-both}
 
 module _ {M : Type 1} (𝓤 : URA M) (H : Heap 𝓤) (𝓜 : Model 𝓤 H) (𝓖 : GhostRules 𝓤 H) (𝓡 : Running 𝓤 H 𝓜) where
   pub check-start-returns : Returns 𝓤 H 𝓜 check-start-call
@@ -90,5 +90,5 @@ module _ {M : Type 1} (𝓤 : URA M) (H : Heap 𝓤) (𝓜 : Model 𝓤 H) (𝓖
     pub answer-returns : Returns 𝓤 H 𝓜 (answer-call sheet-at bank-at frame-at buffer-at length-at rate-at sheet bank frame buffer length rate)
     answer-returns =
         let call : Call = answer-call sheet-at bank-at frame-at buffer-at length-at rate-at sheet bank frame buffer length rate in
-        returns 𝓤 H 𝓜 𝓖 𝓡 call answer.signature answer.spec answer-kept.met
+        returns-both 𝓤 H 𝓜 𝓖 𝓡 call answer.signature answer.spec _ _ (λ number left both. both) answer-kept.met
         (λ loans. ((lifetimesOf (call .args) loans, sharesOf (call .args), tt, argsOf 0 (call .args) loans, valssOf 0 (call .args) loans), tt)) (refl, refl, refl)

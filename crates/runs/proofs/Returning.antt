@@ -17,7 +17,7 @@ use denote.Plain.{UInt}
 use denote.Triple.Walked.{says}
 use prog.Machine.{done as ended}
 use prog.Routine.{Routine, anyName}
-use contract.Monad.{Fun, fact}
+use contract.Monad.{Fun, fact, factI, fact-use}
 use contract.Running.{GhostRules, Running, tables, givenOf}
 use denote.Steps.{only, heard}
 use denote.Signature.{Signature}
@@ -124,3 +124,17 @@ module _ {M : Type 1} (𝓤 : URA M) (H : Heap 𝓤) (𝓜 : Model 𝓤 H) (𝓖
   -- the same of a contract with one clause, which is the promise
   pub returns : Kept M S (call .function) spec → (at : Loans (call .args) → c .Ghost) → Computes promised at → Returns 𝓤 H 𝓜 call
   returns = returns-by promised (λ r lasts. id⊢ 𝓤 (promised r lasts))
+
+  -- .. and of one with two clauses, which together are the promise
+  module _ (first second : ℕ → Lasts (call .args) → Type 0) (both : (r : ℕ) (lasts : Lasts (call .args)) → first r lasts × second r lasts → call .promise r lasts) where
+    abbrev pub clauses : Claims
+    clauses r lasts = fact 𝓤 (first r lasts) ∗ fact 𝓤 (second r lasts)
+
+    say : (r : ℕ) (lasts : Lasts (call .args)) → ent 𝓤 (clauses r lasts) (promised r lasts)
+    say r lasts =
+        let P : SProp 𝓤 = fact 𝓤 (first r lasts) in
+        let Q : SProp 𝓤 = fact 𝓤 (second r lasts) in
+        fact-use 𝓤 (first r lasts) (fst∗ 𝓤 P Q) (λ one. fact-use 𝓤 (second r lasts) (snd∗ 𝓤 P Q) (λ other. factI 𝓤 (call .promise r lasts) (P ∗ Q) (both r lasts (one, other))))
+
+    pub returns-both : Kept M S (call .function) spec → (at : Loans (call .args) → c .Ghost) → Computes clauses at → Returns 𝓤 H 𝓜 call
+    returns-both = returns-by clauses say

@@ -3,6 +3,7 @@ use mathlib.Core.Path.{_≡_}
 use mathlib.Core.List.{List, [], _∷_}
 use Prim.Native.Nat.{ℕ}
 use mir.Syntax.{w8, w16, w32}
+use Rattle.words.specs.Words.{Bytes}
 use Rattle.check_value.specs.Check.{startState, taken, valueOf}
 use Rattle.refusals.specs.Answers.{answerNumber}
 use Rattle.sheet_rules.specs.Rules.{sheetAnswer}
@@ -97,5 +98,6 @@ module _ (sheet-at bank-at frame-at buffer-at length-at rate-at : Place) (sheet 
     function = answer-code.routine;
     args = lends (toRead sheet-at sheet) ∷ lends (toWrite bank-at bank) ∷ lends (toRead frame-at frame) ∷ lends (toWrite buffer-at buffer) ∷ lends (toCount length-at length) ∷ lends (toCount rate-at rate) ∷ [];
     width = w32;
-    promise = λ number left. handed number (left .1 .1 .1 .1 .0) (left .1 .1 .1 .1 .1 .0) (left .1 .0) (left .1 .1 .1 .0) ≡ handedOf (answerOutcome (lent sheet bank) frame buffer);
+    promise = λ number left. (handed number (left .1 .1 .1 .1 .0) (left .1 .1 .1 .1 .1 .0) (left .1 .0) (left .1 .1 .1 .0) ≡ handedOf (answerOutcome (lent sheet bank) frame buffer))
+        × (Bytes sheet × Bytes bank × Bytes frame × Bytes buffer × Bytes (left .1 .0) × Bytes (left .1 .1 .1 .0));
   }

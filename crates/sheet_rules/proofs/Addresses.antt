@@ -7,7 +7,8 @@ use Prim.Native.Nat.{ℕ, zero, suc, _+_, _-_, _*_, _≤_, _<_}
 use native.Mathlib.Omega.{arith}
 use lib.Dec.{leb, ltb}
 use borrow.Author.Tests.{le-leb, lt-leb, lt-ltb, le-ltb, eqb-true, leb-true, leb-false, ltb-true, ltb-false}
-use Rattle.words.proofs.Small.{word-below, Bytes}
+use Rattle.words.specs.Words.{Bytes}
+use Rattle.words.proofs.Small.{word-below}
 use Rattle.sheet_rules.specs.declared.Area.{Area}
 use Rattle.sheet_rules.specs.declared.Lies.{Lies}
 use Rattle.sheet_rules.specs.declared.Lies.the-variants.{At, Nowhere}

@@ -1,6 +1,6 @@
 -- Bytes and sixteen-bit words of a list of bytes, each total: rule G7.
 -- A read past the end gives 0; a store that does not fit changes nothing. Assumes nothing.
-use Prim.Native.Nat.{ℕ, _+_, _*_, _/_, _%_}
+use Prim.Native.Nat.{ℕ, _+_, _*_, _/_, _%_, _<_}
 use mathlib.Core.Bool.{cond}
 use mathlib.Core.List.{List, [], _∷_, _++_}
 use lib.Dec.{ltb}
@@ -9,6 +9,10 @@ use lib.ListN.{length, getD, set}
 -- the byte at a place, and 0 past the end
 abbrev pub byteAt : List ℕ → ℕ → ℕ
 byteAt bytes at = getD bytes at 0
+
+-- rule G4, a list of bytes: every number in it is below 256
+abbrev pub Bytes : List ℕ → Type 0
+Bytes bytes = (at : ℕ) → byteAt bytes at < 256
 
 -- the upper byte of a word, and its lower byte
 abbrev pub upper : ℕ → ℕ
