@@ -50,7 +50,7 @@ STATED = ["plain"]
 # the files that compute a statement from the definitions, and stand on nothing else of proofs/
 TABLES = {
     "check_value": ["Witness"],
-    "sheet_rules": ["Holding", "Sides", "SheetLimits"],
+    "sheet_rules": ["Terms", "Sides", "SheetLimits"],
     "makers": ["Sheets"],
     "bank_rules": ["BankLimits"],
     "meter_rules": ["CaseSet", "FrameLimits"],
@@ -109,9 +109,8 @@ FIELD = re.compile(r"^  pub [^\W\d][\w'-]* :")
 SKIPPED = re.compile(r"^(use |pub mod|unfolding|\s*--|\s*unfolding )")
 NUMBER = re.compile(r"(?<![\w.'«-])(0x[0-9A-Fa-f]+|\d+)(?![\w'»])")
 SIGNS = [
-    ("comparison", re.compile(r"\bltb\b"), "leb"), ("comparison", re.compile(r"\bleb\b"), "ltb"), ("comparison", re.compile(r"\beqb\b"), "leb"),
-    ("comparison", re.compile(r"(?<= )<(?= )"), "≤"), ("comparison", re.compile(r"(?<= )≤(?= )"), "<"),
-    ("and", re.compile(r"&&"), "||"), ("or", re.compile(r"\|\|"), "&&"), ("not", re.compile(r"\bnot (?=\()"), ""),
+    (re.compile(r"\bltb\b"), "leb"), (re.compile(r"\bleb\b"), "ltb"), (re.compile(r"\beqb\b"), "leb"), (re.compile(r"(?<= )<(?= )"), "≤"),
+    (re.compile(r"(?<= )≤(?= )"), "<"), (re.compile(r"&&"), "||"), (re.compile(r"\|\|"), "&&"), (re.compile(r"\bnot (?=\()"), ""),
 ]
 
 
@@ -128,6 +127,20 @@ def moved(digits, by):
     return "0x" + format(value, "X").rjust(len(digits) - 2, "0") if base == 16 else str(value)
 
 
+def second_argument(text):
+    """The second of the arguments that stand behind a name, each a word or in parentheses."""
+    found, depth = [""], 0
+    for letter in text.lstrip() + " ":
+        depth += (letter == "(") - (letter == ")")
+        if depth < 0 or (depth == 0 and letter == " "):
+            if len(found) == 2 or depth < 0:
+                return found[-1].strip()
+            found.append("")
+        else:
+            found[-1] += letter
+    return found[-1].strip()
+
+
 def line_slips(code, steps):
     """(what is changed, the changed line) for each number and sign of a line."""
     for match in NUMBER.finditer(code):
@@ -137,8 +150,10 @@ def line_slips(code, steps):
             other = moved(match.group(1), by)
             if other is not None:
                 yield f"{match.group(1)} to {other}", code[:match.start()] + other + code[match.end():]
-    for _, sign, other in SIGNS:
+    for sign, usual in SIGNS:
         for match in sign.finditer(code):
+            # at most 0 is 0: there the slip is another
+            other = "ltb" if match.group(0) == "eqb" and second_argument(code[match.end():]) == "0" else usual
             yield f"{match.group(0).strip()} to {other or 'nothing'}", code[:match.start()] + other + code[match.end():]
 
 

@@ -4,7 +4,7 @@ pub mod Within
 pub mod Sound
 pub mod Addresses
 pub mod Places
-pub mod Holding
+pub mod Terms
 pub mod Sides
 pub mod SheetLimits
 pub mod Reach

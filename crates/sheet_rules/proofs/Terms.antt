@@ -1,9 +1,11 @@
--- Rules S45 and S48, of one item: which places it holds, as one table under one statement. Assumes nothing.
+-- Terms of the rules by themselves: the places that an item holds (rules S45 and S48), and what an access is good for (rules S21, J60 and J61), each as one
+-- table under one statement. Assumes nothing.
 use mathlib.Core.Path.{_≡_, refl}
-use mathlib.Core.Bool.{Bool, true, not}
+use mathlib.Core.Bool.{Bool, true, not, _&&_}
 use mathlib.Core.List.{List, [], _∷_}
 use Prim.Native.Nat.{ℕ}
 use Rattle.sheet_rules.specs.declared.Item.{Item}
+use Rattle.sheet_rules.specs.Rules.{readable, writable}
 use Rattle.sheet_rules.specs.Lookup.{holds}
 use Rattle.lists.specs.Lists.{each}
 
@@ -34,3 +36,22 @@ table =
 pub places-held : each right table ≡ true
 unfolding table each
 places-held = refl
+
+-- an access, that it may be read, and that it may be written
+pub data Access : Type 0 where
+  closed : ℕ → Access
+  read-only : ℕ → Access
+  read-and-write : ℕ → Access
+
+abbrev pub fitting : Access → Bool
+fitting (closed access) = not (readable access) && not (writable access)
+fitting (read-only access) = readable access && not (writable access)
+fitting (read-and-write access) = readable access && writable access
+
+pub accesses : List Access
+accesses = closed 0 ∷ read-only 1 ∷ closed 2 ∷ read-and-write 3 ∷ closed 4 ∷ []
+
+-- every row is right
+pub accesses-fit : each fitting accesses ≡ true
+unfolding accesses each
+accesses-fit = refl
