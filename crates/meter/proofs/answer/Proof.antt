@@ -25,21 +25,21 @@ returns-2 c =
     answer-small (lent (now (a .sheet)) (now (a .bank))) (now (a .frame)) (now (a .buffer)) (c .before .before .before .check .ensures) (c .before .enum-told .given .1)
     (lt-ltb (length (now (a .buffer))) leastBuffer (c .if1 .taken))
 
-judged-requires : tie.Need-judged-requires
-judged-requires c κs =
+judged-frame-requires : tie.Need-judged-frame-requires
+judged-frame-requires c κs =
     let a = c .before .before .before .before .before .before .before .before .before .before .args in
     check-passed (lent (now (a .sheet)) (now (a .bank))) (sym (c .before .before .before .before .check .ensures) ∙ c .before .before .enum-told .given .1) .right
 
 acted-requires : tie.Need-acted-requires
 acted-requires c κs =
     let a = c .before .before .before .before .before .before .before .before .before .before .before .before .before .args in
-    judged-room (now (a .sheet)) (now (a .bank)) (now (a .frame)) (now (a .buffer)) (c .before .before .judged .ensures) (c .before .before .before .before .if1 .left)
+    judged-room (lent (now (a .sheet)) (now (a .bank))) (now (a .frame)) (now (a .buffer)) (c .before .before .judged-frame .ensures) (c .before .before .before .before .if1 .left)
 
 returns-3 : tie.Need-returns-3
 returns-3 c =
     let a = c .before .before .before .before .before .before .before .before .before .before .before .before .before .before .before .before .before .before .args in
     c .before .before .before .before .acted .ensures
-    ∙ ap (λ (j : Judged). actedOn j (now (a .sheet)) (now (a .bank)) (now (a .frame)) (now (a .buffer))) (c .before .before .before .before .before .before .before .judged .ensures)
+    ∙ ap (λ (j : Judged). actedOn j (lent (now (a .sheet)) (now (a .bank))) (now (a .frame)) (now (a .buffer))) (c .before .before .before .before .before .before .before .judged-frame .ensures)
     ∙ answer-acted (lent (now (a .sheet)) (now (a .bank))) (now (a .frame)) (now (a .buffer)) (c .before .before .before .before .before .before .before .before .before .before .before .before .check .ensures)
     (c .before .before .before .before .before .before .before .before .before .before .enum-told .given .1) (le-ltb (length (now (a .buffer))) leastBuffer (c .before .before .before .before .before .before .before .before .before .if1 .left))
 
@@ -54,7 +54,7 @@ answer-spec =
     returns
     (λ c. search needs)
     returns-2
-    judged-requires
+    judged-frame-requires
     acted-requires
     (λ c. search needs)
     (λ c. search needs)

@@ -15,11 +15,11 @@ returns : tie.Need-returns
 unfolding judgement
 returns c =
     let a = c .before .before .before .before .before .before .before .args in
-    ap (λ (answer : Answer). judgementBy answer (judgedFrame (now (a .sheet)) (now (a .bank)) (now (a .frame))))
+    ap (λ (answer : Answer). judgementBy answer (judgedFrame (lent (now (a .sheet)) (now (a .bank))) (now (a .frame))))
     (sym (c .before .refusal .given .1) ∙ c .before .before .before .check .ensures)
 
-judged-requires : tie.Need-judged-requires
-judged-requires c κs =
+judged-frame-requires : tie.Need-judged-frame-requires
+judged-frame-requires c κs =
     let a = c .before .before .before .before .before .before .args in
     check-passed (lent (now (a .sheet)) (now (a .bank))) (sym (c .before .before .check .ensures) ∙ c .enum-told .given .1) .right
 
@@ -27,8 +27,8 @@ returns-2 : tie.Need-returns-2
 unfolding judgement
 returns-2 c =
     let a = c .before .before .before .before .before .before .before .args in
-    ap Stops (c .judged .ensures)
-    ∙ ap (λ (answer : Answer). judgementBy answer (judgedFrame (now (a .sheet)) (now (a .bank)) (now (a .frame))))
+    ap Stops (c .judged-frame .ensures)
+    ∙ ap (λ (answer : Answer). judgementBy answer (judgedFrame (lent (now (a .sheet)) (now (a .bank))) (now (a .frame))))
     (sym (c .before .enum-told .given .1) ∙ c .before .before .before .check .ensures)
 
 pub judge-spec : {M : Type 1} → statement M
@@ -39,5 +39,5 @@ judge-spec =
     (λ c. search needs)
     (λ c. search needs)
     returns
-    judged-requires
+    judged-frame-requires
     returns-2)

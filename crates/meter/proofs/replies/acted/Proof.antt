@@ -2,6 +2,7 @@
 use mathlib.Core.Path.{_∙_, ap}
 use Prim.Native.Nat.{ℕ, _*_}
 use denote.Ref.{now}
+use Rattle.bank_rules.specs.Calls.{lent}
 use Rattle.words.specs.Words.{wordAt}
 use Rattle.meter.proofs.Acting.{room-same, acts}
 use borrow.Author.Needs.{needs}
@@ -13,14 +14,14 @@ lay-reply-requires c κs =
     let stores = c .before .before .before .before in
     let start = stores .before .before .before .before .before .before .before .before .before in
     let a = start .args in
-    room-same (a .judged) (now (a .sheet)) (now (a .bank)) (now (a .frame)) (now (a .buffer)) (stores .make-stores .ensures) (start .pre)
+    room-same (a .judged) (lent (now (a .sheet)) (now (a .bank))) (now (a .frame)) (now (a .buffer)) (stores .make-stores .ensures) (start .pre)
 
 returns : tie.Need-returns
 returns c =
     let stores = c .before .before .before .before .before .before .before in
     let reads = stores .before .before in
     let a = stores .before .before .before .before .before .before .before .before .before .args in
-    acts (a .judged) (now (a .sheet)) (now (a .bank)) (now (a .frame)) (now (a .buffer)) (stores .make-stores .ensures)
+    acts (a .judged) (lent (now (a .sheet)) (now (a .bank))) (now (a .frame)) (now (a .buffer)) (stores .make-stores .ensures)
     (reads .word-at .ensures ∙ ap (λ (n : ℕ). wordAt (now (a .bank)) (2 * n)) (reads .before .rate-place .ensures))
     (c .before .before .lay-reply .ensures)
 

@@ -2,6 +2,7 @@
 use mathlib.Core.Path.{_∙_, ap}
 use Prim.Native.Nat.{ℕ, _*_}
 use denote.Ref.{now}
+use Rattle.bank_rules.specs.Calls.{lent}
 use Rattle.words.specs.Words.{withWord}
 use Rattle.bank_rules.specs.Stores.{stored}
 use Rattle.meter_rules.specs.Reply.{storesOf}
@@ -15,7 +16,7 @@ unfolding storesOf
 returns c =
     let a = c .before .before .before .before .before .before .before .before .before .before .before .args in
     let told = c .before .before .before .before .before .before .judged .given in
-    stored-by (a .judged) (now (a .sheet)) (now (a .bank)) (now (a .frame)) (told .1)
+    stored-by (a .judged) (lent (now (a .sheet)) (now (a .bank))) (now (a .frame)) (told .1)
     (c .before .before .store-run .ensures
     ∙ ap (stored (now (a .bank))) (run-stores (now (a .frame)) (told .0 .0) (told .0 .1 .0) (c .before .before .before .count-to .result) (c .before .before .before .count-to .ensures)))
 
@@ -23,7 +24,7 @@ returns-2 : tie.Need-returns-2
 unfolding storesOf stored
 returns-2 c =
     let a = c .before .before .before .before .before .before .before .before .before .before .args in
-    stored-by (a .judged) (now (a .sheet)) (now (a .bank)) (now (a .frame)) (c .before .before .before .before .before .enum-told .given .1)
+    stored-by (a .judged) (lent (now (a .sheet)) (now (a .bank))) (now (a .frame)) (c .before .before .before .before .before .enum-told .given .1)
     (c .before .before .store-word .ensures ∙ ap (λ (n : ℕ). withWord (now (a .bank)) (2 * n) 0) (c .before .before .before .bank-words .ensures))
 
 returns-3 : tie.Need-returns-3
@@ -31,13 +32,13 @@ unfolding storesOf
 returns-3 c =
     let a = c .before .before .before .before .before .before .before .before .before .before .args in
     let told = c .before .before .before .before .before .judged2 .given in
-    stored-by (a .judged) (now (a .sheet)) (now (a .bank)) (now (a .frame)) (told .1)
+    stored-by (a .judged) (lent (now (a .sheet)) (now (a .bank))) (now (a .frame)) (told .1)
     (c .before .before .store-run2 .ensures ∙ ap (stored (now (a .bank))) (many-stores (now (a .frame)) (told .0 .0) (told .0 .1 .0)))
 
 returns-4 : tie.Need-returns-4
 returns-4 c =
     let a = c .before .before .before .before .args in
-    nothing-stored (a .judged) (now (a .sheet)) (now (a .bank)) (now (a .frame)) (no-stores (a .judged) (c .match .keys4))
+    nothing-stored (a .judged) (lent (now (a .sheet)) (now (a .bank))) (now (a .frame)) (no-stores (a .judged) (c .match .keys4))
 
 pub make-stores-spec : {M : Type 1} → statement M
 make-stores-spec =

@@ -4,6 +4,7 @@ use Prim.Native.Nat.{_+_}
 use mathlib.Core.Path.{_∙_}
 use borrow.Author.Tests.{eq-eqb, ne-eqb, lt-ltb, le-ltb}
 use denote.Ref.{now}
+use Rattle.bank_rules.specs.Calls.{lent}
 use Rattle.frame.specs.Frame.{writesMany}
 use Rattle.meter.proofs.Staging.{length-of-parts, stops-length, passes-length}
 use borrow.Author.Needs.{needs}
@@ -14,30 +15,30 @@ returns : tie.Need-returns
 returns c =
     let start = c .before .before .before .before .before .before .before in
     let a = start .args in
-    stops-length (now (a .sheet)) (now (a .bank)) (now (a .frame))
-    (length-of-parts (now (a .sheet)) (now (a .bank)) (now (a .frame)) (start .pre .apart) ∙ simp (ne-eqb (a .parts .function) writesMany (c .before .before .if1 .taken), ne-eqb (a .parts .length) 8 (c .if2 .taken)))
+    stops-length (lent (now (a .sheet)) (now (a .bank))) (now (a .frame))
+    (length-of-parts (now (a .frame)) (start .pre .apart) ∙ simp (ne-eqb (a .parts .function) writesMany (c .before .before .if1 .taken), ne-eqb (a .parts .length) 8 (c .if2 .taken)))
 
 returns-2 : tie.Need-returns-2
 returns-2 c =
     let start = c .before .before .before .before .before .before .before .before in
     let a = start .args in
     c .judged-count .ensures
-    ∙ passes-length (now (a .sheet)) (now (a .bank)) (now (a .frame))
-    (length-of-parts (now (a .sheet)) (now (a .bank)) (now (a .frame)) (start .pre .apart) ∙ simp (ne-eqb (a .parts .function) writesMany (c .before .before .before .if1 .taken), eq-eqb (a .parts .length) 8 (c .before .if2 .left)))
+    ∙ passes-length (lent (now (a .sheet)) (now (a .bank))) (now (a .frame))
+    (length-of-parts (now (a .frame)) (start .pre .apart) ∙ simp (ne-eqb (a .parts .function) writesMany (c .before .before .before .if1 .taken), eq-eqb (a .parts .length) 8 (c .before .if2 .left)))
 
 returns-3 : tie.Need-returns-3
 returns-3 c =
     let start = c .before .before .before .before .before .before .before in
     let a = start .args in
-    stops-length (now (a .sheet)) (now (a .bank)) (now (a .frame))
-    (length-of-parts (now (a .sheet)) (now (a .bank)) (now (a .frame)) (start .pre .apart) ∙ simp (eq-eqb (a .parts .function) writesMany (c .before .before .if1 .left), lt-ltb (a .parts .length) 9 (c .if3 .taken)))
+    stops-length (lent (now (a .sheet)) (now (a .bank))) (now (a .frame))
+    (length-of-parts (now (a .frame)) (start .pre .apart) ∙ simp (eq-eqb (a .parts .function) writesMany (c .before .before .if1 .left), lt-ltb (a .parts .length) 9 (c .if3 .taken)))
 
 returns-4 : tie.Need-returns-4
 returns-4 c =
     let start = c .before .before .before .before .before .before .before .before .before .before in
     let a = start .args in
-    stops-length (now (a .sheet)) (now (a .bank)) (now (a .frame))
-    (length-of-parts (now (a .sheet)) (now (a .bank)) (now (a .frame)) (start .pre .apart)
+    stops-length (lent (now (a .sheet)) (now (a .bank))) (now (a .frame))
+    (length-of-parts (now (a .frame)) (start .pre .apart)
     ∙ simp (
       eq-eqb (a .parts .function) writesMany (c .before .before .before .before .before .if1 .left),
       le-ltb (a .parts .length) 9 (omega arith),
@@ -49,8 +50,8 @@ returns-5 c =
     let start = c .before .before .before .before .before .before .before .before .before .before .before in
     let a = start .args in
     c .judged-count2 .ensures
-    ∙ passes-length (now (a .sheet)) (now (a .bank)) (now (a .frame))
-    (length-of-parts (now (a .sheet)) (now (a .bank)) (now (a .frame)) (start .pre .apart)
+    ∙ passes-length (lent (now (a .sheet)) (now (a .bank))) (now (a .frame))
+    (length-of-parts (now (a .frame)) (start .pre .apart)
     ∙ simp (
       eq-eqb (a .parts .function) writesMany (c .before .before .before .before .before .before .if1 .left),
       le-ltb (a .parts .length) 9 (omega arith),

@@ -2,6 +2,7 @@
 use mathlib.Core.Path.{_∙_, ap}
 use borrow.Author.Tests.{lt-ltb, le-ltb}
 use denote.Ref.{now}
+use Rattle.bank_rules.specs.Calls.{lent}
 use Rattle.sheet_rules.specs.declared.Purpose.the-variants.{Read}
 use Rattle.sheet_rules.specs.declared.Run.{Run}
 use Rattle.sheet_rules.proofs.Reach.{run-shut, run-open}
@@ -15,14 +16,14 @@ returns : tie.Need-returns
 returns c =
     let start = c .before .before .before .before .before in
     let a = start .args in
-    stops-address (now (a .sheet)) (now (a .bank)) (now (a .frame)) (read-of-parts (now (a .sheet)) (now (a .bank)) (now (a .frame)) (start .pre .0 .apart) (start .pre .1) ∙ simp (lt-ltb mostRead (a .parts .second) (c .if1 .taken)))
+    stops-address (lent (now (a .sheet)) (now (a .bank))) (now (a .frame)) (read-of-parts (now (a .frame)) (start .pre .0 .apart) (start .pre .1) (now (a .sheet)) ∙ simp (lt-ltb mostRead (a .parts .second) (c .if1 .taken)))
 
 returns-2 : tie.Need-returns-2
 returns-2 c =
     let start = c .before .before .before .before .before .before .before .before .before .before .before in
     let a = start .args in
     let shut = run-shut (now (a .sheet)) (start .pre .0 .sheetSound) Read (a .parts .start) (c .before .before .before .before .reached .ensures) (a .parts .second) (c .if2 .taken) in
-    stops-address (now (a .sheet)) (now (a .bank)) (now (a .frame)) (read-of-parts (now (a .sheet)) (now (a .bank)) (now (a .frame)) (start .pre .0 .apart) (start .pre .1) ∙ simp (le-ltb mostRead (a .parts .second) (c .before .before .before .before .before .before .if1 .left), shut))
+    stops-address (lent (now (a .sheet)) (now (a .bank))) (now (a .frame)) (read-of-parts (now (a .frame)) (start .pre .0 .apart) (start .pre .1) (now (a .sheet)) ∙ simp (le-ltb mostRead (a .parts .second) (c .before .before .before .before .before .before .if1 .left), shut))
 
 returns-3 : tie.Need-returns-3
 returns-3 c =
@@ -30,8 +31,8 @@ returns-3 c =
     let a = start .args in
     let found = c .before .before .before .before .before .reached .ensures in
     let all = run-open (now (a .sheet)) (start .pre .0 .sheetSound) Read (a .parts .start) found (a .parts .second) (c .before .if2 .left) in
-    good-read-of-parts (now (a .sheet)) (now (a .bank)) (now (a .frame)) (start .pre .0 .apart) (start .pre .1) (ap (λ (r : Run). r .place) found)
-    (read-of-parts (now (a .sheet)) (now (a .bank)) (now (a .frame)) (start .pre .0 .apart) (start .pre .1) ∙ simp (le-ltb mostRead (a .parts .second) (c .before .before .before .before .before .before .before .if1 .left), all))
+    good-read-of-parts (now (a .frame)) (start .pre .0 .apart) (start .pre .1) (lent (now (a .sheet)) (now (a .bank))) (ap (λ (r : Run). r .place) found)
+    (read-of-parts (now (a .frame)) (start .pre .0 .apart) (start .pre .1) (now (a .sheet)) ∙ simp (le-ltb mostRead (a .parts .second) (c .before .before .before .before .before .before .before .if1 .left), all))
 
 pub judged-read-spec : {M : Type 1} → statement M
 judged-read-spec =

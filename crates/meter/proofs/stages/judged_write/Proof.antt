@@ -2,6 +2,7 @@
 use native.Mathlib.Omega.{arith}
 use mathlib.Core.Path.{ap}
 use denote.Ref.{now}
+use Rattle.bank_rules.specs.Calls.{lent}
 use borrow.Author.Needs.{needs}
 use Rattle.sheet_rules.specs.declared.Purpose.the-variants.{Write}
 use Rattle.sheet_rules.specs.declared.Run.{Run}
@@ -18,7 +19,7 @@ returns c =
     let sheet = now (a .sheet) in
     let many = c .before .before .before .before .before .many-of in
     let run = c .before .before .before .reached .ensures in
-    write-shut sheet (now (a .bank)) (now (a .frame)) (pre .1) (a .parts) (pre .0 .apart) (many .ensures)
+    write-shut (lent sheet (now (a .bank))) (now (a .frame)) (pre .1) (a .parts) (pre .0 .apart) (many .ensures)
     (run-shut sheet (pre .0 .sheetSound) Write (a .parts .start) run (many .result) (c .if1 .taken))
 
 stop-place-requires : tie.Need-stop-place-requires
@@ -50,7 +51,7 @@ returns-2 c =
     let sheet = now (a .sheet) in
     let many = c .before .before .before .before .before .before .before .before .before .many-of in
     let run = c .before .before .before .before .before .before .before .reached .ensures in
-    write-stopped sheet (now (a .bank)) (now (a .frame)) (pre .1) (a .parts) (pre .0 .apart) (many .ensures)
+    write-stopped (lent sheet (now (a .bank))) (now (a .frame)) (pre .1) (a .parts) (pre .0 .apart) (many .ensures)
     (run-open sheet (pre .0 .sheetSound) Write (a .parts .start) run (many .result) (c .before .before .before .before .if1 .left))
     (ap (λ (r : Run). r .place) run) (c .before .before .stop-place .ensures) (c .if2 .taken)
 
@@ -61,7 +62,7 @@ returns-3 c =
     let sheet = now (a .sheet) in
     let many = c .before .before .before .before .before .before .before .before .before .many-of in
     let run = c .before .before .before .before .before .before .before .reached .ensures in
-    write-good sheet (now (a .bank)) (now (a .frame)) (pre .1) (a .parts) (pre .0 .apart) (many .ensures)
+    write-good (lent sheet (now (a .bank))) (now (a .frame)) (pre .1) (a .parts) (pre .0 .apart) (many .ensures)
     (run-open sheet (pre .0 .sheetSound) Write (a .parts .start) run (many .result) (c .before .before .before .before .if1 .left))
     (ap (λ (r : Run). r .place) run) (c .before .before .stop-place .ensures) (c .if2 .left)
 
