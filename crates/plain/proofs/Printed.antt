@@ -3,12 +3,11 @@ use mathlib.Core.Path.{_≡_, refl, sym, ap, subst, _∙_}
 use mathlib.Core.Bool.{Bool, true, false, not, _&&_, _||_, true≢false}
 use mathlib.Core.Logic.{inl, inr}
 use mathlib.Core.List.{List, [], _∷_}
-use Prim.Native.Nat.{ℕ, zero, suc, _+_, _-_, _*_, _/_, _%_, _≤_, _<_}
+use Prim.Native.Nat.{ℕ, _+_, _-_, _*_, _/_, _%_, _≤_, _<_}
 use native.Mathlib.Omega.{arith}
 use lib.Dec.{T, leb, ltb}
 use lib.Pow.{areBytes}
 use borrow.Author.Tests.{eq-eqb, leb-true, ltb-true}
-use Rattle.words.specs.Words.{byteAt}
 use Rattle.lists.specs.Lists.{each}
 use Rattle.lists.proofs.Tests.{first-of, second-of}
 use Rattle.lists.proofs.Among.{Among, here, there, among-nil, each-among, some-among}
@@ -31,6 +30,7 @@ use Rattle.plain.specs.Frame as plain
 use Rattle.plain.specs.Frame.{Set, WouldBe}
 use Rattle.plain.specs.Registers.{writeOne, TakenWithin, AsPrinted}
 use Rattle.plain.proofs.Rows.{word-same, lies-plain}
+use Rattle.plain.proofs.Damage.{so-bytes}
 use Rattle.plain.proofs.Registers.{goes, goes-here, lies-once, sent-same, taken-within}
 
 module _ (given : Lent) (keeps : sound (given .sheet) ≡ true) (bytes : Bytes (given .sheet)) (set06 : Set (word (given .sheet) 12) 4) (item : Item)
@@ -142,15 +142,6 @@ row-of all (item ∷ l) (there m) =
     let found = row-of all l m in
     (found .0, there (found .1), found .2)
 
-byte-below : (bytes : List ℕ) → T (areBytes bytes) → Bytes bytes
-byte-below [] t at = omega arith
-byte-below (b ∷ rest) t at = go (ltb b 256) refl t at (byte-below rest)
-  where
-    go : (small : Bool) → ltb b 256 ≡ small → T (small && areBytes rest) → (at : ℕ) → (T (areBytes rest) → Bytes rest) → byteAt (b ∷ rest) at < 256
-    go true e t zero again = ltb-true b 256 e
-    go true e t (suc at) again = again t at
-    go false e t at again = absurd t
-
 sheet-bytes : (meter : Meter) → T (areBytes (sheetOf (mapOf meter)))
 unfolding sheetOf
 sheet-bytes ux15-25 = tt
@@ -181,7 +172,7 @@ as-printed meter given its row m = go (row-of (areas (given .sheet)) (items (giv
     go : (item : Item) × Among item (items (given .sheet)) × (row ≡ rowOf (areas (given .sheet)) item) → AsPrinted given row
     go (item, among, same) =
         let keeps = ap sound its ∙ sheet-sound meter in
-        let bytes = subst Bytes (sym its) (byte-below (sheetOf (mapOf meter)) (sheet-bytes meter)) in
+        let bytes = subst Bytes (sym its) (so-bytes (sheetOf (mapOf meter)) (sheet-bytes meter)) in
         subst (AsPrinted given) (sym same)
         record {
           ofWord = word-taken given keeps bytes set06 item among;
