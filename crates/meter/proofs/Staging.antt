@@ -181,20 +181,30 @@ module _ (given : Lent) (frame : List ℕ) {first : Passed} (is : first ≡ pass
 
 -- ---- the steps in the parts of the frame
 
+-- step 4 and step 5
+abbrev pub lengthWrong : Parts → Bool
+lengthWrong parts =
+    cond (eqb (parts .function) writesMany) (ltb (parts .length) 9 || not (eqb (parts .length) (9 + parts .bytes))) (not (eqb (parts .length) 8))
+
+abbrev pub countWrong : Parts → Bool
+countWrong parts =
+    eqb (parts .function) reads && eqb (parts .second) 0
+    || eqb (parts .function) writesMany && (eqb (parts .second) 0 || not (eqb (parts .bytes) (2 * parts .second)))
+
+module _ (given : Lent) (frame : List ℕ) {parts : Parts} (apart : parts ≡ partsOf frame) where
+  pub length-stops : lengthWrong parts ≡ true → WrongLength ≡ judgedFrom 3 given frame
+  length-stops e = stops-length given frame (ap lengthWrong (sym apart) ∙ e)
+
+  pub length-passes : lengthWrong parts ≡ false → judgedFrom 4 given frame ≡ judgedFrom 3 given frame
+  length-passes e = passes-length given frame (ap lengthWrong (sym apart) ∙ e)
+
+  pub count-stops : countWrong parts ≡ true → WrongCount ≡ judgedFrom 4 given frame
+  count-stops e = stops-count given frame (ap countWrong (sym apart) ∙ e)
+
+  pub count-passes : countWrong parts ≡ false → judgedFrom 5 given frame ≡ judgedFrom 4 given frame
+  count-passes e = passes-count given frame (ap countWrong (sym apart) ∙ e)
+
 module _ (frame : List ℕ) {parts : Parts} (apart : parts ≡ partsOf frame) where
-  pub length-of-parts : wrongLength frame
-      ≡ cond (eqb (parts .function) writesMany) (ltb (parts .length) 9 || not (eqb (parts .length) (9 + parts .bytes))) (not (eqb (parts .length) 8))
-  length-of-parts =
-      ap (λ (p : Parts). cond (eqb (p .function) writesMany) (ltb (p .length) 9 || not (eqb (p .length) (9 + p .bytes))) (not (eqb (p .length) 8)))
-      (sym apart)
-
-  pub count-of-parts : wrongCount frame
-      ≡ (eqb (parts .function) reads && eqb (parts .second) 0
-      || eqb (parts .function) writesMany && (eqb (parts .second) 0 || not (eqb (parts .bytes) (2 * parts .second))))
-  count-of-parts =
-      ap (λ (p : Parts). eqb (p .function) reads && eqb (p .second) 0
-      || eqb (p .function) writesMany && (eqb (p .second) 0 || not (eqb (p .bytes) (2 * p .second)))) (sym apart)
-
   -- a function that is allowed and none of the first three is 10
   pub last-of-parts : (sheet : List ℕ) → functionAllowed sheet frame ≡ true → (parts .function ≡ reads → ⊥) → (parts .function ≡ clears → ⊥)
       → (parts .function ≡ writesOne → ⊥) → parts .function ≡ writesMany
