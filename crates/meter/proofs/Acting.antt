@@ -21,7 +21,7 @@ use Rattle.meter_rules.specs.declared.Judged.the-variants.{FailsCheck, OtherSta
 use Rattle.meter_rules.proofs.Judged.{the-type}
 use Rattle.meter_rules.specs.Write.{runStore, runStores}
 use Rattle.meter_rules.specs.Reply.{errorCode, goodReply, replyTo, storesOf}
-use Rattle.meter_rules.specs.Answer.{Outcome, outcome, answeredBy, actedOn}
+use Rattle.meter_rules.specs.Answer.{outcome, answeredBy, actedOn}
 use Rattle.meter.specs.Acting.{replied}
 use Rattle.meter_rules.proofs.Outcomes.{quiet, quiet-stores, good-reply, error-reply}
 

@@ -1,7 +1,7 @@
 -- Where a frame stops, from what the stages of judgement find. Assumes nothing.
 use mathlib.Core.Path.{_≡_, refl, sym, ap, ap₂, _∙_}
 use mathlib.Core.Bool.{Bool, true, false, not, cond, _&&_, _||_}
-use mathlib.Core.List.{List, [], _∷_}
+use mathlib.Core.List.{List}
 use mathlib.Core.Logic.{_⊎_, inl, inr}
 use Prim.Native.Nat.{ℕ, _+_, _*_}
 use native.Mathlib.Omega.{arith}
@@ -126,7 +126,9 @@ module _ (given : Lent) (frame : List ℕ) {passed : Parts} (apart : passed ≡ 
     (is : answer ≡ addressedTo given passed) where
   pub elsewhere : answer ≡ Elsewhere → otherStation given frame ≡ true
   unfolding addressedTo
-  elsewhere told = ap (λ (p : Parts). not (eqb (p .station) (stationOf (given .sheet) (given .bank)))) (sym apart) ∙ go (eqb (passed .station) (stationOf (given .sheet) (given .bank))) (sym told ∙ is)
+  elsewhere told =
+      ap (λ (p : Parts). not (eqb (p .station) (stationOf (given .sheet) (given .bank)))) (sym apart)
+      ∙ go (eqb (passed .station) (stationOf (given .sheet) (given .bank))) (sym told ∙ is)
     where
       go : (b : Bool) → Elsewhere ≡ cond b (Here passed) Elsewhere → not b ≡ true
       go true e = let z : _≡_ {A = ℕ} 0 1 = cc in absurd (omega arith)

@@ -253,5 +253,6 @@ module _ (given : Lent) (frame : List ℕ) (passed : Passed given) (all : allOpe
 pub clear-sound : (given : Lent) → Passed given → bankSound (given .sheet) (stored (given .bank) (markStores (given .sheet) 0)) ≡ true
 clear-sound given passed =
     sound-kept (given .sheet) (given .bank) (stored (given .bank) (markStores (given .sheet) 0)) (passed .whole)
-    (λ item m place held. mark-apart (given .sheet) (given .bank) (passed .right) (passed .fitting) 0 place (λ same. let below = held-below (given .sheet) (passed .right) place m held in omega arith))
+    (λ item m place held. mark-apart (given .sheet) (given .bank) (passed .right) (passed .fitting) 0 place
+    (λ same. let below = held-below (given .sheet) (passed .right) place m held in omega arith))
     (ap (λ (n : ℕ). leb n 1) (mark-there (given .sheet) (given .bank) (passed .right) (passed .fitting) 0))

@@ -117,7 +117,8 @@ acted-sound given frame buffer passed =
     (λ judged silent. ap (bankSound (given .sheet)) (quiet-changes-nothing judged given frame buffer silent) ∙ passed .whole)
     (λ opened. write-sound given frame passed (opened .all))
     (clear-sound given passed)
-    (λ opened none. ap (λ (stop : ℕ). bankSound (given .sheet) (stored (given .bank) (runStores frame (firstPlace (given .sheet) frame) stop))) (sym (stops-at-end given frame none))
+    (λ opened none. ap (λ (stop : ℕ). bankSound (given .sheet) (stored (given .bank) (runStores frame (firstPlace (given .sheet) frame) stop)))
+    (sym (stops-at-end given frame none))
     ∙ write-sound given frame passed (opened .all))
 
 pub stays-sound : (given : Lent) (frame buffer : List ℕ) → bankSound (given .sheet) (given .bank) ≡ true

@@ -44,7 +44,8 @@ module _ (given : Lent) (keeps : sound (given .sheet) ≡ true) (bytes : Bytes (
   item-lies =
       let found = address-lies (given .sheet) keeps (item .place) (held-below (given .sheet) keeps (item .place) among (holds-first item (item .place) refl)) in
       found .1 ∙ ap (At (item .place))
-      (writable-access (given .sheet) keeps first (item .place) (found .0) (found .1) (held-writable (given .sheet) keeps (item .place) among (holds-first item (item .place) refl)))
+      (writable-access (given .sheet) keeps first (item .place) (found .0) (found .1)
+      (held-writable (given .sheet) keeps (item .place) among (holds-first item (item .place) refl)))
 
   small : first ≤ 0xFFFF
   small = omega (arith, lies-word (given .sheet) bytes first (item .place) 3 item-lies)

@@ -182,7 +182,8 @@ module _ (given : Lent) (frame : List ℕ) (passed : Passed given) (bytes : Byte
           → ((isWrite frame ≡ true) → LetThrough given frame) → functionNotAllowed (given .sheet) frame ≡ false → wrongAddress (given .sheet) frame ≡ false
           → badWrite given frame ≡ false → Gets given frame good
           → WordLeft given frame place
-          (word (left-by (cond read (GoodRead (firstPlace (given .sheet) frame) (count frame)) (cond clear GoodClear (GoodWrite (firstPlace (given .sheet) frame) (count frame))))) (2 * place))
+          (word (left-by (cond read (GoodRead (firstPlace (given .sheet) frame) (count frame))
+          (cond clear GoodClear (GoodWrite (firstPlace (given .sheet) frame) (count frame))))) (2 * place))
       good-left true clear r c through p f h fine =
           kept place (λ k is. not-write 0x03 (λ e. omega (arith, e)) (λ e. omega (arith, e)) (eqb-true (function frame) 0x03 r) is)
           (λ clears. omega (arith, clears .1, eqb-true (function frame) 0x03 r))
@@ -193,11 +194,13 @@ module _ (given : Lent) (frame : List ℕ) (passed : Passed given) (bytes : Byte
               let is = eqb-true place (word (given .sheet) 10) e in
               left.cleared (fine, eqb-true (function frame) 0x05 c, is)
               (word-same (stored (given .bank) (markStores (given .sheet) 0)) (2 * place)
-              ∙ ap (wordOf (stored (given .bank) (markStores (given .sheet) 0))) (is ∙ word-same (given .sheet) 10) ∙ mark-there (given .sheet) (given .bank) (passed .right) (passed .fitting) 0)
+              ∙ ap (wordOf (stored (given .bank) (markStores (given .sheet) 0))) (is ∙ word-same (given .sheet) 10)
+              ∙ mark-there (given .sheet) (given .bank) (passed .right) (passed .fitting) 0)
           mark-left false e =
               subst (WordLeft given frame place)
               (word-same (given .bank) (2 * place)
-              ∙ sym (mark-apart (given .sheet) (given .bank) (passed .right) (passed .fitting) 0 place (λ same. eqb-false place (word (given .sheet) 10) e (sym same ∙ sym (word-same (given .sheet) 10))))
+              ∙ sym (mark-apart (given .sheet) (given .bank) (passed .right) (passed .fitting) 0 place
+              (λ same. eqb-false place (word (given .sheet) 10) e (sym same ∙ sym (word-same (given .sheet) 10))))
               ∙ sym (word-same (stored (given .bank) (markStores (given .sheet) 0)) (2 * place)))
               (kept place (λ k is. not-write 0x05 (λ e. omega (arith, e)) (λ e. omega (arith, e)) (eqb-true (function frame) 0x05 c) is)
               (λ clears. eqb-false place (word (given .sheet) 10) e (clears .2)))
@@ -214,7 +217,8 @@ module _ (given : Lent) (frame : List ℕ) (passed : Passed given) (bytes : Byte
           → wrongCount frame ≡ e → wrongAddress (given .sheet) frame ≡ f → wrongValue frame ≡ g → badWrite given frame ≡ h
           → WordLeft given frame place
           (word (left-by (firstCase (when a FailsCheck ∷ when b OtherStation ∷ when c FunctionNotAllowed ∷ when d WrongLength ∷ when e WrongCount
-          ∷ when f WrongAddress ∷ when g WrongValue ∷ when h (BadItem (firstPlace (given .sheet) frame) (stopPlace given frame)) ∷ []) (goodFrame (given .sheet) frame))) (2 * place))
+          ∷ when f WrongAddress ∷ when g WrongValue ∷ when h (BadItem (firstPlace (given .sheet) frame) (stopPlace given frame)) ∷ [])
+          (goodFrame (given .sheet) frame))) (2 * place))
       go true b c d e f g h p q r s t u v w =
           kept place (λ k is. unmet (whole-tells frame) p (is .through .whole)) (unclear place (simp p))
       go false true c d e f g h p q r s t u v w =
