@@ -35,7 +35,7 @@ use Rattle.demands.proofs.Calls.{Answers, answers-is, answers-bytes}
 
 module _ (given : Lent) (frame buffer : List ℕ) (accepted : Accepted given buffer) where
   -- where nothing is refused, the frame is acted on
-  acted : answerOutcome given frame buffer ≡ actedOn (judgedFrame (given .sheet) (given .bank) frame) (given .sheet) (given .bank) frame buffer
+  acted : answerOutcome given frame buffer ≡ actedOn (judgedFrame given frame) given frame buffer
   unfolding answerOutcome frameCheck firstCase
   acted =
       simp (accepted .sheetSound, accepted .bankFits, accepted .bankWhole, le-ltb (length buffer) leastBuffer (accepted .bufferLong))
@@ -48,17 +48,16 @@ module _ (given : Lent) (frame buffer : List ℕ) (accepted : Accepted given buf
     frame-bytes = answers-bytes call .2
 
     -- demand 2: what a call hands back and leaves
-    pub frame-leaves : Leaves (given .sheet) (given .bank) frame buffer (leftBy left)
+    pub frame-leaves : Leaves given frame buffer (leftBy left)
     frame-leaves =
-        subst (λ (h : Handed). Leaves (given .sheet) (given .bank) frame buffer (leftBy h)) (sym (answers-is call ∙ ap handedOf acted))
-        (meets (given .sheet) (given .bank) frame buffer (accepted .sheetSound) sheet-bytes frame-bytes (accepted .bankFits) (accepted .bankWhole)
+        subst (λ (h : Handed). Leaves given frame buffer (leftBy h)) (sym (answers-is call ∙ ap handedOf acted))
+        (meets given frame buffer record { right = accepted .sheetSound; fitting = accepted .bankFits; whole = accepted .bankWhole } sheet-bytes frame-bytes
         (accepted .bufferLong))
 
     -- .. and that leaves no choice: no other outcome of bytes is so
-    pub leaves-once : (other : Left) → Bytes (other .bank) → Bytes (other .buffer) → Leaves (given .sheet) (given .bank) frame buffer other
-        → leftBy left ≡ other
+    pub leaves-once : (other : Left) → Bytes (other .bank) → Bytes (other .buffer) → Leaves given frame buffer other → leftBy left ≡ other
     leaves-once other bank-bytes buffer-bytes leaves =
-        once.leaves-once (given .sheet) (given .bank) frame (accepted .sheetSound) sheet-bytes buffer size (accepted .bufferLong)
+        once.leaves-once given frame (accepted .sheetSound) sheet-bytes buffer size (accepted .bufferLong)
         (leftBy left) other (answers-bytes call .4) bank-bytes (answers-bytes call .5) buffer-bytes frame-leaves leaves
       where
         size : length (given .bank) ≡ 2 * word (given .sheet) 10 + 2
@@ -70,54 +69,54 @@ module _ (given : Lent) (frame buffer : List ℕ) (accepted : Accepted given buf
     pub read-only-kept : {address place : ℕ} → LiesAt (given .sheet) address place 1
         → word (left .bank) (2 * place) ≡ word (given .bank) (2 * place)
     read-only-kept {address} {place} lies =
-        read-only.read-only-kept (given .sheet) (accepted .sheetSound) (given .bank) frame lies (frame-leaves .words place)
+        read-only.read-only-kept given frame (accepted .sheetSound) lies (frame-leaves .words place)
 
     -- a word that is not as before lies in an access 3 area, at an address of the frame, or is the mark
     pub changed-writable : {place : ℕ} → (word (left .bank) (2 * place) ≡ word (given .bank) (2 * place) → ⊥)
         → ((k : ℕ) × LiesAt (given .sheet) (address frame k) place 3) ⊎ (place ≡ word (given .sheet) 10)
     changed-writable {place} other =
-        read-only.changed-writable (given .sheet) (accepted .sheetSound) (given .bank) frame (frame-leaves .words place) other
+        read-only.changed-writable given frame (accepted .sheetSound) (frame-leaves .words place) other
 
     -- a 06 that is good exactly if a value is within bounds gets the eight bytes of its echo exactly then
-    pub taken-echoed : {at sent kind low high value : ℕ} → TakenWithin (given .sheet) (given .bank) at sent kind low high value
-        → frame ≡ writeOne (given .sheet) (given .bank) at sent → (left .length ≡ 8) ↔ Within kind low high value
+    pub taken-echoed : {at sent kind low high value : ℕ} → TakenWithin given at sent kind low high value
+        → frame ≡ writeOne given at sent → (left .length ≡ 8) ↔ Within kind low high value
     taken-echoed {at} {sent} {kind} {low} {high} {value} within is = (to frame-leaves, from frame-leaves)
       where
         one : byte frame 1 ≡ 6
         one = ap (λ (f : List ℕ). byte f 1) is
 
-        sized : {fate : Fate} → plain.Answered (given .sheet) (given .bank) frame buffer (leftBy left) fate → left .length ≡ 8
-            → Gets (given .sheet) (given .bank) frame fate → Gets (given .sheet) (given .bank) frame good
+        sized : {fate : Fate} → plain.HandsBack given frame buffer (leftBy left) fate → left .length ≡ 8
+            → Gets given frame fate → Gets given frame good
         sized (plain.quiet e) eight gets = absurd (omega (arith, eight, ap (λ (l : Left). l .size) e))
         sized (plain.erred n size r reply) eight gets = absurd (omega (arith, eight, size))
         sized (plain.read asks n size r reply) eight gets = gets
         sized (plain.echoed asks n size r reply) eight gets = gets
 
-        to : Leaves (given .sheet) (given .bank) frame buffer (leftBy left) → left .length ≡ 8 → Within kind low high value
+        to : Leaves given frame buffer (leftBy left) → left .length ≡ 8 → Within kind low high value
         to leaves eight =
-            within .taken .0 (subst (λ (f : List ℕ). Gets (given .sheet) (given .bank) f good) is (sized (leaves .answered) eight (leaves .gets)))
+            within .taken .0 (subst (λ (f : List ℕ). Gets given f good) is (sized (leaves .handsBack) eight (leaves .gets)))
 
-        echo : plain.Answered (given .sheet) (given .bank) frame buffer (leftBy left) good → left .length ≡ 8
+        echo : plain.HandsBack given frame buffer (leftBy left) good → left .length ≡ 8
         echo (plain.read asks n size r reply) = absurd (omega (arith, asks, one))
         echo (plain.echoed asks n size r reply) = size
 
-        from : Leaves (given .sheet) (given .bank) frame buffer (leftBy left) → Within kind low high value → left .length ≡ 8
+        from : Leaves given frame buffer (leftBy left) → Within kind low high value → left .length ≡ 8
         from leaves inside =
-            echo (subst (plain.Answered (given .sheet) (given .bank) frame buffer (leftBy left))
-            (one-fate (given .sheet) (given .bank) frame (accepted .sheetSound) sheet-bytes (leaves .gets)
-            (subst (λ (f : List ℕ). Gets (given .sheet) (given .bank) f good) (sym is) (within .taken .1 inside))) (leaves .answered))
+            echo (subst (plain.HandsBack given frame buffer (leftBy left))
+            (one-fate given frame (accepted .sheetSound) sheet-bytes (leaves .gets)
+            (subst (λ (f : List ℕ). Gets given f good) (sym is) (within .taken .1 inside))) (leaves .handsBack))
 
     -- demand 3
     pub damaged-silent : (sent : List ℕ) → Sent sent → Damage sent frame → left ≡ handed 1 0 0 (given .bank) buffer
     damaged-silent sent is damage = go frame-leaves
       where
-        quiet : Gets (given .sheet) (given .bank) frame silence
+        quiet : Gets given frame silence
         quiet = fates.notWhole (unmet (whole-tells frame) (ap not (damaged-fails sent frame is frame-bytes damage)))
 
-        go : Leaves (given .sheet) (given .bank) frame buffer (leftBy left) → left ≡ handed 1 0 0 (given .bank) buffer
+        go : Leaves given frame buffer (leftBy left) → left ≡ handed 1 0 0 (given .bank) buffer
         go leaves =
-            silent (subst (plain.Answered (given .sheet) (given .bank) frame buffer (leftBy left))
-            (one-fate (given .sheet) (given .bank) frame (accepted .sheetSound) sheet-bytes (leaves .gets) quiet) (leaves .answered))
+            silent (subst (plain.HandsBack given frame buffer (leftBy left))
+            (one-fate given frame (accepted .sheetSound) sheet-bytes (leaves .gets) quiet) (leaves .handsBack))
           where
-            silent : plain.Answered (given .sheet) (given .bank) frame buffer (leftBy left) silence → left ≡ handed 1 0 0 (given .bank) buffer
+            silent : plain.HandsBack given frame buffer (leftBy left) silence → left ≡ handed 1 0 0 (given .bank) buffer
             silent (plain.quiet e) = ap (λ (l : Left). handed (l .number) (l .size) (l .rate) (l .bank) (l .buffer)) e

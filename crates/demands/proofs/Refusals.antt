@@ -101,12 +101,12 @@ module _ (given : Lent) (frame buffer : List ℕ) where
   result = answerOutcome given frame buffer
 
   abbrev acted : Outcome
-  acted = actedOn (judgedFrame (given .sheet) (given .bank) frame) (given .sheet) (given .bank) frame buffer
+  acted = actedOn (judgedFrame given frame) given frame buffer
 
   -- a frame that is acted on has the number 0 or 1
   acted-number : answeredNumber (acted .answered) ≤ 1
   unfolding actedOn
-  acted-number = answered-takes (judgedFrame (given .sheet) (given .bank) frame) (given .bank) frame (rateOf (given .sheet) (given .bank))
+  acted-number = answered-takes (judgedFrame given frame) (given .bank) frame (rateOf (given .sheet) (given .bank))
 
   one-of : Among (answeredNumber (result .answered)) (0 ∷ 1 ∷ 2 ∷ 3 ∷ 4 ∷ 5 ∷ [])
   unfolding answerOutcome each upFrom

@@ -109,7 +109,7 @@ judgedFrames =
     ∷ (0x01 ∷ 0x05 ∷ 0x03 ∷ 0x00 ∷ 0x00 ∷ 0x00 ∷ 0xCD ∷ 0x8E ∷ [])
     ∷ []
 
-pub steps-met : map (judgedFrame uxSheet freshBank) judgedFrames
+pub steps-met : map (judgedFrame (lent uxSheet freshBank)) judgedFrames
     ≡ FailsCheck
     ∷ OtherStation
     ∷ FunctionNotAllowed

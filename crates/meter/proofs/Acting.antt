@@ -11,6 +11,7 @@ use types.Run.{OneOf, miss}
 use Rattle.lists.specs.Lists.{upFrom}
 use Rattle.bank_rules.specs.Stores.{stored}
 use Rattle.bank_rules.specs.Bank.{rateOf}
+use Rattle.bank_rules.specs.Calls.{Lent}
 use Rattle.frame.proofs.Reading.{write-echo, check-length}
 use Rattle.frame.specs.Reply.{echo, errorReply, withCheck, laid, hasRoom, Filled, fill, layReply}
 use Rattle.meter_rules.specs.declared.Answered.{Answered}
@@ -20,7 +21,7 @@ use Rattle.meter_rules.specs.declared.Judged.the-variants.{FailsCheck, OtherSta
 use Rattle.meter_rules.proofs.Judged.{the-type}
 use Rattle.meter_rules.specs.Write.{runStore, runStores}
 use Rattle.meter_rules.specs.Reply.{errorCode, goodReply, replyTo, storesOf}
-use Rattle.meter_rules.specs.Answer.{Outcome, outcome, answeredBy, actedOn}
+use Rattle.meter_rules.specs.Answer.{outcome, answeredBy, actedOn}
 use Rattle.meter.specs.Acting.{replied}
 use Rattle.meter_rules.proofs.Outcomes.{quiet, quiet-stores, good-reply, error-reply}
 
@@ -99,20 +100,20 @@ echo-reply GoodClear bank frame k = refl
 echo-reply (GoodWrite first many) bank frame k = ap withCheck (sym (write-echo frame))
 
 -- no reply is of a word that the frame stored
-pub reply-before : (judged : Judged) (sheet bank frame : List ℕ)
-    → replyTo judged (stored bank (storesOf judged sheet frame)) frame ≡ replyTo judged bank frame
+pub reply-before : (judged : Judged) (given : Lent) (frame : List ℕ)
+    → replyTo judged (stored (given .bank) (storesOf judged (given .sheet) frame)) frame ≡ replyTo judged (given .bank) frame
 unfolding replyTo storesOf stored
-reply-before FailsCheck sheet bank frame = refl
-reply-before OtherStation sheet bank frame = refl
-reply-before FunctionNotAllowed sheet bank frame = refl
-reply-before WrongLength sheet bank frame = refl
-reply-before WrongCount sheet bank frame = refl
-reply-before WrongAddress sheet bank frame = refl
-reply-before WrongValue sheet bank frame = refl
-reply-before (BadItem first stop) sheet bank frame = refl
-reply-before (GoodRead first many) sheet bank frame = refl
-reply-before GoodClear sheet bank frame = refl
-reply-before (GoodWrite first many) sheet bank frame = refl
+reply-before FailsCheck given frame = refl
+reply-before OtherStation given frame = refl
+reply-before FunctionNotAllowed given frame = refl
+reply-before WrongLength given frame = refl
+reply-before WrongCount given frame = refl
+reply-before WrongAddress given frame = refl
+reply-before WrongValue given frame = refl
+reply-before (BadItem first stop) given frame = refl
+reply-before (GoodRead first many) given frame = refl
+reply-before GoodClear given frame = refl
+reply-before (GoodWrite first many) given frame = refl
 
 -- ---- the stores
 
@@ -130,14 +131,14 @@ no-stores (GoodRead first many) k = refl
 no-stores GoodClear k = absurd (miss (0 ∷ 1 ∷ 2 ∷ 3 ∷ 4 ∷ 5 ∷ 6 ∷ 8 ∷ []) 9 tt k)
 no-stores (GoodWrite first many) k = absurd (miss (0 ∷ 1 ∷ 2 ∷ 3 ∷ 4 ∷ 5 ∷ 6 ∷ 8 ∷ []) 10 tt k)
 
-module _ (judged : Judged) (sheet bank frame : List ℕ) where
-  pub stored-by : {told : Judged} {left : List ℕ} → judged ≡ told → left ≡ stored bank (storesOf told sheet frame)
-      → left ≡ stored bank (storesOf judged sheet frame)
-  stored-by is made = made ∙ ap (λ (j : Judged). stored bank (storesOf j sheet frame)) (sym is)
+module _ (judged : Judged) (given : Lent) (frame : List ℕ) where
+  pub stored-by : {told : Judged} {left : List ℕ} → judged ≡ told → left ≡ stored (given .bank) (storesOf told (given .sheet) frame)
+      → left ≡ stored (given .bank) (storesOf judged (given .sheet) frame)
+  stored-by is made = made ∙ ap (λ (j : Judged). stored (given .bank) (storesOf j (given .sheet) frame)) (sym is)
 
-  pub nothing-stored : quiet judged ≡ true → bank ≡ stored bank (storesOf judged sheet frame)
+  pub nothing-stored : quiet judged ≡ true → (given .bank) ≡ stored (given .bank) (storesOf judged (given .sheet) frame)
   unfolding stored
-  nothing-stored silent = ap (stored bank) (sym (quiet-stores judged sheet frame silent))
+  nothing-stored silent = ap (stored (given .bank)) (sym (quiet-stores judged (given .sheet) frame silent))
 
 -- the stores of a run up to a stop, by their number
 pub run-stores : (frame : List ℕ) (first stop count : ℕ) → count ≡ stop - first
@@ -150,18 +151,18 @@ many-stores frame first many = run-stores frame first (first + many) many (omega
 
 -- ---- both
 
-module _ (judged : Judged) (sheet bank frame buffer : List ℕ) {made : List ℕ} (stores : made ≡ stored bank (storesOf judged sheet frame)) where
-  reply-same : replyTo judged made frame ≡ replyTo judged bank frame
-  reply-same = ap (λ (b : List ℕ). replyTo judged b frame) stores ∙ reply-before judged sheet bank frame
+module _ (judged : Judged) (given : Lent) (frame buffer : List ℕ) {made : List ℕ} (stores : made ≡ stored (given .bank) (storesOf judged (given .sheet) frame)) where
+  reply-same : replyTo judged made frame ≡ replyTo judged (given .bank) frame
+  reply-same = ap (λ (b : List ℕ). replyTo judged b frame) stores ∙ reply-before judged given frame
 
-  pub room-same : hasRoom (replyTo judged bank frame) buffer ≡ true → hasRoom (replyTo judged made frame) buffer ≡ true
+  pub room-same : hasRoom (replyTo judged (given .bank) frame) buffer ≡ true → hasRoom (replyTo judged made frame) buffer ≡ true
   room-same room = ap (λ (reply : List ℕ). hasRoom reply buffer) reply-same ∙ room
 
-  pub acts : {answered : Answered} {after : List ℕ} {rate : ℕ} → rate ≡ rateOf sheet bank
-      → outcome answered made after ≡ replied judged rate made frame buffer → outcome answered made after ≡ actedOn judged sheet bank frame buffer
+  pub acts : {answered : Answered} {after : List ℕ} {rate : ℕ} → rate ≡ rateOf (given .sheet) (given .bank)
+      → outcome answered made after ≡ replied judged rate made frame buffer → outcome answered made after ≡ actedOn judged given frame buffer
   unfolding actedOn replied
   acts {answered} {after} {rate} rated answers =
       answers
       ∙ ap₂ (λ (reply b : List ℕ). outcome (answeredBy (errorCode judged) (length reply) rate) b (laid reply buffer)) reply-same stores
-      ∙ ap (λ (r : ℕ). outcome (answeredBy (errorCode judged) (length (replyTo judged bank frame)) r) (stored bank (storesOf judged sheet frame))
-      (laid (replyTo judged bank frame) buffer)) rated
+      ∙ ap (λ (r : ℕ). outcome (answeredBy (errorCode judged) (length (replyTo judged (given .bank) frame)) r) (stored (given .bank) (storesOf judged (given .sheet) frame))
+      (laid (replyTo judged (given .bank) frame) buffer)) rated

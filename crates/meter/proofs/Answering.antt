@@ -17,7 +17,7 @@ use Rattle.meter_rules.specs.Answer.{Outcome, outcome, smallBuffer, frameCheck,
 
 module _ (given : Lent) (frame buffer : List ℕ) {checked : Answer} (is : checked ≡ checkAnswer given) where
   abbrev acted : Outcome
-  acted = actedOn (judgedFrame (given .sheet) (given .bank) frame) (given .sheet) (given .bank) frame buffer
+  acted = actedOn (judgedFrame given frame) given frame buffer
 
   -- the refusal behind the bank's own check
   abbrev small : Case Refusal

@@ -1,7 +1,7 @@
 -- Where a frame stops, from what the stages of judgement find. Assumes nothing.
 use mathlib.Core.Path.{_≡_, refl, sym, ap, ap₂, _∙_}
 use mathlib.Core.Bool.{Bool, true, false, not, cond, _&&_, _||_}
-use mathlib.Core.List.{List, [], _∷_}
+use mathlib.Core.List.{List}
 use mathlib.Core.Logic.{_⊎_, inl, inr}
 use Prim.Native.Nat.{ℕ, _+_, _*_}
 use native.Mathlib.Omega.{arith}
@@ -13,6 +13,7 @@ use Rattle.sheet_rules.specs.Rows.{areas, clearAddress}
 use Rattle.sheet_rules.specs.Lookup.{liesIn, placeIn}
 use Rattle.sheet_rules.specs.Rules.{sound}
 use Rattle.bank_rules.specs.Bank.{stationOf}
+use Rattle.bank_rules.specs.Calls.{Lent}
 use Rattle.frame.specs.declared.Parts.{Parts}
 use Rattle.frame.specs.declared.Passed.{Passed}
 use Rattle.frame.specs.declared.Passed.the-variants.{Frame, Fails}
@@ -28,104 +29,106 @@ use Rattle.meter.specs.declared.stages.Addressed.{Addressed}
 use Rattle.meter.specs.declared.stages.Addressed.the-variants.{Here, Elsewhere}
 use Rattle.meter.specs.Stages.{addressedTo, judgedFrom, Known}
 
-module _ (sheet bank frame : List ℕ) where
+module _ (given : Lent) (frame : List ℕ) where
   -- ---- the steps, one after another
 
-  pub stops-check : failsCheck frame ≡ true → FailsCheck ≡ judgedFrame sheet bank frame
+  pub stops-check : failsCheck frame ≡ true → FailsCheck ≡ judgedFrame given frame
   unfolding judgedFrame
   stops-check e = sym (step-stops (when (failsCheck frame) FailsCheck) _ _ e)
 
-  pub stops-station : failsCheck frame ≡ false → otherStation sheet bank frame ≡ true → OtherStation ≡ judgedFrame sheet bank frame
+  pub stops-station : failsCheck frame ≡ false → otherStation given frame ≡ true → OtherStation ≡ judgedFrame given frame
   unfolding judgedFrame
   stops-station p e =
-      sym (step-passes (when (failsCheck frame) FailsCheck) _ _ p ∙ step-stops (when (otherStation sheet bank frame) OtherStation) _ _ e)
+      sym (step-passes (when (failsCheck frame) FailsCheck) _ _ p ∙ step-stops (when (otherStation given frame) OtherStation) _ _ e)
 
-  pub stops-function : failsCheck frame ≡ false → otherStation sheet bank frame ≡ false → functionNotAllowed sheet frame ≡ true
-      → FunctionNotAllowed ≡ judgedFrame sheet bank frame
+  pub stops-function : failsCheck frame ≡ false → otherStation given frame ≡ false → functionNotAllowed (given .sheet) frame ≡ true
+      → FunctionNotAllowed ≡ judgedFrame given frame
   unfolding judgedFrame
   stops-function p q e =
-      sym (step-passes (when (failsCheck frame) FailsCheck) _ _ p ∙ step-passes (when (otherStation sheet bank frame) OtherStation) _ _ q
-      ∙ step-stops (when (functionNotAllowed sheet frame) FunctionNotAllowed) _ _ e)
+      sym (step-passes (when (failsCheck frame) FailsCheck) _ _ p ∙ step-passes (when (otherStation given frame) OtherStation) _ _ q
+      ∙ step-stops (when (functionNotAllowed (given .sheet) frame) FunctionNotAllowed) _ _ e)
 
-  pub passes-function : failsCheck frame ≡ false → otherStation sheet bank frame ≡ false → functionNotAllowed sheet frame ≡ false
-      → judgedFrom 3 sheet bank frame ≡ judgedFrame sheet bank frame
+  pub passes-function : failsCheck frame ≡ false → otherStation given frame ≡ false → functionNotAllowed (given .sheet) frame ≡ false
+      → judgedFrom 3 given frame ≡ judgedFrame given frame
   unfolding judgedFrame judgedFrom
   passes-function p q e =
-      sym (step-passes (when (failsCheck frame) FailsCheck) _ _ p ∙ step-passes (when (otherStation sheet bank frame) OtherStation) _ _ q
-      ∙ step-passes (when (functionNotAllowed sheet frame) FunctionNotAllowed) _ _ e)
+      sym (step-passes (when (failsCheck frame) FailsCheck) _ _ p ∙ step-passes (when (otherStation given frame) OtherStation) _ _ q
+      ∙ step-passes (when (functionNotAllowed (given .sheet) frame) FunctionNotAllowed) _ _ e)
 
-  pub stops-length : wrongLength frame ≡ true → WrongLength ≡ judgedFrom 3 sheet bank frame
+  pub stops-length : wrongLength frame ≡ true → WrongLength ≡ judgedFrom 3 given frame
   unfolding judgedFrom
   stops-length e = sym (step-stops (when (wrongLength frame) WrongLength) _ _ e)
 
-  pub passes-length : wrongLength frame ≡ false → judgedFrom 4 sheet bank frame ≡ judgedFrom 3 sheet bank frame
+  pub passes-length : wrongLength frame ≡ false → judgedFrom 4 given frame ≡ judgedFrom 3 given frame
   unfolding judgedFrom
   passes-length e = sym (step-passes (when (wrongLength frame) WrongLength) _ _ e)
 
-  pub stops-count : wrongCount frame ≡ true → WrongCount ≡ judgedFrom 4 sheet bank frame
+  pub stops-count : wrongCount frame ≡ true → WrongCount ≡ judgedFrom 4 given frame
   unfolding judgedFrom
   stops-count e = sym (step-stops (when (wrongCount frame) WrongCount) _ _ e)
 
-  pub passes-count : wrongCount frame ≡ false → judgedFrom 5 sheet bank frame ≡ judgedFrom 4 sheet bank frame
+  pub passes-count : wrongCount frame ≡ false → judgedFrom 5 given frame ≡ judgedFrom 4 given frame
   unfolding judgedFrom
   passes-count e = sym (step-passes (when (wrongCount frame) WrongCount) _ _ e)
 
-  pub stops-address : wrongAddress sheet frame ≡ true → WrongAddress ≡ judgedFrom 5 sheet bank frame
+  pub stops-address : wrongAddress (given .sheet) frame ≡ true → WrongAddress ≡ judgedFrom 5 given frame
   unfolding judgedFrom
-  stops-address e = sym (step-stops (when (wrongAddress sheet frame) WrongAddress) _ _ e)
+  stops-address e = sym (step-stops (when (wrongAddress (given .sheet) frame) WrongAddress) _ _ e)
 
-  pub stops-value : wrongAddress sheet frame ≡ false → wrongValue frame ≡ true → WrongValue ≡ judgedFrom 5 sheet bank frame
+  pub stops-value : wrongAddress (given .sheet) frame ≡ false → wrongValue frame ≡ true → WrongValue ≡ judgedFrom 5 given frame
   unfolding judgedFrom
   stops-value p e =
-      sym (step-passes (when (wrongAddress sheet frame) WrongAddress) _ _ p ∙ step-stops (when (wrongValue frame) WrongValue) _ _ e)
+      sym (step-passes (when (wrongAddress (given .sheet) frame) WrongAddress) _ _ p ∙ step-stops (when (wrongValue frame) WrongValue) _ _ e)
 
-  pub stops-item : wrongAddress sheet frame ≡ false → wrongValue frame ≡ false → badWrite sheet bank frame ≡ true
-      → BadItem (firstPlace sheet frame) (stopPlace sheet bank frame) ≡ judgedFrom 5 sheet bank frame
+  pub stops-item : wrongAddress (given .sheet) frame ≡ false → wrongValue frame ≡ false → badWrite given frame ≡ true
+      → BadItem (firstPlace (given .sheet) frame) (stopPlace given frame) ≡ judgedFrom 5 given frame
   unfolding judgedFrom
   stops-item p q e =
-      sym (step-passes (when (wrongAddress sheet frame) WrongAddress) _ _ p ∙ step-passes (when (wrongValue frame) WrongValue) _ _ q
-      ∙ step-stops (when (badWrite sheet bank frame) (BadItem (firstPlace sheet frame) (stopPlace sheet bank frame))) _ _ e)
+      sym (step-passes (when (wrongAddress (given .sheet) frame) WrongAddress) _ _ p ∙ step-passes (when (wrongValue frame) WrongValue) _ _ q
+      ∙ step-stops (when (badWrite given frame) (BadItem (firstPlace (given .sheet) frame) (stopPlace given frame))) _ _ e)
 
-  pub stops-nowhere : wrongAddress sheet frame ≡ false → wrongValue frame ≡ false → badWrite sheet bank frame ≡ false
-      → goodFrame sheet frame ≡ judgedFrom 5 sheet bank frame
+  pub stops-nowhere : wrongAddress (given .sheet) frame ≡ false → wrongValue frame ≡ false → badWrite given frame ≡ false
+      → goodFrame (given .sheet) frame ≡ judgedFrom 5 given frame
   unfolding judgedFrom
   stops-nowhere p q e =
-      sym (step-passes (when (wrongAddress sheet frame) WrongAddress) _ _ p ∙ step-passes (when (wrongValue frame) WrongValue) _ _ q
-      ∙ step-passes (when (badWrite sheet bank frame) (BadItem (firstPlace sheet frame) (stopPlace sheet bank frame))) _ _ e
-      ∙ step-none (goodFrame sheet frame))
+      sym (step-passes (when (wrongAddress (given .sheet) frame) WrongAddress) _ _ p ∙ step-passes (when (wrongValue frame) WrongValue) _ _ q
+      ∙ step-passes (when (badWrite given frame) (BadItem (firstPlace (given .sheet) frame) (stopPlace given frame))) _ _ e
+      ∙ step-none (goodFrame (given .sheet) frame))
 
   -- ---- by function
 
-  pub good-read : function frame ≡ reads → wrongAddress sheet frame ≡ false
-      → GoodRead (firstPlace sheet frame) (second frame) ≡ judgedFrom 5 sheet bank frame
+  pub good-read : function frame ≡ reads → wrongAddress (given .sheet) frame ≡ false
+      → GoodRead (firstPlace (given .sheet) frame) (second frame) ≡ judgedFrom 5 given frame
   good-read e p =
-      ap₂ (λ (r o : Bool). cond r (GoodRead (firstPlace sheet frame) (cond o 1 (second frame)))
-      (cond (eqb (function frame) clears) GoodClear (GoodWrite (firstPlace sheet frame) (count frame))))
+      ap₂ (λ (r o : Bool). cond r (GoodRead (firstPlace (given .sheet) frame) (cond o 1 (second frame)))
+      (cond (eqb (function frame) clears) GoodClear (GoodWrite (firstPlace (given .sheet) frame) (count frame))))
       (sym (asks-for frame reads e .isRead)) (sym (asks-for frame reads e .isOne))
-      ∙ stops-nowhere p (value-is sheet bank frame (asks-for frame reads e)) (bad-is sheet bank frame (asks-for frame reads e))
+      ∙ stops-nowhere p (value-is frame (asks-for frame reads e)) (bad-is frame (asks-for frame reads e) given)
 
-  pub good-clear : function frame ≡ clears → wrongAddress sheet frame ≡ false → wrongValue frame ≡ false
-      → GoodClear ≡ judgedFrom 5 sheet bank frame
+  pub good-clear : function frame ≡ clears → wrongAddress (given .sheet) frame ≡ false → wrongValue frame ≡ false
+      → GoodClear ≡ judgedFrom 5 given frame
   good-clear e p q =
-      ap₂ (λ (r c : Bool). cond r (GoodRead (firstPlace sheet frame) (count frame)) (cond c GoodClear (GoodWrite (firstPlace sheet frame) (count frame))))
+      ap₂ (λ (r c : Bool). cond r (GoodRead (firstPlace (given .sheet) frame) (count frame)) (cond c GoodClear (GoodWrite (firstPlace (given .sheet) frame) (count frame))))
       (sym (asks-for frame clears e .isRead)) (sym (asks-for frame clears e .isClear))
-      ∙ stops-nowhere p q (bad-is sheet bank frame (asks-for frame clears e))
+      ∙ stops-nowhere p q (bad-is frame (asks-for frame clears e) given)
 
   module _ (write : isWrite frame ≡ true) where
-    pub good-write : wrongAddress sheet frame ≡ false → someBad sheet bank frame ≡ false
-        → GoodWrite (firstPlace sheet frame) (count frame) ≡ judgedFrom 5 sheet bank frame
+    pub good-write : wrongAddress (given .sheet) frame ≡ false → someBad given frame ≡ false
+        → GoodWrite (firstPlace (given .sheet) frame) (count frame) ≡ judgedFrom 5 given frame
     good-write p e =
-        ap₂ (λ (r c : Bool). cond r (GoodRead (firstPlace sheet frame) (count frame)) (cond c GoodClear (GoodWrite (firstPlace sheet frame) (count frame))))
-        (sym (asks-write sheet bank frame write .isRead)) (sym (asks-write sheet bank frame write .isClear))
-        ∙ stops-nowhere p (write-value sheet bank frame write) (write-bad sheet bank frame write ∙ e)
+        ap₂ (λ (r c : Bool). cond r (GoodRead (firstPlace (given .sheet) frame) (count frame)) (cond c GoodClear (GoodWrite (firstPlace (given .sheet) frame) (count frame))))
+        (sym (asks-write frame write .isRead)) (sym (asks-write frame write .isClear))
+        ∙ stops-nowhere p (write-value frame write) (write-bad frame write given ∙ e)
 
 -- ---- step 2, read back: the frame is for this station and its parts are these, or it is for another
 
-module _ (sheet bank frame : List ℕ) {passed : Parts} (apart : passed ≡ partsOf frame) {answer : Addressed}
-    (is : answer ≡ addressedTo sheet bank passed) where
-  pub elsewhere : answer ≡ Elsewhere → otherStation sheet bank frame ≡ true
+module _ (given : Lent) (frame : List ℕ) {passed : Parts} (apart : passed ≡ partsOf frame) {answer : Addressed}
+    (is : answer ≡ addressedTo given passed) where
+  pub elsewhere : answer ≡ Elsewhere → otherStation given frame ≡ true
   unfolding addressedTo
-  elsewhere told = ap (λ (p : Parts). not (eqb (p .station) (stationOf sheet bank))) (sym apart) ∙ go (eqb (passed .station) (stationOf sheet bank)) (sym told ∙ is)
+  elsewhere told =
+      ap (λ (p : Parts). not (eqb (p .station) (stationOf (given .sheet) (given .bank)))) (sym apart)
+      ∙ go (eqb (passed .station) (stationOf (given .sheet) (given .bank))) (sym told ∙ is)
     where
       go : (b : Bool) → Elsewhere ≡ cond b (Here passed) Elsewhere → not b ≡ true
       go true e = let z : _≡_ {A = ℕ} 0 1 = cc in absurd (omega arith)
@@ -136,97 +139,107 @@ module _ (sheet bank frame : List ℕ) {passed : Parts} (apart : passed ≡ part
     here true e = (refl, cc)
     here false e = let z : _≡_ {A = ℕ} 0 1 = cc in absurd (omega arith)
 
-    pub here-station : otherStation sheet bank frame ≡ false
+    pub here-station : otherStation given frame ≡ false
     unfolding addressedTo
     here-station =
-        ap (λ (p : Parts). not (eqb (p .station) (stationOf sheet bank))) (sym apart)
-        ∙ here (eqb (passed .station) (stationOf sheet bank)) (sym told ∙ is) .0
+        ap (λ (p : Parts). not (eqb (p .station) (stationOf (given .sheet) (given .bank)))) (sym apart)
+        ∙ here (eqb (passed .station) (stationOf (given .sheet) (given .bank))) (sym told ∙ is) .0
 
     pub here-parts : parts ≡ partsOf frame
     unfolding addressedTo
-    here-parts = here (eqb (passed .station) (stationOf sheet bank)) (sym told ∙ is) .1 ∙ apart
+    here-parts = here (eqb (passed .station) (stationOf (given .sheet) (given .bank))) (sym told ∙ is) .1 ∙ apart
 
 -- ---- steps 1 to 3, from what each stage answers
 
-module _ (sheet bank frame : List ℕ) {first : Passed} (is : first ≡ passedFrame frame) where
-  pub fails-first : first ≡ Fails → FailsCheck ≡ judgedFrame sheet bank frame
-  fails-first told = stops-check sheet bank frame (ap not (passed-false frame is told))
+module _ (given : Lent) (frame : List ℕ) {first : Passed} (is : first ≡ passedFrame frame) where
+  pub fails-first : first ≡ Fails → FailsCheck ≡ judgedFrame given frame
+  fails-first told = stops-check given frame (ap not (passed-false frame is told))
 
-  module _ {passed : Parts} (told : first ≡ Frame passed) {next : Addressed} (is-next : next ≡ addressedTo sheet bank passed) where
+  module _ {passed : Parts} (told : first ≡ Frame passed) {next : Addressed} (is-next : next ≡ addressedTo given passed) where
     passing : failsCheck frame ≡ false
     passing = ap not (passed-true frame is told)
 
-    pub stops-second : next ≡ Elsewhere → OtherStation ≡ judgedFrame sheet bank frame
-    stops-second away = stops-station sheet bank frame passing (elsewhere sheet bank frame (passed-parts frame is told) is-next away)
+    pub stops-second : next ≡ Elsewhere → OtherStation ≡ judgedFrame given frame
+    stops-second away = stops-station given frame passing (elsewhere given frame (passed-parts frame is told) is-next away)
 
-    module _ {parts : Parts} (here : next ≡ Here parts) {allows : Bool} (is-allowed : allows ≡ codeAllowed sheet (parts .function)) where
+    module _ {parts : Parts} (here : next ≡ Here parts) {allows : Bool} (is-allowed : allows ≡ codeAllowed (given .sheet) (parts .function)) where
       apart : parts ≡ partsOf frame
-      apart = here-parts sheet bank frame (passed-parts frame is told) is-next here
+      apart = here-parts given frame (passed-parts frame is told) is-next here
 
-      at-home : otherStation sheet bank frame ≡ false
-      at-home = here-station sheet bank frame (passed-parts frame is told) is-next here
+      at-home : otherStation given frame ≡ false
+      at-home = here-station given frame (passed-parts frame is told) is-next here
 
-      allowing : functionAllowed sheet frame ≡ allows
-      allowing = sym (is-allowed ∙ ap (λ (p : Parts). codeAllowed sheet (p .function)) apart)
+      allowing : functionAllowed (given .sheet) frame ≡ allows
+      allowing = sym (is-allowed ∙ ap (λ (p : Parts). codeAllowed (given .sheet) (p .function)) apart)
 
-      pub stops-third : not allows ≡ true → FunctionNotAllowed ≡ judgedFrame sheet bank frame
-      stops-third shut = stops-function sheet bank frame passing at-home (ap not allowing ∙ shut)
+      pub stops-third : not allows ≡ true → FunctionNotAllowed ≡ judgedFrame given frame
+      stops-third shut = stops-function given frame passing at-home (ap not allowing ∙ shut)
 
-      pub passes-third : not allows ≡ false → judgedFrom 3 sheet bank frame ≡ judgedFrame sheet bank frame
-      passes-third open-to = passes-function sheet bank frame passing at-home (ap not allowing ∙ open-to)
+      pub passes-third : not allows ≡ false → judgedFrom 3 given frame ≡ judgedFrame given frame
+      passes-third open-to = passes-function given frame passing at-home (ap not allowing ∙ open-to)
 
-      pub then-known : sound sheet ≡ true → not allows ≡ false → Known sheet frame parts
+      pub then-known : sound (given .sheet) ≡ true → not allows ≡ false → Known (given .sheet) frame parts
       then-known keeps open-to = record { sheetSound = keeps; apart = apart; allowed = allowing ∙ not-false allows open-to }
 
 -- ---- the steps in the parts of the frame
 
-module _ (sheet bank frame : List ℕ) {parts : Parts} (apart : parts ≡ partsOf frame) where
-  pub length-of-parts : wrongLength frame
-      ≡ cond (eqb (parts .function) writesMany) (ltb (parts .length) 9 || not (eqb (parts .length) (9 + parts .bytes))) (not (eqb (parts .length) 8))
-  length-of-parts =
-      ap (λ (p : Parts). cond (eqb (p .function) writesMany) (ltb (p .length) 9 || not (eqb (p .length) (9 + p .bytes))) (not (eqb (p .length) 8)))
-      (sym apart)
+-- step 4 and step 5
+abbrev pub lengthWrong : Parts → Bool
+lengthWrong parts =
+    cond (eqb (parts .function) writesMany) (ltb (parts .length) 9 || not (eqb (parts .length) (9 + parts .bytes))) (not (eqb (parts .length) 8))
 
-  pub count-of-parts : wrongCount frame
-      ≡ (eqb (parts .function) reads && eqb (parts .second) 0
-      || eqb (parts .function) writesMany && (eqb (parts .second) 0 || not (eqb (parts .bytes) (2 * parts .second))))
-  count-of-parts =
-      ap (λ (p : Parts). eqb (p .function) reads && eqb (p .second) 0
-      || eqb (p .function) writesMany && (eqb (p .second) 0 || not (eqb (p .bytes) (2 * p .second)))) (sym apart)
+abbrev pub countWrong : Parts → Bool
+countWrong parts =
+    eqb (parts .function) reads && eqb (parts .second) 0
+    || eqb (parts .function) writesMany && (eqb (parts .second) 0 || not (eqb (parts .bytes) (2 * parts .second)))
 
+module _ (given : Lent) (frame : List ℕ) {parts : Parts} (apart : parts ≡ partsOf frame) where
+  pub length-stops : lengthWrong parts ≡ true → WrongLength ≡ judgedFrom 3 given frame
+  length-stops e = stops-length given frame (ap lengthWrong (sym apart) ∙ e)
+
+  pub length-passes : lengthWrong parts ≡ false → judgedFrom 4 given frame ≡ judgedFrom 3 given frame
+  length-passes e = passes-length given frame (ap lengthWrong (sym apart) ∙ e)
+
+  pub count-stops : countWrong parts ≡ true → WrongCount ≡ judgedFrom 4 given frame
+  count-stops e = stops-count given frame (ap countWrong (sym apart) ∙ e)
+
+  pub count-passes : countWrong parts ≡ false → judgedFrom 5 given frame ≡ judgedFrom 4 given frame
+  count-passes e = passes-count given frame (ap countWrong (sym apart) ∙ e)
+
+module _ (frame : List ℕ) {parts : Parts} (apart : parts ≡ partsOf frame) where
   -- a function that is allowed and none of the first three is 10
-  pub last-of-parts : functionAllowed sheet frame ≡ true → (parts .function ≡ reads → ⊥) → (parts .function ≡ clears → ⊥)
+  pub last-of-parts : (sheet : List ℕ) → functionAllowed sheet frame ≡ true → (parts .function ≡ reads → ⊥) → (parts .function ≡ clears → ⊥)
       → (parts .function ≡ writesOne → ⊥) → parts .function ≡ writesMany
-  last-of-parts permitted =
+  last-of-parts sheet permitted =
       last-function sheet (parts .function) (ap (λ (p : Parts). codeAllowed sheet (p .function)) apart ∙ permitted)
 
   pub write-of-parts : (parts .function ≡ writesOne) ⊎ (parts .function ≡ writesMany) → isWrite frame ≡ true
-  write-of-parts (inl one) = write-is sheet bank frame (asks-for frame writesOne (sym (ap (λ (p : Parts). p .function) apart) ∙ one))
-  write-of-parts (inr many) = write-is sheet bank frame (asks-for frame writesMany (sym (ap (λ (p : Parts). p .function) apart) ∙ many))
+  write-of-parts (inl one) = write-is frame (asks-for frame writesOne (sym (ap (λ (p : Parts). p .function) apart) ∙ one))
+  write-of-parts (inr many) = write-is frame (asks-for frame writesMany (sym (ap (λ (p : Parts). p .function) apart) ∙ many))
 
   module _ (asks : parts .function ≡ reads) where
     read-function : function frame ≡ reads
     read-function = sym (ap (λ (p : Parts). p .function) apart) ∙ asks
 
-    pub read-of-parts : wrongAddress sheet frame ≡ (ltb mostRead (parts .second) || not (allOpen Read sheet (upFrom (parts .start) (parts .second))))
-    read-of-parts =
-        read-address sheet bank frame read-function
+    pub read-of-parts : (sheet : List ℕ) → wrongAddress sheet frame ≡ (ltb mostRead (parts .second) || not (allOpen Read sheet (upFrom (parts .start) (parts .second))))
+    read-of-parts sheet =
+        read-address frame sheet read-function
         ∙ ap (λ (n : ℕ). ltb mostRead (second frame) || not (allOpen Read sheet (upFrom (start frame) n)))
-        (many-is sheet bank frame (asks-for frame reads read-function))
+        (many-is frame (asks-for frame reads read-function))
         ∙ ap (λ (p : Parts). ltb mostRead (p .second) || not (allOpen Read sheet (upFrom (p .start) (p .second)))) (sym apart)
 
-    pub good-read-of-parts : {first : ℕ} → first ≡ placeIn (liesIn (areas sheet) (parts .start)) → wrongAddress sheet frame ≡ false
-        → GoodRead first (parts .second) ≡ judgedFrom 5 sheet bank frame
-    good-read-of-parts placed e =
+    pub good-read-of-parts : (given : Lent) {first : ℕ} → first ≡ placeIn (liesIn (areas (given .sheet)) (parts .start)) → wrongAddress (given .sheet) frame ≡ false
+        → GoodRead first (parts .second) ≡ judgedFrom 5 given frame
+    good-read-of-parts given placed e =
         ap (λ (n : ℕ). GoodRead n (parts .second)) placed
-        ∙ ap (λ (p : Parts). GoodRead (placeIn (liesIn (areas sheet) (p .start))) (p .second)) apart ∙ good-read sheet bank frame read-function e
+        ∙ ap (λ (p : Parts). GoodRead (placeIn (liesIn (areas (given .sheet)) (p .start))) (p .second)) apart ∙ good-read given frame read-function e
 
   module _ (asks : parts .function ≡ clears) where
     pub clear-function : function frame ≡ clears
     clear-function = sym (ap (λ (p : Parts). p .function) apart) ∙ asks
 
-    pub clear-of-parts : wrongAddress sheet frame ≡ not (eqb (parts .start) (clearAddress sheet))
-    clear-of-parts = clear-address sheet bank frame clear-function ∙ ap (λ (p : Parts). not (eqb (p .start) (clearAddress sheet))) (sym apart)
+    pub clear-of-parts : (sheet : List ℕ) → wrongAddress sheet frame ≡ not (eqb (parts .start) (clearAddress sheet))
+    clear-of-parts sheet = clear-address frame sheet clear-function ∙ ap (λ (p : Parts). not (eqb (p .start) (clearAddress sheet))) (sym apart)
 
     pub value-of-parts : wrongValue frame ≡ not (eqb (parts .second) 0)
-    value-of-parts = clear-value sheet bank frame clear-function ∙ ap (λ (p : Parts). not (eqb (p .second) 0)) (sym apart)
+    value-of-parts = clear-value frame clear-function ∙ ap (λ (p : Parts). not (eqb (p .second) 0)) (sym apart)

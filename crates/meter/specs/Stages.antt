@@ -8,6 +8,7 @@ use lib.ListN.{drop}
 use Rattle.lists.specs.Cases.{firstCase}
 use Rattle.sheet_rules.specs.Rules.{sound}
 use Rattle.bank_rules.specs.Bank.{stationOf}
+use Rattle.bank_rules.specs.Calls.{Lent}
 use Rattle.frame.specs.declared.Parts.{Parts}
 use Rattle.frame.specs.Frame.{partsOf}
 use Rattle.meter_rules.specs.declared.Judged.{Judged}
@@ -16,12 +17,12 @@ use Rattle.meter.specs.declared.stages.Addressed.{Addressed}
 use Rattle.meter.specs.declared.stages.Addressed.the-variants.{Here, Elsewhere}
 
 -- what step 2 answers: a frame for the bank's station, taken apart, or that it is for another
-unfoldable pub addressedTo : List ℕ → List ℕ → Parts → Addressed
-addressedTo sheet bank parts = cond (eqb (parts .station) (stationOf sheet bank)) (Here parts) Elsewhere
+unfoldable pub addressedTo : Lent → Parts → Addressed
+addressedTo given parts = cond (eqb (parts .station) (stationOf (given .sheet) (given .bank))) (Here parts) Elsewhere
 
 -- where a frame stops, or that it is good, once so many of these conditions have let it through
-unfoldable pub judgedFrom : ℕ → List ℕ → List ℕ → List ℕ → Judged
-judgedFrom passed sheet bank frame = firstCase (drop passed (steps sheet bank frame)) (goodFrame sheet frame)
+unfoldable pub judgedFrom : ℕ → Lent → List ℕ → Judged
+judgedFrom passed given frame = firstCase (drop passed (steps given frame)) (goodFrame (given .sheet) frame)
 
 -- the sheet is sound, the parts are the frame's, and its function is allowed
 pub record Known (sheet frame : List ℕ) (parts : Parts) : Type 0 where

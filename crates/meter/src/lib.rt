@@ -24,7 +24,7 @@ pub fn judge(sheet: &[u8], bank: &[u8], frame: &[u8]) -> Judgement
         Answer::Done => {}
         Answer::Refused(refusal) => return Judgement::Refused(refusal),
     }
-    Judgement::Stops(stages::judged(sheet, bank, frame))
+    Judgement::Stops(stages::judged_frame(sheet, bank, frame))
 }
 
 // Answers one frame: the refusals 2, 3, 4 and 5 in this order, then silence or a reply.
@@ -38,6 +38,6 @@ pub fn answer(sheet: &[u8], bank: &mut [u8], frame: &[u8], buffer: &mut [u8]) ->
     if buffer.len() < LEAST_BUFFER {
         return Answered::Refused(Refusal::SmallBuffer);
     }
-    let judged = stages::judged(sheet, bank, frame);
+    let judged = stages::judged_frame(sheet, bank, frame);
     replies::acted(judged, sheet, bank, frame, buffer)
 }

@@ -3,6 +3,7 @@ ghost use mathlib.Core.Path.{_≡_};
 ghost use Prim.Native.Nat.{_-_};
 ghost use mathlib.Core.Bool.{true};
 ghost use Rattle.bank_rules.specs.Stores.{stored};
+ghost use Rattle.bank_rules.specs.Calls.{lent};
 ghost use Rattle.frame.specs.Reply.{hasRoom};
 ghost use Rattle.meter_rules.specs.Reply.{errorCode, replyTo, storesOf};
 ghost use Rattle.meter_rules.specs.Answer.{outcome, actedOn};
@@ -88,7 +89,7 @@ pub(crate) fn acted(
     buffer: &mut [u8],
 ) -> Answered
     requires { ⌜ hasRoom (replyTo judged (now bank) (now frame)) (now buffer) ≡ true ⌝ }
-    ensures { λ r. ⌜ outcome r (now (bank .exit)) (now (buffer .exit)) ≡ actedOn judged (now (sheet .entry)) (now (bank .entry)) (now (frame .entry)) (now (buffer .entry)) ⌝ }
+    ensures { λ r. ⌜ outcome r (now (bank .exit)) (now (buffer .exit)) ≡ actedOn judged (lent (now (sheet .entry)) (now (bank .entry))) (now (frame .entry)) (now (buffer .entry)) ⌝ }
 {
     let rate = words::word_at(bank, 2 * (rows::rate_place(sheet) as usize));
     make_stores(judged, sheet, bank, frame);

@@ -3,6 +3,7 @@ ghost use mathlib.Core.Path.{_≡_};
 ghost use mathlib.Core.Bool.{true};
 ghost use Rattle.meter.specs.Stages.{addressedTo, judgedFrom, Known};
 ghost use Rattle.sheet_rules.specs.Rules.{sound};
+ghost use Rattle.bank_rules.specs.Calls.{lent};
 ghost use Rattle.frame.specs.Frame.{reads, clears, isWrite, manyOf};
 ghost use Rattle.meter_rules.specs.Steps.{codeAllowed, judgedFrame};
 use crate::values;
@@ -29,7 +30,7 @@ pub enum Addressed {
 
 // Step 2: the station byte is the bank's address.
 fn for_station(sheet: &[u8], bank: &[u8], parts: Parts) -> Addressed
-    ensures { λ r. ⌜ r ≡ addressedTo (now (sheet .entry)) (now (bank .entry)) parts ⌝ }
+    ensures { λ r. ⌜ r ≡ addressedTo (lent (now (sheet .entry)) (now (bank .entry))) parts ⌝ }
 {
     let address = words::word_at(bank, 2 * (rows::address_place(sheet) as usize));
     if parts.station as u16 != address {
@@ -59,9 +60,9 @@ fn function_allowed(sheet: &[u8], function: u8) -> bool
 }
 
 // Steps 1 to 3: a frame that does not pass, or is for another station, gets silence; a function that is not allowed, error 01.
-pub(crate) fn judged(sheet: &[u8], bank: &[u8], frame: &[u8]) -> Judged
+pub(crate) fn judged_frame(sheet: &[u8], bank: &[u8], frame: &[u8]) -> Judged
     requires { ⌜ sound (now sheet) ≡ true ⌝ }
-    ensures { λ r. ⌜ r ≡ judgedFrame (now (sheet .entry)) (now (bank .entry)) (now (frame .entry)) ⌝ }
+    ensures { λ r. ⌜ r ≡ judgedFrame (lent (now (sheet .entry)) (now (bank .entry))) (now (frame .entry)) ⌝ }
 {
     let Passed::Frame(passed) = frame::taken_apart(frame) else {
         return Judged::FailsCheck;
@@ -78,7 +79,7 @@ pub(crate) fn judged(sheet: &[u8], bank: &[u8], frame: &[u8]) -> Judged
 // Step 4: rules J40 and J41.
 fn judged_length(sheet: &[u8], bank: &[u8], frame: &[u8], parts: Parts) -> Judged
     requires { ⌜ Known (now sheet) (now frame) parts ⌝ }
-    ensures { λ r. ⌜ r ≡ judgedFrom 3 (now (sheet .entry)) (now (bank .entry)) (now (frame .entry)) ⌝ }
+    ensures { λ r. ⌜ r ≡ judgedFrom 3 (lent (now (sheet .entry)) (now (bank .entry))) (now (frame .entry)) ⌝ }
 {
     if parts.function != frame::WRITES_MANY {
         if parts.length != 8 {
@@ -98,7 +99,7 @@ fn judged_length(sheet: &[u8], bank: &[u8], frame: &[u8], parts: Parts) -> Judge
 // Step 5: a count is not 0, and the byte count of 10 is twice its count.
 fn judged_count(sheet: &[u8], bank: &[u8], frame: &[u8], parts: Parts) -> Judged
     requires { ⌜ Known (now sheet) (now frame) parts ⌝ }
-    ensures { λ r. ⌜ r ≡ judgedFrom 4 (now (sheet .entry)) (now (bank .entry)) (now (frame .entry)) ⌝ }
+    ensures { λ r. ⌜ r ≡ judgedFrom 4 (lent (now (sheet .entry)) (now (bank .entry))) (now (frame .entry)) ⌝ }
 {
     if parts.function == frame::READS {
         if parts.second == 0 {
@@ -125,7 +126,7 @@ fn judged_count(sheet: &[u8], bank: &[u8], frame: &[u8], parts: Parts) -> Judged
 fn judged_read(sheet: &[u8], bank: &[u8], frame: &[u8], parts: Parts) -> Judged
     requires { ⌜ Known (now sheet) (now frame) parts ⌝ }
     requires { ⌜ parts .function ≡ reads ⌝ }
-    ensures { λ r. ⌜ r ≡ judgedFrom 5 (now (sheet .entry)) (now (bank .entry)) (now (frame .entry)) ⌝ }
+    ensures { λ r. ⌜ r ≡ judgedFrom 5 (lent (now (sheet .entry)) (now (bank .entry))) (now (frame .entry)) ⌝ }
 {
     if frame::MOST_READ < parts.second {
         return Judged::WrongAddress;
@@ -144,7 +145,7 @@ fn judged_read(sheet: &[u8], bank: &[u8], frame: &[u8], parts: Parts) -> Judged
 fn judged_clear(sheet: &[u8], bank: &[u8], frame: &[u8], parts: Parts) -> Judged
     requires { ⌜ Known (now sheet) (now frame) parts ⌝ }
     requires { ⌜ parts .function ≡ clears ⌝ }
-    ensures { λ r. ⌜ r ≡ judgedFrom 5 (now (sheet .entry)) (now (bank .entry)) (now (frame .entry)) ⌝ }
+    ensures { λ r. ⌜ r ≡ judgedFrom 5 (lent (now (sheet .entry)) (now (bank .entry))) (now (frame .entry)) ⌝ }
 {
     if parts.start != rows::clear_address(sheet) {
         return Judged::WrongAddress;
@@ -170,7 +171,7 @@ fn many_of(parts: Parts) -> u16
 fn judged_write(sheet: &[u8], bank: &[u8], frame: &[u8], parts: Parts) -> Judged
     requires { ⌜ Known (now sheet) (now frame) parts ⌝ }
     requires { ⌜ isWrite (now frame) ≡ true ⌝ }
-    ensures { λ r. ⌜ r ≡ judgedFrom 5 (now (sheet .entry)) (now (bank .entry)) (now (frame .entry)) ⌝ }
+    ensures { λ r. ⌜ r ≡ judgedFrom 5 (lent (now (sheet .entry)) (now (bank .entry))) (now (frame .entry)) ⌝ }
 {
     let many = many_of(parts);
     let run = lookup::reached(sheet, Purpose::Write, parts.start as u32);

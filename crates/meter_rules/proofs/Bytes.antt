@@ -117,10 +117,10 @@ unfolding actedOn
 answer-bytes given frame buffer held small room =
     outcome-cases given frame buffer (λ (o : Outcome). Bytes (o .bank) × Bytes (o .buffer)) (λ refusal. (held, room))
     (λ found.
-    let judged : Judged = judgedFrame (given .sheet) (given .bank) frame in
+    let judged : Judged = judgedFrame given frame in
     let reply : List ℕ = replyTo judged (given .bank) frame in (
       stored-bytes frame small judged (given .sheet) (given .bank) held,
       bytes-both reply (drop (length reply) buffer)
-          (reply-bytes frame small judged (given .bank) held (judged-fits (given .sheet) (given .bank) frame))
+          (reply-bytes frame small judged (given .bank) held (judged-fits given frame))
           (bytes-behind (length reply) buffer room),
     ))

@@ -1,21 +1,20 @@
 -- A good read is of at most 47 registers; every reply has 5 to 99 bytes and passes the check. Assumes nothing.
 use mathlib.Core.Path.{_≡_, refl, sym, ap, subst, _∙_}
 use mathlib.Core.Bool.{true, Bool, false, _||_, not, cond}
-use mathlib.Core.List.{List, [], _∷_, head}
-use mathlib.Core.Logic.{_⊎_, inl, inr}
-use Prim.Native.Nat.{ℕ, _+_, _≤_}
+use mathlib.Core.List.{List, [], _∷_}
+use Prim.Native.Nat.{ℕ, _≤_}
 use native.Mathlib.Omega.{arith}
 use lib.ListN.{length}
 use borrow.Author.Tests.{leb-true, le-leb, ltb-false, eqb-true}
 use Rattle.check_value.specs.Frame.{passes}
-use Rattle.check_value.proofs.Zero.{closed-passes, closed}
 use Rattle.meter_rules.specs.declared.Judged.{Judged}
 use Rattle.meter_rules.specs.declared.Judged.the-variants.{FailsCheck, OtherStation, FunctionNotAllowed, WrongLength, WrongCount, WrongAddress, WrongValue, BadItem, GoodRead, GoodClear, GoodWrite}
+use Rattle.bank_rules.specs.Calls.{Lent}
 use Rattle.frame.specs.Frame.{mostRead, function, reads, count, run, second, clears}
-use Rattle.frame.specs.Reply.{errorReply, readReply, echo, withCheck, hasRoom}
+use Rattle.frame.specs.Reply.{readReply, withCheck, hasRoom}
 use Rattle.sheet_rules.specs.declared.Purpose.the-variants.{Read}
 use Rattle.meter_rules.specs.Reply.{replyTo}
-use Rattle.frame.proofs.Reading.{write-echo, check-length, read-length}
+use Rattle.frame.proofs.Reading.{write-echo, read-length}
 use Rattle.lists.specs.Cases.{firstCase, when}
 use Rattle.meter_rules.specs.Steps.{wrongAddress, judgedFrame, failsCheck, goodFrame, otherStation, functionNotAllowed, wrongLength, wrongCount, wrongValue, badWrite}
 use Rattle.frame.proofs.Closing.{closed-length, closed-checked, Closed, error-closed, closing, echo-closed}
@@ -40,7 +39,7 @@ readFits (GoodRead first many) = leb many mostRead
 readFits GoodClear = true
 readFits (GoodWrite first many) = true
 
-module _ (sheet bank frame : List ℕ) where
+module _ (given : Lent) (frame : List ℕ) where
   fits : (a₁ a₂ a₃ a₄ a₅ a₆ a₇ a₈ : Bool) (first stop : ℕ) (good : Judged) → (a₆ ≡ false → readFits good ≡ true)
       → readFits (firstCase (when a₁ FailsCheck ∷ when a₂ OtherStation ∷ when a₃ FunctionNotAllowed ∷ when a₄ WrongLength ∷ when a₅ WrongCount
       ∷ when a₆ WrongAddress ∷ when a₇ WrongValue ∷ when a₈ (BadItem first stop) ∷ []) good) ≡ true
@@ -55,30 +54,30 @@ module _ (sheet bank frame : List ℕ) where
   fits false false false false false false false true first stop good h = refl
   fits false false false false false false false false first stop good h = h refl
 
-  good-fits : wrongAddress sheet frame ≡ false → readFits (goodFrame sheet frame) ≡ true
+  good-fits : wrongAddress (given .sheet) frame ≡ false → readFits (goodFrame (given .sheet) frame) ≡ true
   good-fits p = go (eqb (function frame) reads) refl (eqb (function frame) clears)
     where
       few : function frame ≡ reads → leb (count frame) mostRead ≡ true
       few e =
           ap (λ (o : Bool). leb (cond o 1 (second frame)) mostRead) (asks-for frame reads e .isOne)
-          ∙ le-leb (second frame) mostRead (ltb-false mostRead (second frame) (under (ltb mostRead (second frame)) (sym (read-address sheet bank frame e) ∙ p)))
+          ∙ le-leb (second frame) mostRead (ltb-false mostRead (second frame) (under (ltb mostRead (second frame)) (sym (read-address frame (given .sheet) e) ∙ p)))
         where
-          under : (b : Bool) → (b || not (allOpen Read sheet (run frame))) ≡ false → b ≡ false
+          under : (b : Bool) → (b || not (allOpen Read (given .sheet) (run frame))) ≡ false → b ≡ false
           under true q = q
           under false q = refl
 
       go : (r : Bool) → eqb (function frame) reads ≡ r → (c : Bool)
-          → readFits (cond r (GoodRead (firstPlace sheet frame) (count frame)) (cond c GoodClear (GoodWrite (firstPlace sheet frame) (count frame)))) ≡ true
+          → readFits (cond r (GoodRead (firstPlace (given .sheet) frame) (count frame)) (cond c GoodClear (GoodWrite (firstPlace (given .sheet) frame) (count frame)))) ≡ true
       go true e c = few (eqb-true (function frame) reads e)
       go false e true = refl
       go false e false = refl
 
-  pub judged-fits : readFits (judgedFrame sheet bank frame) ≡ true
+  pub judged-fits : readFits (judgedFrame given frame) ≡ true
   unfolding judgedFrame
   judged-fits =
-      fits (failsCheck frame) (otherStation sheet bank frame) (functionNotAllowed sheet frame) (wrongLength frame) (wrongCount frame)
-      (wrongAddress sheet frame) (wrongValue frame) (badWrite sheet bank frame) (firstPlace sheet frame) (stopPlace sheet bank frame)
-      (goodFrame sheet frame) good-fits
+      fits (failsCheck frame) (otherStation given frame) (functionNotAllowed (given .sheet) frame) (wrongLength frame) (wrongCount frame)
+      (wrongAddress (given .sheet) frame) (wrongValue frame) (badWrite given frame) (firstPlace (given .sheet) frame) (stopPlace given frame)
+      (goodFrame (given .sheet) frame) good-fits
 
 -- a reply that is not none is closed
 reply-closed : (judged : Judged) (bank frame : List ℕ) → readFits judged ≡ true → (replyTo judged bank frame ≡ [] → ⊥)
@@ -118,6 +117,6 @@ module _ (judged : Judged) (bank frame : List ℕ) (fits : readFits judged ≡ t
           let sized = reply-sized (λ none. let z : _≡_ {A = ℕ} 0 1 = cc in omega arith) in
           has-room (byte ∷ bytes) buffer (omega (arith, ap length e)) (omega (arith, ap length e))
 
-pub judged-room : (sheet bank frame buffer : List ℕ) {judged : Judged} → judged ≡ judgedFrame sheet bank frame → leastBuffer ≤ length buffer
-    → hasRoom (replyTo judged bank frame) buffer ≡ true
-judged-room sheet bank frame buffer {judged} is long = reply-room judged bank frame (ap readFits is ∙ judged-fits sheet bank frame) buffer long
+pub judged-room : (given : Lent) (frame buffer : List ℕ) {judged : Judged} → judged ≡ judgedFrame given frame → leastBuffer ≤ length buffer
+    → hasRoom (replyTo judged (given .bank) frame) buffer ≡ true
+judged-room given frame buffer {judged} is long = reply-room judged (given .bank) frame (ap readFits is ∙ judged-fits given frame) buffer long

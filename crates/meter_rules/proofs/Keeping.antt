@@ -10,14 +10,15 @@ use borrow.Author.Tests.{lt-ltb, leb-true, ltb-true, ltb-false, eqb-true, not-fa
 use Rattle.sheet_rules.specs.declared.Item.{Item}
 use Rattle.lists.specs.Lists.{rows}
 use Rattle.sheet_rules.specs.Rows.{items, itemAt, itemCount, bankWords}
-use Rattle.sheet_rules.specs.Rules.{isPair, sound}
+use Rattle.sheet_rules.specs.Rules.{isPair}
 use Rattle.sheet_rules.specs.Lookup.{holds}
 use Rattle.lists.proofs.Tests.{first-of, second-of}
 use Rattle.lists.proofs.Among.{Among, here, there}
 use Rattle.sheet_rules.proofs.Places.{items-ascend}
 use Rattle.bank_rules.specs.Stores.{Store, wordOf, stored}
-use Rattle.bank_rules.specs.Bank.{fits, goodBy, bankSound, markPlace, markStores}
-use Rattle.bank_rules.proofs.Changes.{mark-there, mark-apart}
+use Rattle.bank_rules.specs.Bank.{goodBy, bankSound, markPlace, markStores}
+use Rattle.bank_rules.specs.Calls.{Lent}
+use Rattle.bank_rules.proofs.Changes.{Passed, mark-there, mark-apart}
 use Rattle.bank_rules.proofs.Held.{holds-first, item-row, held-below, holder-alone}
 use Rattle.bank_rules.proofs.Inside.{below-inside}
 use Rattle.bank_rules.proofs.Values.{good-same, sound-bank, sound-items, sound-mark, sound-kept}
@@ -151,65 +152,64 @@ module _ (first many : ℕ) where
 
 -- ---- a write
 
-module _ (sheet bank frame : List ℕ) (keeps : sound sheet ≡ true) (fitting : fits sheet bank ≡ true) (whole : bankSound sheet bank ≡ true)
-    (all : allOpen Write sheet (run frame) ≡ true) where
+module _ (given : Lent) (frame : List ℕ) (passed : Passed given) (all : allOpen Write (given .sheet) (run frame) ≡ true) where
   abbrev first : ℕ
-  first = firstPlace sheet frame
+  first = firstPlace (given .sheet) frame
 
   abbrev stop : ℕ
-  stop = stopPlace sheet bank frame
+  stop = stopPlace given frame
 
   abbrev after : List ℕ
-  after = stored bank (runStores frame first stop)
+  after = stored (given .bank) (runStores frame first stop)
 
   pub bound : stop ≤ first + count frame
   unfolding stopPlace
-  bound = stop-bound first (count frame) bank frame (items sheet)
+  bound = stop-bound first (count frame) (given .bank) frame (items (given .sheet))
 
-  below-bank : (k : ℕ) → k < stop - first → first + k < bankWords sheet
-  below-bank k inside = run-inside Write sheet keeps (start frame) (count frame) all k (omega (arith, bound))
+  below-bank : (k : ℕ) → k < stop - first → first + k < bankWords (given .sheet)
+  below-bank k inside = run-inside Write (given .sheet) (passed .right) (start frame) (count frame) all k (omega (arith, bound))
 
-  pub written : (place : ℕ) → wordOf after place ≡ wouldBe first (stop - first) bank frame place
+  pub written : (place : ℕ) → wordOf after place ≡ wouldBe first (stop - first) (given .bank) frame place
   written =
-      words-written frame first stop bank
+      words-written frame first stop (given .bank)
       (λ store m. let found = run-store frame first stop m in
-      below-inside sheet bank keeps fitting (store .place)
+      below-inside (given .sheet) (given .bank) (passed .right) (passed .fitting) (store .place)
       (omega (arith, ap (λ (s : Store). s .place) (found .2), below-bank (found .0) (found .1))))
 
-  pub mark-kept : wordOf after (markPlace sheet) ≡ wordOf bank (markPlace sheet)
+  pub mark-kept : wordOf after (markPlace (given .sheet)) ≡ wordOf (given .bank) (markPlace (given .sheet))
   mark-kept =
-      written (markPlace sheet)
-      ∙ outside first (stop - first) bank frame (markPlace sheet)
-      (λ within. let low = run-above first (stop - first) (markPlace sheet) within in
-      let high = run-below first (stop - first) (markPlace sheet) within in
-      let past = below-bank (markPlace sheet - first) (omega arith) in
+      written (markPlace (given .sheet))
+      ∙ outside first (stop - first) (given .bank) frame (markPlace (given .sheet))
+      (λ within. let low = run-above first (stop - first) (markPlace (given .sheet)) within in
+      let high = run-below first (stop - first) (markPlace (given .sheet)) within in
+      let past = below-bank (markPlace (given .sheet) - first) (omega arith) in
       omega arith)
 
   -- an item in front of the stop is not bad
-  pub front-fine : {item : Item} → Among item (items sheet) → item .place < stop → badItem first (count frame) bank frame item ≡ false
+  pub front-fine : {item : Item} → Among item (items (given .sheet)) → item .place < stop → badItem first (count frame) (given .bank) frame item ≡ false
   unfolding stopPlace items
-  front-fine {item} m less = go (badItem first (count frame) bank frame item) refl
+  front-fine {item} m less = go (badItem first (count frame) (given .bank) frame item) refl
     where
-      go : (bad : Bool) → badItem first (count frame) bank frame item ≡ bad → bad ≡ false
+      go : (bad : Bool) → badItem first (count frame) (given .bank) frame item ≡ bad → bad ≡ false
       go false e = refl
       go true e =
-          let row = item-row sheet m in
+          let row = item-row (given .sheet) m in
           absurd (omega (
             arith,
-            stop-front first (count frame) bank frame (itemAt sheet) 0 (itemCount sheet)
-                (λ i j before inside. items-ascend sheet keeps i j before (omega arith)) (row .0) (omega arith) (omega (arith, row .1))
-                (ap (badItem first (count frame) bank frame) (sym (row .2)) ∙ e),
+            stop-front first (count frame) (given .bank) frame (itemAt (given .sheet)) 0 (itemCount (given .sheet))
+                (λ i j before inside. items-ascend (given .sheet) (passed .right) i j before (omega arith)) (row .0) (omega arith) (omega (arith, row .1))
+                (ap (badItem first (count frame) (given .bank) frame) (sym (row .2)) ∙ e),
             ap (λ (i : Item). i .place) (row .2),
           ))
 
   -- its places stand in front of the stop, too, or the write stops nowhere
-  front-places : {item : Item} → Among item (items sheet) → item .place < stop → (place : ℕ) → holds item place ≡ true
+  front-places : {item : Item} → Among item (items (given .sheet)) → item .place < stop → (place : ℕ) → holds item place ≡ true
       → (stop ≡ first + count frame) ⊎ (place < stop)
   unfolding stopPlace
-  front-places {item} m less place held = go (stop-at first (count frame) bank frame (items sheet))
+  front-places {item} m less place held = go (stop-at first (count frame) (given .bank) frame (items (given .sheet)))
     where
       go : (stop ≡ first + count frame)
-          ⊎ ((other : Item) × Among other (items sheet) × (badItem first (count frame) bank frame other ≡ true) × (other .place ≡ stop))
+          ⊎ ((other : Item) × Among other (items (given .sheet)) × (badItem first (count frame) (given .bank) frame other ≡ true) × (other .place ≡ stop))
           → (stop ≡ first + count frame) ⊎ (place < stop)
       go (inl e) = inl e
       go (inr found) = inr (in-front (ltb place stop) refl)
@@ -218,23 +218,23 @@ module _ (sheet bank frame : List ℕ) (keeps : sound sheet ≡ true) (fitting :
           in-front true says = ltb-true place stop says
           in-front false says =
               let at : found .0 .place ≡ place = omega (arith, found .3, ltb-false place stop says, held-high item place held) in
-              let same = holder-alone sheet keeps place m held (found .1) (holds-first (found .0) place at) in
+              let same = holder-alone (given .sheet) (passed .right) place m held (found .1) (holds-first (found .0) place at) in
               absurd (omega (arith, found .3, ap (λ (i : Item). i .place) same))
 
-  item-good : (item : Item) → Among item (items sheet) → goodBy (wordOf after) item ≡ true
+  item-good : (item : Item) → Among item (items (given .sheet)) → goodBy (wordOf after) item ≡ true
   item-good item m =
-      good-same (wordOf after) (wouldBe first (stop - first) bank frame) item (λ place held. written place) ∙ go (ltb (item .place) stop) refl
+      good-same (wordOf after) (wouldBe first (stop - first) (given .bank) frame) item (λ place held. written place) ∙ go (ltb (item .place) stop) refl
     where
-      go : (front : Bool) → ltb (item .place) stop ≡ front → goodBy (wouldBe first (stop - first) bank frame) item ≡ true
+      go : (front : Bool) → ltb (item .place) stop ≡ front → goodBy (wouldBe first (stop - first) (given .bank) frame) item ≡ true
       go true e =
           let less = ltb-true (item .place) stop e in
-          good-same (wouldBe first (stop - first) bank frame) (wouldBe first (count frame) bank frame) item
-          (λ place held. ap (λ (b : Bool). cond b (sent frame (place - first)) (wordOf bank place))
-          (same-run first (count frame) bank frame stop place bound (front-places m less place held)))
-          ∙ fine-good first (count frame) bank frame item (front-fine m less) (sound-items sheet bank whole m)
+          good-same (wouldBe first (stop - first) (given .bank) frame) (wouldBe first (count frame) (given .bank) frame) item
+          (λ place held. ap (λ (b : Bool). cond b (sent frame (place - first)) (wordOf (given .bank) place))
+          (same-run first (count frame) (given .bank) frame stop place bound (front-places m less place held)))
+          ∙ fine-good first (count frame) (given .bank) frame item (front-fine m less) (sound-items (given .sheet) (given .bank) (passed .whole) m)
       go false e =
-          good-same (wouldBe first (stop - first) bank frame) (wordOf bank) item
-          (λ place held. outside first (stop - first) bank frame place
+          good-same (wouldBe first (stop - first) (given .bank) frame) (wordOf (given .bank)) item
+          (λ place held. outside first (stop - first) (given .bank) frame place
           (λ within. omega (
             arith,
             ltb-false (item .place) stop e,
@@ -242,17 +242,17 @@ module _ (sheet bank frame : List ℕ) (keeps : sound sheet ≡ true) (fitting :
             run-above first (stop - first) place within,
             run-below first (stop - first) place within,
           )))
-          ∙ sound-items sheet bank whole m
+          ∙ sound-items (given .sheet) (given .bank) (passed .whole) m
 
-  pub write-sound : bankSound sheet (stored bank (runStores frame (firstPlace sheet frame) (stopPlace sheet bank frame))) ≡ true
+  pub write-sound : bankSound (given .sheet) (stored (given .bank) (runStores frame (firstPlace (given .sheet) frame) (stopPlace given frame))) ≡ true
   write-sound =
-      sound-bank sheet after item-good (ap (λ (n : ℕ). leb n 1) mark-kept ∙ sound-mark sheet bank whole)
+      sound-bank (given .sheet) after item-good (ap (λ (n : ℕ). leb n 1) mark-kept ∙ sound-mark (given .sheet) (given .bank) (passed .whole))
 
 -- ---- a clear
 
-pub clear-sound : (sheet bank : List ℕ) → sound sheet ≡ true → fits sheet bank ≡ true → bankSound sheet bank ≡ true
-    → bankSound sheet (stored bank (markStores sheet 0)) ≡ true
-clear-sound sheet bank keeps fitting whole =
-    sound-kept sheet bank (stored bank (markStores sheet 0)) whole
-    (λ item m place held. mark-apart sheet bank keeps fitting 0 place (λ same. let below = held-below sheet keeps place m held in omega arith))
-    (ap (λ (n : ℕ). leb n 1) (mark-there sheet bank keeps fitting 0))
+pub clear-sound : (given : Lent) → Passed given → bankSound (given .sheet) (stored (given .bank) (markStores (given .sheet) 0)) ≡ true
+clear-sound given passed =
+    sound-kept (given .sheet) (given .bank) (stored (given .bank) (markStores (given .sheet) 0)) (passed .whole)
+    (λ item m place held. mark-apart (given .sheet) (given .bank) (passed .right) (passed .fitting) 0 place
+    (λ same. let below = held-below (given .sheet) (passed .right) place m held in omega arith))
+    (ap (λ (n : ℕ). leb n 1) (mark-there (given .sheet) (given .bank) (passed .right) (passed .fitting) 0))

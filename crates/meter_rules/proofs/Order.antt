@@ -3,16 +3,16 @@
 use mathlib.Core.Path.{_≡_, refl, sym, ap, ap₂, _∙_}
 use mathlib.Core.Bool.{Bool, true, false, not, cond, _&&_, _||_, or-false}
 use mathlib.Core.List.{List, [], _∷_}
-use Prim.Native.Nat.{ℕ, _+_, _*_}
+use Prim.Native.Nat.{ℕ}
 use lib.Dec.{ltb, eqb}
-use lib.ListN.{length}
 use borrow.Author.Tests.{ne-eqb, eqb-true}
 use Rattle.sheet_rules.specs.Rows.{clearAddress}
 use Rattle.sheet_rules.specs.Rules.{allowed, bitOf03, bitOf05, bitOf06, bitOf10}
+use Rattle.bank_rules.specs.Calls.{Lent}
 use Rattle.lists.specs.Cases.{Case, firstCase}
 use Rattle.sheet_rules.specs.declared.Purpose.the-variants.{Read, Write}
-use Rattle.frame.specs.Frame.{reads, clears, writesOne, writesMany, function, start, second, byteCount, isWrite, count, run, mostRead}
-use Rattle.meter_rules.specs.Steps.{codeAllowed, wrongLength, wrongCount, wrongAddress, wrongValue, badWrite}
+use Rattle.frame.specs.Frame.{reads, clears, writesOne, writesMany, function, start, second, isWrite, count, run, mostRead}
+use Rattle.meter_rules.specs.Steps.{codeAllowed, wrongAddress, wrongValue, badWrite}
 use Rattle.sheet_rules.specs.Runs.{allOpen}
 use Rattle.meter_rules.specs.Write.{someBad}
 
@@ -65,17 +65,17 @@ last-function sheet code permitted read clear one =
     go false e = e
 
 -- what each step comes to, once it is known which function a frame has
-module _ (sheet bank frame : List ℕ) {read clear one many : Bool} (asks : Asks frame read clear one many) where
+module _ (frame : List ℕ) {read clear one many : Bool} (asks : Asks frame read clear one many) where
   pub write-is : isWrite frame ≡ (one || many)
   write-is = ap₂ (λ (o m : Bool). o || m) (asks .isOne) (asks .isMany)
 
   pub many-is : count frame ≡ cond one 1 (second frame)
   many-is = ap (λ (b : Bool). cond b 1 (second frame)) (asks .isOne)
 
-  pub address-is : wrongAddress sheet frame
+  pub address-is : (sheet : List ℕ) → wrongAddress sheet frame
       ≡ (read && (ltb mostRead (second frame) || not (allOpen Read sheet (run frame))) || (one || many) && not (allOpen Write sheet (run frame))
       || clear && not (eqb (start frame) (clearAddress sheet)))
-  address-is =
+  address-is sheet =
       ap₂ (λ (r w : Bool). r && (ltb mostRead (second frame) || not (allOpen Read sheet (run frame))) || w && not (allOpen Write sheet (run frame))
       || eqb (function frame) clears && not (eqb (start frame) (clearAddress sheet))) (asks .isRead) write-is
       ∙ ap (λ (c : Bool). read && (ltb mostRead (second frame) || not (allOpen Read sheet (run frame)))
@@ -84,8 +84,8 @@ module _ (sheet bank frame : List ℕ) {read clear one many : Bool} (asks : Asks
   pub value-is : wrongValue frame ≡ (clear && not (eqb (second frame) 0))
   value-is = ap (λ (c : Bool). c && not (eqb (second frame) 0)) (asks .isClear)
 
-  pub bad-is : badWrite sheet bank frame ≡ ((one || many) && someBad sheet bank frame)
-  bad-is = ap (λ (w : Bool). w && someBad sheet bank frame) write-is
+  pub bad-is : (given : Lent) → badWrite given frame ≡ ((one || many) && someBad given frame)
+  bad-is given = ap (λ (w : Bool). w && someBad given frame) write-is
 
 -- a function that is one of the four is allowed as its bit says, and any other is not
 module _ (sheet : List ℕ) {code : ℕ} where
@@ -110,19 +110,19 @@ code-none sheet code read clear one many =
 
 -- ---- by function
 
-module _ (sheet bank frame : List ℕ) where
-  pub read-address : function frame ≡ reads
+module _ (frame : List ℕ) where
+  pub read-address : (sheet : List ℕ) → function frame ≡ reads
       → wrongAddress sheet frame ≡ (ltb mostRead (second frame) || not (allOpen Read sheet (run frame)))
-  read-address e =
-      address-is sheet bank frame (asks-for frame reads e)
+  read-address sheet e =
+      address-is frame (asks-for frame reads e) sheet
       ∙ or-false ((ltb mostRead (second frame) || not (allOpen Read sheet (run frame))) || false)
       ∙ or-false (ltb mostRead (second frame) || not (allOpen Read sheet (run frame)))
 
-  pub clear-address : function frame ≡ clears → wrongAddress sheet frame ≡ not (eqb (start frame) (clearAddress sheet))
-  clear-address e = address-is sheet bank frame (asks-for frame clears e)
+  pub clear-address : (sheet : List ℕ) → function frame ≡ clears → wrongAddress sheet frame ≡ not (eqb (start frame) (clearAddress sheet))
+  clear-address sheet e = address-is frame (asks-for frame clears e) sheet
 
   pub clear-value : function frame ≡ clears → wrongValue frame ≡ not (eqb (second frame) 0)
-  clear-value e = value-is sheet bank frame (asks-for frame clears e)
+  clear-value e = value-is frame (asks-for frame clears e)
 
   -- a write is neither a read nor a clear
   pub asks-write : isWrite frame ≡ true → Asks frame false false (eqb (function frame) writesOne) (eqb (function frame) writesMany)
@@ -138,14 +138,14 @@ module _ (sheet bank frame : List ℕ) where
           record { isRead = asks .isRead; isClear = asks .isClear; isOne = refl; isMany = refl }
 
   module _ (write : isWrite frame ≡ true) where
-    pub write-address : wrongAddress sheet frame ≡ not (allOpen Write sheet (run frame))
-    write-address =
-        address-is sheet bank frame (asks-write write)
+    pub write-address : (sheet : List ℕ) → wrongAddress sheet frame ≡ not (allOpen Write sheet (run frame))
+    write-address sheet =
+        address-is frame (asks-write write) sheet
         ∙ ap (λ (w : Bool). w && not (allOpen Write sheet (run frame)) || false) write
         ∙ or-false (not (allOpen Write sheet (run frame)))
 
     pub write-value : wrongValue frame ≡ false
-    write-value = value-is sheet bank frame (asks-write write)
+    write-value = value-is frame (asks-write write)
 
-    pub write-bad : badWrite sheet bank frame ≡ someBad sheet bank frame
-    write-bad = ap (λ (w : Bool). w && someBad sheet bank frame) write
+    pub write-bad : (given : Lent) → badWrite given frame ≡ someBad given frame
+    write-bad given = ap (λ (w : Bool). w && someBad given frame) write

@@ -10,7 +10,7 @@ use lib.Seq.{take-at}
 use lib.Dec.{eqb}
 use borrow.Author.Tests.{eq-eqb, ne-eqb, eqb-true, eqb-false}
 use Rattle.check_value.specs.Frame.{passes}
-use Rattle.frame.specs.Reply.{errorReply, withCheck, laid}
+use Rattle.frame.specs.Reply.{errorReply, withCheck}
 use Rattle.refusals.specs.declared.Refusal.{Refusal}
 use Rattle.refusals.specs.declared.Refusal.the-variants.{BrokenSheet, MisfittingBank, UnsoundBank, SmallBuffer, NotReadOnly, BadInput}
 use Rattle.refusals.specs.declared.Answer.{Answer}
@@ -37,11 +37,8 @@ use Rattle.meter_rules.proofs.Closing.{readFits, judged-fits, reply-siz
 -- ---- a refusal, or what becomes of the frame
 
 module _ (given : Lent) (frame buffer : List ℕ) where
-  abbrev judged : Judged
-  judged = judgedFrame (given .sheet) (given .bank) frame
-
   abbrev acted : Outcome
-  acted = actedOn judged (given .sheet) (given .bank) frame buffer
+  acted = actedOn (judgedFrame given frame) given frame buffer
 
   -- a call that is not refused: its sheet is sound, and its bank fits it and is sound
   pub frame-passed : frameCheck given buffer ≡ Done → Passed given
@@ -64,7 +61,7 @@ module _ (given : Lent) (frame buffer : List ℕ) where
   unfolding answerOutcome actedOn stored
   answer-stored = go (frameCheck given buffer)
     where
-      go : (answer : Answer) → unlessRefused answer given buffer acted .bank ≡ stored (given .bank) (effectOf answer (storesOf judged (given .sheet) frame))
+      go : (answer : Answer) → unlessRefused answer given buffer acted .bank ≡ stored (given .bank) (effectOf answer (storesOf (judgedFrame given frame) (given .sheet) frame))
       go Done = refl
       go (answer.Refused refusal) = refl
 
@@ -133,18 +130,18 @@ refused-number SmallBuffer = omega arith
 refused-number NotReadOnly = omega arith
 refused-number BadInput = omega arith
 
-acted-sized : (judged : Judged) (sheet bank frame buffer : List ℕ) → readFits judged ≡ true
-    → answeredNumber (actedOn judged sheet bank frame buffer .answered) ≡ 0 → Sized (actedOn judged sheet bank frame buffer)
+acted-sized : (judged : Judged) (given : Lent) (frame buffer : List ℕ) → readFits judged ≡ true
+    → answeredNumber (actedOn judged given frame buffer .answered) ≡ 0 → Sized (actedOn judged given frame buffer)
 unfolding actedOn
-acted-sized judged sheet bank frame buffer fits e =
-    let reply : List ℕ = replyTo judged bank frame in
-    let some = answered-some judged bank frame (rateOf sheet bank) e in
-    let long = answered-length judged bank frame (rateOf sheet bank) in
-    let sized = reply-sized judged bank frame fits some in
+acted-sized judged given frame buffer fits e =
+    let reply : List ℕ = replyTo judged (given .bank) frame in
+    let some = answered-some judged (given .bank) frame (rateOf (given .sheet) (given .bank)) e in
+    let long = answered-length judged (given .bank) frame (rateOf (given .sheet) (given .bank)) in
+    let sized = reply-sized judged (given .bank) frame fits some in
     record {
       least = omega (arith, sized .0);
       most = omega (arith, sized .1);
-      checked = ap passes (take-at reply (drop (length reply) buffer) _ (sym long)) ∙ reply-passes judged bank frame fits some;
+      checked = ap passes (take-at reply (drop (length reply) buffer) _ (sym long)) ∙ reply-passes judged (given .bank) frame fits some;
     }
 
 pub answer-sized : (given : Lent) (frame buffer : List ℕ) → answeredNumber (answerOutcome given frame buffer .answered) ≡ 0
@@ -152,7 +149,7 @@ pub answer-sized : (given : Lent) (frame buffer : List ℕ) → answeredNumber (
 answer-sized given frame buffer =
     outcome-cases given frame buffer (λ o. answeredNumber (o .answered) ≡ 0 → Sized o)
     (λ refusal e. absurd (omega (arith, refused-number refusal)))
-    (λ found. acted-sized (judged given frame buffer) (given .sheet) (given .bank) frame buffer (judged-fits (given .sheet) (given .bank) frame))
+    (λ found. acted-sized (judgedFrame given frame) given frame buffer (judged-fits given frame))
 
 -- ---- what leaves the bank as it is
 
@@ -184,16 +181,16 @@ quiet-stores (GoodRead first many) sheet frame e = refl
 quiet-stores GoodClear sheet frame e = absurd (false≢true e)
 quiet-stores (GoodWrite first many) sheet frame e = absurd (false≢true e)
 
-pub quiet-changes-nothing : (judged : Judged) (sheet bank frame buffer : List ℕ) → quiet judged ≡ true
-    → actedOn judged sheet bank frame buffer .bank ≡ bank
+pub quiet-changes-nothing : (judged : Judged) (given : Lent) (frame buffer : List ℕ) → quiet judged ≡ true
+    → actedOn judged given frame buffer .bank ≡ (given .bank)
 unfolding actedOn stored
-quiet-changes-nothing judged sheet bank frame buffer e = ap (stored bank) (quiet-stores judged sheet frame e)
+quiet-changes-nothing judged given frame buffer e = ap (stored (given .bank)) (quiet-stores judged (given .sheet) frame e)
 
-pub quiet-answer : (given : Lent) (frame buffer : List ℕ) → quiet (judgedFrame (given .sheet) (given .bank) frame) ≡ true
+pub quiet-answer : (given : Lent) (frame buffer : List ℕ) → quiet (judgedFrame given frame) ≡ true
     → answerOutcome given frame buffer .bank ≡ given .bank
 quiet-answer given frame buffer e =
     outcome-cases given frame buffer (λ o. o .bank ≡ given .bank) (λ refusal. refl)
-    (λ found. quiet-changes-nothing (judged given frame buffer) (given .sheet) (given .bank) frame buffer e)
+    (λ found. quiet-changes-nothing (judgedFrame given frame) given frame buffer e)
 
 -- a refusal leaves the bank and the buffer
 pub refused-as-before : (given : Lent) (frame buffer : List ℕ) (refusal : Refusal) → answerOutcome given frame buffer .answered ≡ Refused refusal
@@ -206,5 +203,5 @@ refused-as-before given frame buffer refusal =
       arith,
       refused-number refusal,
       ap answeredNumber e,
-      answered-takes (judged given frame buffer) (given .bank) frame (rateOf (given .sheet) (given .bank)),
+      answered-takes (judgedFrame given frame) (given .bank) frame (rateOf (given .sheet) (given .bank)),
     )))

@@ -7,11 +7,11 @@ use native.Mathlib.Omega.{arith}
 use lib.Dec.{ltb, eqb}
 use borrow.Author.Tests.{eq-eqb, eqb-false, ltb-false}
 use Rattle.sheet_rules.specs.Rows.{items, clearAddress}
-use Rattle.sheet_rules.specs.Rules.{sound}
 use Rattle.lists.proofs.Tests.{first-of}
 use Rattle.bank_rules.specs.Stores.{stored}
-use Rattle.bank_rules.specs.Bank.{fits, bankSound}
+use Rattle.bank_rules.specs.Bank.{bankSound}
 use Rattle.bank_rules.specs.Calls.{Lent}
+use Rattle.bank_rules.proofs.Changes.{Passed}
 use Rattle.lists.specs.Cases.{when, firstCase}
 use Rattle.meter_rules.specs.declared.Judged.{Judged}
 use Rattle.meter_rules.specs.declared.Judged.the-variants.{FailsCheck, OtherStation, FunctionNotAllowed, WrongLength, WrongCount, WrongAddress, WrongValue, BadItem, GoodRead, GoodClear, GoodWrite}
@@ -40,7 +40,7 @@ open-of false w true c e f = refl
 open-of false true false c e f = absurd (true≢false e)
 open-of false false false c e f = f
 
-module _ (sheet bank frame : List ℕ) where
+module _ (sheet frame : List ℕ) where
   pub open-write : isWrite frame ≡ true → wrongAddress sheet frame ≡ false → OpenWrite sheet frame
   open-write write right =
       record {
@@ -60,30 +60,31 @@ module _ (sheet bank frame : List ℕ) where
           (last-function sheet (function frame) permitted (eqb-false (function frame) reads read) (eqb-false (function frame) clears clear)
           (eqb-false (function frame) writesOne e))
 
+module _ (given : Lent) (frame : List ℕ) where
   -- what holds of each judgement that stores nothing, of a write with a bad item, of a good clear and of a good write holds of the frame's
   pub judged-cases : (P : Judged → Type 0) → ((judged : Judged) → quiet judged ≡ true → P judged)
-      → (OpenWrite sheet frame → P (BadItem (firstPlace sheet frame) (stopPlace sheet bank frame)))
+      → (OpenWrite (given .sheet) frame → P (BadItem (firstPlace (given .sheet) frame) (stopPlace given frame)))
       → P GoodClear
-      → (OpenWrite sheet frame → someBad sheet bank frame ≡ false → P (GoodWrite (firstPlace sheet frame) (count frame)))
-      → P (judgedFrame sheet bank frame)
+      → (OpenWrite (given .sheet) frame → someBad given frame ≡ false → P (GoodWrite (firstPlace (given .sheet) frame) (count frame)))
+      → P (judgedFrame given frame)
   unfolding judgedFrame firstCase
   judged-cases P nothing stops clears-mark stores =
-      go (failsCheck frame) (otherStation sheet bank frame) (functionAllowed sheet frame) (wrongLength frame) (wrongCount frame)
-      (wrongAddress sheet frame) (wrongValue frame) (badWrite sheet bank frame) refl refl refl
+      go (failsCheck frame) (otherStation given frame) (functionAllowed (given .sheet) frame) (wrongLength frame) (wrongCount frame)
+      (wrongAddress (given .sheet) frame) (wrongValue frame) (badWrite given frame) refl refl refl
     where
       good : (read clear : Bool) → eqb (function frame) reads ≡ read → eqb (function frame) clears ≡ clear
-          → functionAllowed sheet frame ≡ true → wrongAddress sheet frame ≡ false → badWrite sheet bank frame ≡ false
-          → P (cond read (GoodRead (firstPlace sheet frame) (count frame)) (cond clear GoodClear (GoodWrite (firstPlace sheet frame) (count frame))))
-      good true clear r c p f h = nothing (GoodRead (firstPlace sheet frame) (count frame)) refl
+          → functionAllowed (given .sheet) frame ≡ true → wrongAddress (given .sheet) frame ≡ false → badWrite given frame ≡ false
+          → P (cond read (GoodRead (firstPlace (given .sheet) frame) (count frame)) (cond clear GoodClear (GoodWrite (firstPlace (given .sheet) frame) (count frame))))
+      good true clear r c p f h = nothing (GoodRead (firstPlace (given .sheet) frame) (count frame)) refl
       good false true r c p f h = clears-mark
       good false false r c p f h =
-          let write = writes p r c in
-          stores (open-write write f) (ap (λ (b : Bool). b && someBad sheet bank frame) (sym write) ∙ h)
+          let write = writes (given .sheet) frame p r c in
+          stores (open-write (given .sheet) frame write f) (ap (λ (b : Bool). b && someBad given frame) (sym write) ∙ h)
 
-      go : (a₁ a₂ a₃ a₄ a₅ a₆ a₇ a₈ : Bool) → functionAllowed sheet frame ≡ a₃ → wrongAddress sheet frame ≡ a₆ → badWrite sheet bank frame ≡ a₈
+      go : (a₁ a₂ a₃ a₄ a₅ a₆ a₇ a₈ : Bool) → functionAllowed (given .sheet) frame ≡ a₃ → wrongAddress (given .sheet) frame ≡ a₆ → badWrite given frame ≡ a₈
           → P (firstCase (when a₁ FailsCheck ∷ when a₂ OtherStation ∷ when (not a₃) FunctionNotAllowed ∷ when a₄ WrongLength ∷ when a₅ WrongCount
-          ∷ when a₆ WrongAddress ∷ when a₇ WrongValue ∷ when a₈ (BadItem (firstPlace sheet frame) (stopPlace sheet bank frame)) ∷ [])
-          (goodFrame sheet frame))
+          ∷ when a₆ WrongAddress ∷ when a₇ WrongValue ∷ when a₈ (BadItem (firstPlace (given .sheet) frame) (stopPlace given frame)) ∷ [])
+          (goodFrame (given .sheet) frame))
       go true a₂ a₃ a₄ a₅ a₆ a₇ a₈ p f h = nothing FailsCheck refl
       go false true a₃ a₄ a₅ a₆ a₇ a₈ p f h = nothing OtherStation refl
       go false false false a₄ a₅ a₆ a₇ a₈ p f h = nothing FunctionNotAllowed refl
@@ -92,35 +93,36 @@ module _ (sheet bank frame : List ℕ) where
       go false false true false false true a₇ a₈ p f h = nothing WrongAddress refl
       go false false true false false false true a₈ p f h = nothing WrongValue refl
       go false false true false false false false true p f h =
-          stops (open-write (first-of (isWrite frame) (someBad sheet bank frame) h) f)
+          stops (open-write (given .sheet) frame (first-of (isWrite frame) (someBad given frame) h) f)
       go false false true false false false false false p f h =
           good (eqb (function frame) reads) (eqb (function frame) clears) refl refl p f h
 
   -- a write without a bad item stops at its end
-  pub stops-at-end : someBad sheet bank frame ≡ false → stopPlace sheet bank frame ≡ firstPlace sheet frame + count frame
+  pub stops-at-end : someBad given frame ≡ false → stopPlace given frame ≡ firstPlace (given .sheet) frame + count frame
   unfolding someBad stopPlace
   stops-at-end none =
-      let end : ℕ = firstPlace sheet frame + count frame in
-      let stop : ℕ = stopIn (firstPlace sheet frame) (count frame) bank frame (items sheet) in
-      let low : end ≤ stop = ltb-false stop end (stop-some (firstPlace sheet frame) (count frame) bank frame (items sheet) ∙ none) in
-      let high : stop ≤ end = stop-bound (firstPlace sheet frame) (count frame) bank frame (items sheet) in
+      let end : ℕ = firstPlace (given .sheet) frame + count frame in
+      let stop : ℕ = stopIn (firstPlace (given .sheet) frame) (count frame) (given .bank) frame (items (given .sheet)) in
+      let low : end ≤ stop = ltb-false stop end (stop-some (firstPlace (given .sheet) frame) (count frame) (given .bank) frame (items (given .sheet)) ∙ none) in
+      let high : stop ≤ end = stop-bound (firstPlace (given .sheet) frame) (count frame) (given .bank) frame (items (given .sheet)) in
       omega (arith, low, high)
 
 -- ---- a sound bank stays sound
 
-pub acted-sound : (sheet bank frame buffer : List ℕ) → sound sheet ≡ true → fits sheet bank ≡ true → bankSound sheet bank ≡ true
-    → bankSound sheet (actedOn (judgedFrame sheet bank frame) sheet bank frame buffer .bank) ≡ true
+pub acted-sound : (given : Lent) (frame buffer : List ℕ) → Passed given
+    → bankSound (given .sheet) (actedOn (judgedFrame given frame) given frame buffer .bank) ≡ true
 unfolding actedOn storesOf
-acted-sound sheet bank frame buffer keeps fitting whole =
-    judged-cases sheet bank frame (λ judged. bankSound sheet (actedOn judged sheet bank frame buffer .bank) ≡ true)
-    (λ judged silent. ap (bankSound sheet) (quiet-changes-nothing judged sheet bank frame buffer silent) ∙ whole)
-    (λ opened. write-sound sheet bank frame keeps fitting whole (opened .all))
-    (clear-sound sheet bank keeps fitting whole)
-    (λ opened none. ap (λ (stop : ℕ). bankSound sheet (stored bank (runStores frame (firstPlace sheet frame) stop))) (sym (stops-at-end sheet bank frame none))
-    ∙ write-sound sheet bank frame keeps fitting whole (opened .all))
+acted-sound given frame buffer passed =
+    judged-cases given frame (λ judged. bankSound (given .sheet) (actedOn judged given frame buffer .bank) ≡ true)
+    (λ judged silent. ap (bankSound (given .sheet)) (quiet-changes-nothing judged given frame buffer silent) ∙ passed .whole)
+    (λ opened. write-sound given frame passed (opened .all))
+    (clear-sound given passed)
+    (λ opened none. ap (λ (stop : ℕ). bankSound (given .sheet) (stored (given .bank) (runStores frame (firstPlace (given .sheet) frame) stop)))
+    (sym (stops-at-end given frame none))
+    ∙ write-sound given frame passed (opened .all))
 
 pub stays-sound : (given : Lent) (frame buffer : List ℕ) → bankSound (given .sheet) (given .bank) ≡ true
     → bankSound (given .sheet) (answerOutcome given frame buffer .bank) ≡ true
 stays-sound given frame buffer whole =
     outcome-cases given frame buffer (λ o. bankSound (given .sheet) (o .bank) ≡ true) (λ refusal. whole)
-    (λ found. acted-sound (given .sheet) (given .bank) frame buffer (found .right) (found .fitting) (found .whole))
+    (λ found. acted-sound given frame buffer found)

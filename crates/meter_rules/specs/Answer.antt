@@ -62,11 +62,11 @@ abbrev pub answeredBy : ℕ → ℕ → ℕ → Answered
 answeredBy code length rate = cond (eqb code 0) (cond (eqb length 0) Silence (Reply length rate)) (Error code rate)
 
 -- what becomes of a judged frame; rule R7: the rate is the bank's before the frame
-unfoldable pub actedOn : Judged → List ℕ → List ℕ → List ℕ → List ℕ → Outcome
-actedOn judged sheet bank frame buffer =
-    outcome (answeredBy (errorCode judged) (length (replyTo judged bank frame)) (rateOf sheet bank))
-    (stored bank (storesOf judged sheet frame))
-    (laid (replyTo judged bank frame) buffer)
+unfoldable pub actedOn : Judged → Lent → List ℕ → List ℕ → Outcome
+actedOn judged given frame buffer =
+    outcome (answeredBy (errorCode judged) (length (replyTo judged (given .bank) frame)) (rateOf (given .sheet) (given .bank)))
+    (stored (given .bank) (storesOf judged (given .sheet) frame))
+    (laid (replyTo judged (given .bank) frame) buffer)
 
 -- rules N50 and N51: whether the call is refused
 abbrev pub frameRefusals : Lent → List ℕ → List (Case Refusal)
@@ -78,7 +78,7 @@ frameCheck given buffer = answerBy (frameRefusals given buffer)
 -- rule N52, the effect of a call with one frame: what the judged frame stores, none where the call is refused
 abbrev pub frameEffect : Lent → List ℕ → List ℕ → List Store
 frameEffect given frame buffer =
-    effectOf (frameCheck given buffer) (storesOf (judgedFrame (given .sheet) (given .bank) frame) (given .sheet) frame)
+    effectOf (frameCheck given buffer) (storesOf (judgedFrame given frame) (given .sheet) frame)
 
 -- rule N52: a refusal writes nothing
 abbrev pub unlessRefused : Answer → Lent → List ℕ → Outcome → Outcome
@@ -88,5 +88,4 @@ unlessRefused (answer.Refused refusal) given buffer acted = outcome (Refused ref
 -- unless the call is refused the frame is judged, and acted on
 unfoldable pub answerOutcome : Lent → List ℕ → List ℕ → Outcome
 answerOutcome given frame buffer =
-    unlessRefused (frameCheck given buffer) given buffer
-    (actedOn (judgedFrame (given .sheet) (given .bank) frame) (given .sheet) (given .bank) frame buffer)
+    unlessRefused (frameCheck given buffer) given buffer (actedOn (judgedFrame given frame) given frame buffer)

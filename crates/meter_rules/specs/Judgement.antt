@@ -15,4 +15,4 @@ judgementBy (answer.Refused refusal) judged = Refused refusal
 
 -- rule N50 without the buffer: sheet and bank are checked first, then the frame is judged
 unfoldable pub judgement : Lent → List ℕ → Judgement
-judgement given frame = judgementBy (checkAnswer given) (judgedFrame (given .sheet) (given .bank) frame)
+judgement given frame = judgementBy (checkAnswer given) (judgedFrame given frame)

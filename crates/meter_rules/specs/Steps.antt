@@ -3,10 +3,11 @@ use Prim.Native.Nat.{ℕ, _+_, _*_}
 use mathlib.Core.Bool.{Bool, not, cond, _&&_, _||_}
 use mathlib.Core.List.{List, [], _∷_}
 use lib.Dec.{ltb, eqb}
-use lib.ListN.{length, drop}
+use lib.ListN.{length}
 use Rattle.check_value.specs.Frame.{passes}
 use Rattle.sheet_rules.specs.Rows.{clearAddress}
 use Rattle.bank_rules.specs.Bank.{stationOf}
+use Rattle.bank_rules.specs.Calls.{Lent}
 use Rattle.lists.specs.Cases.{Case, when, firstCase}
 use Rattle.meter_rules.specs.declared.Judged.{Judged}
 use Rattle.meter_rules.specs.declared.Judged.the-variants.{FailsCheck, OtherStation, FunctionNotAllowed, WrongLength, WrongCount, WrongAddress, WrongValue, BadItem, GoodRead, GoodClear, GoodWrite}
@@ -21,8 +22,8 @@ abbrev pub failsCheck : List ℕ → Bool
 failsCheck frame = not (passes frame)
 
 -- step 2: rules J20 and J21
-abbrev pub otherStation : List ℕ → List ℕ → List ℕ → Bool
-otherStation sheet bank frame = not (eqb (station frame) (stationOf sheet bank))
+abbrev pub otherStation : Lent → List ℕ → Bool
+otherStation given frame = not (eqb (station frame) (stationOf (given .sheet) (given .bank)))
 
 -- rules J30 and S13: a function is one of the four, and the sheet allows it
 abbrev pub codeAllowed : List ℕ → ℕ → Bool
@@ -61,20 +62,20 @@ abbrev pub wrongValue : List ℕ → Bool
 wrongValue frame = eqb (function frame) clears && not (eqb (second frame) 0)
 
 -- step 7 for a write: rule J71
-abbrev pub badWrite : List ℕ → List ℕ → List ℕ → Bool
-badWrite sheet bank frame = isWrite frame && someBad sheet bank frame
+abbrev pub badWrite : Lent → List ℕ → Bool
+badWrite given frame = isWrite frame && someBad given frame
 
 -- rule J1: the first step whose condition holds says where the frame stops
-abbrev pub steps : List ℕ → List ℕ → List ℕ → List (Case Judged)
-steps sheet bank frame =
+abbrev pub steps : Lent → List ℕ → List (Case Judged)
+steps given frame =
     when (failsCheck frame) FailsCheck
-    ∷ when (otherStation sheet bank frame) OtherStation
-    ∷ when (functionNotAllowed sheet frame) FunctionNotAllowed
+    ∷ when (otherStation given frame) OtherStation
+    ∷ when (functionNotAllowed (given .sheet) frame) FunctionNotAllowed
     ∷ when (wrongLength frame) WrongLength
     ∷ when (wrongCount frame) WrongCount
-    ∷ when (wrongAddress sheet frame) WrongAddress
+    ∷ when (wrongAddress (given .sheet) frame) WrongAddress
     ∷ when (wrongValue frame) WrongValue
-    ∷ when (badWrite sheet bank frame) (BadItem (firstPlace sheet frame) (stopPlace sheet bank frame))
+    ∷ when (badWrite given frame) (BadItem (firstPlace (given .sheet) frame) (stopPlace given frame))
     ∷ []
 
 -- rule J80, a frame that no step stops: a read, a clear or a write
@@ -84,5 +85,5 @@ goodFrame sheet frame =
     (cond (eqb (function frame) clears) GoodClear (GoodWrite (firstPlace sheet frame) (count frame)))
 
 -- rules J1 and J80: where a frame stops, or that it is good
-unfoldable pub judgedFrame : List ℕ → List ℕ → List ℕ → Judged
-judgedFrame sheet bank frame = firstCase (steps sheet bank frame) (goodFrame sheet frame)
+unfoldable pub judgedFrame : Lent → List ℕ → Judged
+judgedFrame given frame = firstCase (steps given frame) (goodFrame (given .sheet) frame)

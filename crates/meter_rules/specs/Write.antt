@@ -10,6 +10,7 @@ use Rattle.sheet_rules.specs.Rules.{isPair}
 use Rattle.sheet_rules.specs.Lookup.{liesIn, placeIn}
 use Rattle.bank_rules.specs.Stores.{Store, wordOf}
 use Rattle.bank_rules.specs.Bank.{goodBy}
+use Rattle.bank_rules.specs.Calls.{Lent}
 use Rattle.frame.specs.Frame.{start, count, sent}
 
 -- the place of the run's first address; the places of a run of addresses that all lie in areas follow each other from there
@@ -33,8 +34,8 @@ unfoldable pub badItem : ℕ → ℕ → List ℕ → List ℕ → Item → Bool
 badItem first many bank frame item = touched first many item && not (goodBy (wouldBe first many bank frame) item)
 
 -- rules K4 and J71: some item is bad
-unfoldable pub someBad : List ℕ → List ℕ → List ℕ → Bool
-someBad sheet bank frame = some (badItem (firstPlace sheet frame) (count frame) bank frame) (items sheet)
+unfoldable pub someBad : Lent → List ℕ → Bool
+someBad given frame = some (badItem (firstPlace (given .sheet) frame) (count frame) (given .bank) frame) (items (given .sheet))
 
 -- rule K5, the first place of the first bad item; the end of the run where no item is bad
 unfoldable pub stopIn : ℕ → ℕ → List ℕ → List ℕ → List Item → ℕ
@@ -42,8 +43,8 @@ stopIn first many bank frame [] = first + many
 stopIn first many bank frame (item ∷ behind) =
     cond (badItem first many bank frame item) (item .place) (stopIn first many bank frame behind)
 
-unfoldable pub stopPlace : List ℕ → List ℕ → List ℕ → ℕ
-stopPlace sheet bank frame = stopIn (firstPlace sheet frame) (count frame) bank frame (items sheet)
+unfoldable pub stopPlace : Lent → List ℕ → ℕ
+stopPlace given frame = stopIn (firstPlace (given .sheet) frame) (count frame) (given .bank) frame (items (given .sheet))
 
 -- the k-th word sent, at its place
 abbrev pub runStore : List ℕ → ℕ → ℕ → Store

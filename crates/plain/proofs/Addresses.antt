@@ -1,14 +1,13 @@
 -- Condition 6 in plain numbers is what step 6 tests. Assumes nothing.
 use mathlib.Core.Path.{_≡_, refl, sym, ap, ap₂, subst, _∙_}
-use mathlib.Core.Bool.{Bool, true, false, not, cond, _&&_, _||_, true≢false}
+use mathlib.Core.Bool.{Bool, true, false, not, cond, _&&_, _||_}
 use mathlib.Core.List.{List}
 use mathlib.Core.Logic.{_⊎_, inl, inr}
 use Prim.Native.Nat.{ℕ, zero, suc, _+_, _≤_, _<_}
 use native.Mathlib.Omega.{arith}
-use lib.Dec.{leb, ltb, eqb}
+use lib.Dec.{ltb, eqb}
 use borrow.Author.Tests.{eqb-true, eq-eqb, le-ltb, ltb-false, not-false}
 use Rattle.lists.specs.Lists.{each, upFrom}
-use Rattle.sheet_rules.specs.declared.Lies.the-variants.{At}
 use Rattle.sheet_rules.specs.Rows.{areas, clearAddress}
 use Rattle.sheet_rules.specs.Rules.{sound}
 use Rattle.sheet_rules.specs.Lookup.{liesIn, placeIn}
@@ -19,7 +18,7 @@ use Rattle.sheet_rules.specs.Runs.{permits, opens, allOpen}
 use Rattle.frame.specs.Frame.{function, start, second, isWrite, count, run}
 use Rattle.meter_rules.specs.Steps.{wrongAddress}
 use Rattle.meter_rules.proofs.Written.{each-open}
-use Rattle.plain.specs.Numbers.{Bytes, byte, word}
+use Rattle.plain.specs.Numbers.{Bytes, byte}
 use Rattle.plain.specs.Sheet.{LiesAt}
 use Rattle.plain.specs.Frame.{registers, address, Readable, Writable, RightAddress}
 use Rattle.plain.proofs.Rows.{word-same, lies-plain, plain-lies}

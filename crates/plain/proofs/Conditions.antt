@@ -1,20 +1,21 @@
 -- Conditions 1 to 6 in plain numbers are what the steps of judgement test. Assumes nothing.
-use mathlib.Core.Path.{_≡_, refl, sym, ap, ap₂, subst, _∙_}
+use mathlib.Core.Path.{_≡_, refl, sym, ap, ap₂, _∙_}
 use mathlib.Core.Bool.{Bool, true, false, not, cond, _&&_, _||_, true≢false, false≢true}
 use mathlib.Core.List.{List}
 use mathlib.Core.Logic.{_⊎_, inl, inr}
-use Prim.Native.Nat.{ℕ, _+_, _-_, _*_, _/_, _%_, _≤_, _<_}
+use Prim.Native.Nat.{ℕ, _+_, _-_, _*_, _/_, _%_, _≤_}
 use native.Mathlib.Omega.{arith}
 use lib.Dec.{leb, ltb, eqb}
-use lib.ListN.{length, take}
-use borrow.Author.Tests.{eqb-true, eqb-false, eq-eqb, ne-eqb, leb-true, le-leb, lt-leb, leb-false, ltb-true, ltb-false, lt-ltb, le-ltb, not-true, not-false}
-use Rattle.words.specs.Words.{byteAt, wordAt}
+use lib.ListN.{length}
+use borrow.Author.Tests.{eqb-true, eqb-false, eq-eqb, ne-eqb, leb-true, le-leb, ltb-true, ltb-false, le-ltb, not-false}
+use Rattle.words.specs.Words.{wordAt}
 use Rattle.check_value.specs.Check.{valueOf}
 use Rattle.check_value.specs.Frame.{passes, held, covered}
-use Rattle.sheet_rules.specs.Rows.{functions, clearAddress}
-use Rattle.sheet_rules.specs.Rules.{allowed, bitOf03, bitOf05, bitOf06, bitOf10}
+use Rattle.sheet_rules.specs.Rows.{functions}
+use Rattle.sheet_rules.specs.Rules.{allowed}
 use Rattle.bank_rules.specs.Bank.{stationOf}
-use Rattle.frame.specs.Frame.{station, function, start, second, byteCount}
+use Rattle.bank_rules.specs.Calls.{Lent}
+use Rattle.frame.specs.Frame.{station, function, second, byteCount}
 use Rattle.meter_rules.specs.Steps.{functionAllowed, failsCheck, otherStation, functionNotAllowed, wrongLength, wrongCount}
 use Rattle.lists.proofs.Tests.{first-of, second-of}
 use Rattle.plain.specs.Numbers.{byte, word}
@@ -60,14 +61,14 @@ pub whole-tells : (frame : List ℕ) → Tells (failsCheck frame) (Whole frame)
 whole-tells frame = by-test (whole-so frame) (so-whole frame)
 
 -- 2
-pub station-tells : (sheet bank frame : List ℕ) → Tells (otherStation sheet bank frame) (OurStation sheet bank frame)
-station-tells sheet bank frame =
+pub station-tells : (given : Lent) (frame : List ℕ) → Tells (otherStation given frame) (OurStation given frame)
+station-tells given frame =
     by-test
-    (λ e. eqb-true (station frame) (stationOf sheet bank) e ∙ sym same)
-    (λ e. eq-eqb (station frame) (stationOf sheet bank) (e ∙ same))
+    (λ e. eqb-true (station frame) (stationOf (given .sheet) (given .bank)) e ∙ sym same)
+    (λ e. eq-eqb (station frame) (stationOf (given .sheet) (given .bank)) (e ∙ same))
   where
-    same : word bank (2 * word sheet 16) ≡ stationOf sheet bank
-    same = word-same bank (2 * word sheet 16) ∙ ap (λ (n : ℕ). wordAt bank (2 * n)) (word-same sheet 16)
+    same : word (given .bank) (2 * word (given .sheet) 16) ≡ stationOf (given .sheet) (given .bank)
+    same = word-same (given .bank) (2 * word (given .sheet) 16) ∙ ap (λ (n : ℕ). wordAt (given .bank) (2 * n)) (word-same (given .sheet) 16)
 
 -- 3: one of the four functions, and its bit
 pick : (a b c d : Bool) → (a || b || c || d) ≡ true → (a ≡ true) ⊎ (b ≡ true) ⊎ (c ≡ true) ⊎ (d ≡ true)

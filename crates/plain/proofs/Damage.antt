@@ -1,4 +1,4 @@
--- Damage in plain numbers is damage as the check value's law has it, and a frame so sent passes. Assumes nothing.
+-- Damage in plain numbers is damage as the check value's law has it, both ways, and a frame so sent passes. Assumes nothing.
 use mathlib.Core.Path.{_≡_, refl, sym, ap, ap₂, subst, _∙_}
 use mathlib.Core.Bool.{Bool, true, false, xor, cond, true≢false, false≢true}
 use mathlib.Core.Logic.{_⊎_, inl, inr}
@@ -170,11 +170,11 @@ unfolding xor
 no-xor true e = false≢true e
 no-xor false e = false≢true e
 
-module _ (sent received : List ℕ) (damage : Damage sent received) where
+module _ (sent received : List ℕ) (same-length : length received ≡ length sent) where
   bits : (k : ℕ) → k < 8 * length sent
       → xor (getD (wire sent) k false) (getD (wire received) k false) ≡ xor (eqb (bit sent k) 1) (eqb (bit received k) 1)
   bits k less =
-      ap₂ xor (wire-bit sent k less) (wire-bit received k (omega (arith, damage .sameLength)))
+      ap₂ xor (wire-bit sent k less) (wire-bit received k (omega (arith, same-length)))
 
   place-changed : (p : ℕ) → Among p (changed sent received) → Changed sent received p
   unfolding changed
@@ -194,17 +194,20 @@ module _ (sent received : List ℕ) (damage : Damage sent received) where
   changed-place k is =
       let less = is .0 in
       subst (λ (n : ℕ). Among n (changed sent received)) (zero-add k)
-      (at-differs 0 (wire sent) (wire received) k (omega (arith, wire-length sent)) (omega (arith, wire-length received, damage .sameLength))
+      (at-differs 0 (wire sent) (wire received) k (omega (arith, wire-length sent)) (omega (arith, wire-length received, same-length))
       (bits k less ∙ unequal (bit sent k) (bit received k) (omega arith) (omega arith) (is .1)))
 
-  all-within : (first : ℕ) (places : List ℕ) → ((p : ℕ) → Among p places → (first ≤ p) × (p < first + 16)) → allWithin first places
-  unfolding allWithin
-  all-within first [] each = tt
-  all-within first (p ∷ places) each = (each p here .0, each p here .1, all-within first places (λ q m. each q (there m)))
+-- ---- .. in plain numbers, and so as the law has it
 
-  some-place : (places : List ℕ) {p : ℕ} → Among p places → 1 ≤ length places
-  some-place (p ∷ places) m = omega arith
+all-within : (first : ℕ) (places : List ℕ) → ((p : ℕ) → Among p places → (first ≤ p) × (p < first + 16)) → allWithin first places
+unfolding allWithin
+all-within first [] each = tt
+all-within first (p ∷ places) each = (each p here .0, each p here .1, all-within first places (λ q m. each q (there m)))
 
+some-place : (places : List ℕ) {p : ℕ} → Among p places → 1 ≤ length places
+some-place (p ∷ places) m = omega arith
+
+module _ (sent received : List ℕ) (damage : Damage sent received) where
   few-or-run : (length (changed sent received) ≤ 3) ⊎ WithinOneRun (changed sent received)
   unfolding changed WithinOneRun
   few-or-run = go (damage .fewOrOneRun)
@@ -214,13 +217,14 @@ module _ (sent received : List ℕ) (damage : Damage sent received) where
           → (length (changed sent received) ≤ 3) ⊎ WithinOneRun (changed sent received)
       go (inl (a, b, c, only)) =
           inl (no-more 0 (changed sent received) (a ∷ b ∷ c ∷ []) (differing-rises 0 (wire sent) (wire received))
-          (λ p m. one-of p (only p (place-changed p m))))
+          (λ p m. one-of p (only p (place-changed sent received (damage .sameLength) p m))))
         where
           one-of : (p : ℕ) → (p ≡ a) ⊎ (p ≡ b) ⊎ (p ≡ c) → Among p (a ∷ b ∷ c ∷ [])
           one-of p (inl e) = among-same e
           one-of p (inr (inl e)) = there (among-same e)
           one-of p (inr (inr e)) = there (there (among-same e))
-      go (inr (first, only)) = inr (first, all-within first (changed sent received) (λ p m. only p (place-changed p m)))
+      go (inr (first, only)) =
+          inr (first, all-within first (changed sent received) (λ p m. only p (place-changed sent received (damage .sameLength) p m)))
 
   pub damage-so : Sent sent → Bytes received → Damaged sent received
   damage-so is small =
@@ -228,9 +232,54 @@ module _ (sent received : List ℕ) (damage : Damage sent received) where
         sentBytes = are-bytes sent (is .bytes);
         receivedBytes = are-bytes received small;
         sameLength = damage .sameLength;
-        atLeastOne = some-place (changed sent received) (changed-place (damage .atLeastOne .0) (damage .atLeastOne .1));
+        atLeastOne = some-place (changed sent received)
+            (changed-place sent received (damage .sameLength) (damage .atLeastOne .0) (damage .atLeastOne .1));
         fewOrOneRun = few-or-run;
       }
+
+-- ---- .. as the law has it, and so in plain numbers
+
+first-place : (places : List ℕ) → 1 ≤ length places → (p : ℕ) × Among p places
+first-place [] some = absurd (omega arith)
+first-place (p ∷ places) some = (p, here)
+
+one-of-three : (places : List ℕ) → length places ≤ 3 → {k : ℕ} → Among k places
+    → (k ≡ getD places 0 0) ⊎ (k ≡ getD places 1 0) ⊎ (k ≡ getD places 2 0)
+one-of-three (a ∷ places) few here = inl refl
+one-of-three (a ∷ b ∷ places) few (there here) = inr (inl refl)
+one-of-three (a ∷ b ∷ c ∷ places) few (there (there here)) = inr (inr refl)
+one-of-three (a ∷ b ∷ c ∷ d ∷ places) few (there (there (there m))) = absurd (omega arith)
+
+in-run : (first : ℕ) (places : List ℕ) → allWithin first places → {k : ℕ} → Among k places → (first ≤ k) × (k < first + 16)
+unfolding allWithin
+in-run first (p ∷ places) within here = (within .0, within .1)
+in-run first (p ∷ places) within (there m) = in-run first places (within .2) m
+
+pub so-damage : {sent received : List ℕ} → Damaged sent received → Damage sent received
+unfolding WithinOneRun
+so-damage {sent} {received} damaged =
+    record {
+      sameLength = damaged .sameLength;
+      atLeastOne =
+          let found = first-place (changed sent received) (damaged .atLeastOne) in
+          (found .0, place-changed sent received (damaged .sameLength) (found .0) (found .1));
+      fewOrOneRun = go (damaged .fewOrOneRun);
+    }
+  where
+    among : (k : ℕ) → Changed sent received k → Among k (changed sent received)
+    among = changed-place sent received (damaged .sameLength)
+
+    go : (length (changed sent received) ≤ 3) ⊎ WithinOneRun (changed sent received)
+        → ((a b c : ℕ) × ((k : ℕ) → Changed sent received k → (k ≡ a) ⊎ (k ≡ b) ⊎ (k ≡ c)))
+        ⊎ ((first : ℕ) × ((k : ℕ) → Changed sent received k → (first ≤ k) × (k < first + 16)))
+    go (inl few) =
+        inl (
+          getD (changed sent received) 0 0,
+          getD (changed sent received) 1 0,
+          getD (changed sent received) 2 0,
+          λ k is. one-of-three (changed sent received) few (among k is),
+        )
+    go (inr (first, within)) = inr (first, λ k is. in-run first (changed sent received) within (among k is))
 
 -- ---- a frame so sent passes, and what arrives of it damaged does not
 

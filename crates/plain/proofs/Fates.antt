@@ -1,15 +1,12 @@
 -- What a frame gets in plain numbers is what the order of judgement gives it: over a sound sheet of bytes every frame gets one fate and no other.
 -- Assumes nothing.
-use mathlib.Core.Path.{_≡_, refl, sym, ap, subst, _∙_}
+use mathlib.Core.Path.{_≡_, refl, sym, subst, _∙_}
 use mathlib.Core.Bool.{Bool, true, false, cond, _||_, true≢false}
-use mathlib.Core.List.{List, [], _∷_}
+use mathlib.Core.List.{List}
 use mathlib.Core.Logic.{_↔_}
 use Prim.Native.Nat.{ℕ}
 use Rattle.sheet_rules.specs.Rules.{sound}
-use Rattle.lists.specs.Cases.{when, firstCase}
-use Rattle.sheet_rules.specs.declared.Purpose.the-variants.{Write}
-use Rattle.sheet_rules.specs.Runs.{allOpen}
-use Rattle.frame.specs.Frame.{isWrite, run}
+use Rattle.bank_rules.specs.Calls.{Lent}
 use Rattle.meter_rules.specs.Steps.{failsCheck, otherStation, functionNotAllowed, wrongLength, wrongCount, wrongAddress, wrongValue, badWrite}
 use Rattle.meter_rules.proofs.Soundness.{open-write}
 use Rattle.plain.specs.Numbers.{Bytes}
@@ -35,76 +32,76 @@ abbrev pub tested : Bool → Bool → Bool → Bool → Bool → Bool → Bool �
 tested a b c d e f g =
     cond a silence (cond b silence (cond c (error 1) (cond d silence (cond e (error 3) (cond f (error 2) (cond g (error 3) good))))))
 
-module _ (sheet bank frame : List ℕ) (keeps : sound sheet ≡ true) (bytes : Bytes sheet) where
+module _ (given : Lent) (frame : List ℕ) (keeps : sound (given .sheet) ≡ true) (bytes : Bytes (given .sheet)) where
   abbrev pub judgedFate : Fate
   judgedFate =
-      tested (failsCheck frame) (otherStation sheet bank frame) (functionNotAllowed sheet frame) (wrongLength frame) (wrongCount frame)
-      (wrongAddress sheet frame) (wrongValue frame || badWrite sheet bank frame)
+      tested (failsCheck frame) (otherStation given frame) (functionNotAllowed (given .sheet) frame) (wrongLength frame) (wrongCount frame)
+      (wrongAddress (given .sheet) frame) (wrongValue frame || badWrite given frame)
 
   -- the seventh test says what it should once the sixth is passed
-  value-tells-then : wrongAddress sheet frame ≡ false → Tells (wrongValue frame || badWrite sheet bank frame) (plain.RightValue sheet bank frame)
-  value-tells-then right = value-tells sheet bank frame keeps (λ write. open-write sheet bank frame write right .all)
+  value-tells-then : wrongAddress (given .sheet) frame ≡ false → Tells (wrongValue frame || badWrite given frame) (plain.RightValue given frame)
+  value-tells-then right = value-tells given frame keeps (λ write. open-write (given .sheet) frame write right .all)
 
-  pub gets-judged : {fate : Fate} → Gets sheet bank frame fate → fate ≡ judgedFate
+  pub gets-judged : {fate : Fate} → Gets given frame fate → fate ≡ judgedFate
   gets-judged (plain.notWhole a) = simp (fails (whole-tells frame) a)
-  gets-judged (plain.otherStation p a) = simp (whole-tells frame .wrongly p, fails (station-tells sheet bank frame) a)
+  gets-judged (plain.otherStation p a) = simp (whole-tells frame .wrongly p, fails (station-tells given frame) a)
   gets-judged (plain.notAllowed p q a) =
-      simp (whole-tells frame .wrongly p, station-tells sheet bank frame .wrongly q, fails (allowed-tells sheet frame) a)
+      simp (whole-tells frame .wrongly p, station-tells given frame .wrongly q, fails (allowed-tells (given .sheet) frame) a)
   gets-judged (plain.wrongLength p q r a) =
-      simp (whole-tells frame .wrongly p, station-tells sheet bank frame .wrongly q, allowed-tells sheet frame .wrongly r, fails (length-tells frame) a)
+      simp (whole-tells frame .wrongly p, station-tells given frame .wrongly q, allowed-tells (given .sheet) frame .wrongly r, fails (length-tells frame) a)
   gets-judged (plain.wrongCount p q r s a) =
       simp (
         whole-tells frame .wrongly p,
-        station-tells sheet bank frame .wrongly q,
-        allowed-tells sheet frame .wrongly r,
+        station-tells given frame .wrongly q,
+        allowed-tells (given .sheet) frame .wrongly r,
         length-tells frame .wrongly s,
         fails (count-tells frame) a,
       )
   gets-judged (plain.wrongAddress p q r s t a) =
       simp (
         whole-tells frame .wrongly p,
-        station-tells sheet bank frame .wrongly q,
-        allowed-tells sheet frame .wrongly r,
+        station-tells given frame .wrongly q,
+        allowed-tells (given .sheet) frame .wrongly r,
         length-tells frame .wrongly s,
         count-tells frame .wrongly t,
-        fails (address-tells sheet keeps bytes frame) a,
+        fails (address-tells (given .sheet) keeps bytes frame) a,
       )
   gets-judged (plain.wrongValue p q r s t u a) =
-      let right = address-tells sheet keeps bytes frame .wrongly u in
+      let right = address-tells (given .sheet) keeps bytes frame .wrongly u in
       simp (
         whole-tells frame .wrongly p,
-        station-tells sheet bank frame .wrongly q,
-        allowed-tells sheet frame .wrongly r,
+        station-tells given frame .wrongly q,
+        allowed-tells (given .sheet) frame .wrongly r,
         length-tells frame .wrongly s,
         count-tells frame .wrongly t,
         right,
         fails (value-tells-then right) a,
       )
   gets-judged (plain.allRight p q r s t u v) =
-      let right = address-tells sheet keeps bytes frame .wrongly u in
+      let right = address-tells (given .sheet) keeps bytes frame .wrongly u in
       simp (
         whole-tells frame .wrongly p,
-        station-tells sheet bank frame .wrongly q,
-        allowed-tells sheet frame .wrongly r,
+        station-tells given frame .wrongly q,
+        allowed-tells (given .sheet) frame .wrongly r,
         length-tells frame .wrongly s,
         count-tells frame .wrongly t,
         right,
         value-tells-then right .wrongly v,
       )
 
-  pub judged-gets : Gets sheet bank frame judgedFate
+  pub judged-gets : Gets given frame judgedFate
   judged-gets =
-      go (failsCheck frame) (otherStation sheet bank frame) (functionNotAllowed sheet frame) (wrongLength frame) (wrongCount frame)
-      (wrongAddress sheet frame) (wrongValue frame || badWrite sheet bank frame) refl refl refl refl refl refl refl
+      go (failsCheck frame) (otherStation given frame) (functionNotAllowed (given .sheet) frame) (wrongLength frame) (wrongCount frame)
+      (wrongAddress (given .sheet) frame) (wrongValue frame || badWrite given frame) refl refl refl refl refl refl refl
     where
       whole : Tells (failsCheck frame) (plain.Whole frame)
       whole = whole-tells frame
 
-      ours : Tells (otherStation sheet bank frame) (plain.OurStation sheet bank frame)
-      ours = station-tells sheet bank frame
+      ours : Tells (otherStation given frame) (plain.OurStation given frame)
+      ours = station-tells given frame
 
-      may : Tells (functionNotAllowed sheet frame) (plain.Allowed sheet frame)
-      may = allowed-tells sheet frame
+      may : Tells (functionNotAllowed (given .sheet) frame) (plain.Allowed (given .sheet) frame)
+      may = allowed-tells (given .sheet) frame
 
       long : Tells (wrongLength frame) (plain.RightLength frame)
       long = length-tells frame
@@ -112,12 +109,12 @@ module _ (sheet bank frame : List ℕ) (keeps : sound sheet ≡ true) (bytes : B
       counted : Tells (wrongCount frame) (plain.RightCount frame)
       counted = count-tells frame
 
-      placed : Tells (wrongAddress sheet frame) (plain.RightAddress sheet frame)
-      placed = address-tells sheet keeps bytes frame
+      placed : Tells (wrongAddress (given .sheet) frame) (plain.RightAddress (given .sheet) frame)
+      placed = address-tells (given .sheet) keeps bytes frame
 
-      go : (a b c d e f g : Bool) → failsCheck frame ≡ a → otherStation sheet bank frame ≡ b → functionNotAllowed sheet frame ≡ c → wrongLength frame ≡ d
-          → wrongCount frame ≡ e → wrongAddress sheet frame ≡ f → (wrongValue frame || badWrite sheet bank frame) ≡ g
-          → Gets sheet bank frame (tested a b c d e f g)
+      go : (a b c d e f g : Bool) → failsCheck frame ≡ a → otherStation given frame ≡ b → functionNotAllowed (given .sheet) frame ≡ c → wrongLength frame ≡ d
+          → wrongCount frame ≡ e → wrongAddress (given .sheet) frame ≡ f → (wrongValue frame || badWrite given frame) ≡ g
+          → Gets given frame (tested a b c d e f g)
       go true b c d e f g p q r s t u v = plain.notWhole (unmet whole p)
       go false true c d e f g p q r s t u v = plain.otherStation (whole .right p) (unmet ours q)
       go false false true d e f g p q r s t u v = plain.notAllowed (whole .right p) (ours .right q) (unmet may r)
@@ -134,8 +131,8 @@ module _ (sheet bank frame : List ℕ) (keeps : sound sheet ≡ true) (bytes : B
           (value-tells-then u .right v)
 
   -- both directions
-  pub gets-exactly : (fate : Fate) → Gets sheet bank frame fate ↔ (judgedFate ≡ fate)
-  gets-exactly fate = (λ gets. sym (gets-judged gets), λ e. subst (Gets sheet bank frame) e judged-gets)
+  pub gets-exactly : (fate : Fate) → Gets given frame fate ↔ (judgedFate ≡ fate)
+  gets-exactly fate = (λ gets. sym (gets-judged gets), λ e. subst (Gets given frame) e judged-gets)
 
-  pub one-fate : {one other : Fate} → Gets sheet bank frame one → Gets sheet bank frame other → one ≡ other
+  pub one-fate : {one other : Fate} → Gets given frame one → Gets given frame other → one ≡ other
   one-fate p q = gets-judged p ∙ sym (gets-judged q)

@@ -11,3 +11,4 @@ pub mod ReadOnly
 pub mod Words
 pub mod Replies
 pub mod Meets
+pub mod Witness

@@ -7,11 +7,12 @@ use mathlib.Core.List.{List}
 use Prim.Native.Nat.{ℕ, zero, suc, _+_, _-_, _*_, _/_, _%_, _≤_, _<_}
 use native.Mathlib.Omega.{arith}
 use lib.Dec.{ltb, eqb}
-use lib.ListN.{length, take, getD}
+use lib.ListN.{length, take}
 use lib.Seq.{ext-getD, getD-take, length-take-le}
 use borrow.Author.Tests.{ltb-true, ltb-false}
 use Rattle.check_value.specs.Check.{valueOf}
 use Rattle.sheet_rules.specs.Rules.{sound}
+use Rattle.bank_rules.specs.Calls.{Lent}
 use Rattle.sheet_rules.specs.declared.Purpose.the-variants.{Write}
 use Rattle.sheet_rules.specs.Runs.{allOpen}
 use Rattle.frame.specs.Frame.{run}
@@ -21,7 +22,7 @@ use Rattle.plain.specs.Sheet.{LiesAt}
 use Rattle.plain.specs.Frame as plain
 use Rattle.plain.specs.Frame.{registers, address, sentWord, Gets, Fate, silence, error, good}
 use Rattle.plain.specs.Left as left
-use Rattle.plain.specs.Left.{Left, Closed, ErrorReply, ReadReply, Echo, Answered, LetThrough, Stored, Clears, WordLeft, Leaves}
+use Rattle.plain.specs.Left.{Left, Closed, ErrorReply, ReadReply, Echo, HandsBack, LetThrough, Stored, Clears, WordLeft, Leaves}
 use Rattle.plain.proofs.Addresses.{address-tells, writes}
 use Rattle.plain.proofs.Values.{goes-at}
 use Rattle.plain.proofs.Fates.{one-fate}
@@ -111,9 +112,9 @@ module _ (frame before one other : List ℕ) (room : 100 ≤ length before) (one
   echo-once a b =
       closed-once 8 (omega arith) (omega arith) (a .closed) (b .closed) one-bytes other-bytes (λ k less. a .six k less ∙ sym (b .six k less))
 
-  read-once : {sheet bank : List ℕ} → registers frame ≤ 47 → ((k : ℕ) → k < registers frame → (place access : ℕ) × LiesAt sheet (address frame k) place access)
-      → ReadReply sheet bank frame before one → ReadReply sheet bank frame before other → one ≡ other
-  read-once {sheet} {bank} few lies a b =
+  read-once : {given : Lent} → registers frame ≤ 47 → ((k : ℕ) → k < registers frame → (place access : ℕ) × LiesAt (given .sheet) (address frame k) place access)
+      → ReadReply given frame before one → ReadReply given frame before other → one ≡ other
+  read-once {given} few lies a b =
       closed-once (5 + 2 * registers frame) (omega arith) (omega arith) (a .closed) (b .closed) one-bytes other-bytes (λ k less. at k (omega arith))
     where
       word-at : (i : ℕ) → i < registers frame → word one (3 + 2 * i) ≡ word other (3 + 2 * i)
@@ -129,25 +130,25 @@ module _ (frame before one other : List ℕ) (room : 100 ≤ length before) (one
 
 -- ---- the words of the bank
 
-module _ (sheet bank frame : List ℕ) (keeps : sound sheet ≡ true) (bytes : Bytes sheet) where
-  all-open : LetThrough sheet bank frame → allOpen Write sheet (run frame) ≡ true
+module _ (given : Lent) (frame : List ℕ) (keeps : sound (given .sheet) ≡ true) (bytes : Bytes (given .sheet)) where
+  all-open : LetThrough given frame → allOpen Write (given .sheet) (run frame) ≡ true
   all-open through =
-      open-write sheet bank frame (writes frame (through .writes)) (address-tells sheet keeps bytes frame .wrongly (through .addressed)) .all
+      open-write (given .sheet) frame (writes frame (through .writes)) (address-tells (given .sheet) keeps bytes frame .wrongly (through .addressed)) .all
 
   -- one word goes to a place
-  stored-once : (j k place : ℕ) → Stored sheet bank frame j place → Stored sheet bank frame k place → j ≡ k
+  stored-once : (j k place : ℕ) → Stored given frame j place → Stored given frame k place → j ≡ k
   stored-once j k place a b =
       let open-all = all-open (a .through) in
-      omega (arith, goes-at sheet bank frame keeps open-all j place (a .goes), goes-at sheet bank frame keeps open-all k place (b .goes))
+      omega (arith, goes-at given frame keeps open-all j place (a .goes), goes-at given frame keeps open-all k place (b .goes))
 
-  not-cleared : (k place : ℕ) → Stored sheet bank frame k place → Clears sheet bank frame place → ⊥
+  not-cleared : (k place : ℕ) → Stored given frame k place → Clears given frame place → ⊥
   not-cleared k place stored clears = go (stored .through .writes)
     where
       go : (byte frame 1 ≡ 0x06) ⊎ (byte frame 1 ≡ 0x10) → ⊥
       go (inl e) = omega (arith, e, clears .1)
       go (inr e) = omega (arith, e, clears .1)
 
-  word-once : {place v w : ℕ} → WordLeft sheet bank frame place v → WordLeft sheet bank frame place w → v ≡ w
+  word-once : {place v w : ℕ} → WordLeft given frame place v → WordLeft given frame place w → v ≡ w
   word-once {place} (left.stored j a p) (left.stored k b q) = p ∙ ap (sentWord frame) (stored-once j k place a b) ∙ sym q
   word-once {place} (left.stored j a p) (left.cleared b q) = absurd (not-cleared j place a b)
   word-once (left.stored j a p) (left.asBefore none b q) = absurd (none j a)
@@ -160,7 +161,7 @@ module _ (sheet bank frame : List ℕ) (keeps : sound sheet ≡ true) (bytes : B
 
   -- ---- all of it
 
-  module _ (before : List ℕ) (fits : length bank ≡ 2 * word sheet 10 + 2) (room : 100 ≤ length before) (one other : Left)
+  module _ (before : List ℕ) (fits : length (given .bank) ≡ 2 * word (given .sheet) 10 + 2) (room : 100 ≤ length before) (one other : Left)
       (one-bank : Bytes (one .bank)) (other-bank : Bytes (other .bank)) (one-buffer : Bytes (one .buffer)) (other-buffer : Bytes (other .buffer)) where
     same-left : one .number ≡ other .number → one .size ≡ other .size → one .rate ≡ other .rate → one .bank ≡ other .bank → one .buffer ≡ other .buffer
         → one ≡ other
@@ -169,31 +170,31 @@ module _ (sheet bank frame : List ℕ) (keeps : sound sheet ≡ true) (bytes : B
         ∙ ap₂ (λ (r : ℕ) (l : List ℕ). record { number = other .number; size = other .size; rate = r; bank = l; buffer = one .buffer }) c d
         ∙ ap (λ (l : List ℕ). record { number = other .number; size = other .size; rate = other .rate; bank = other .bank; buffer = l }) e
 
-    answered-once : (fate : Fate) → Gets sheet bank frame fate → Answered sheet bank frame before one fate → Answered sheet bank frame before other fate
+    hands-back-once : (fate : Fate) → Gets given frame fate → HandsBack given frame before one fate → HandsBack given frame before other fate
         → one .bank ≡ other .bank → one ≡ other
-    answered-once silence gets (left.quiet p) (left.quiet q) banks = p ∙ sym q
-    answered-once (error code) gets (left.erred a b c d) (left.erred e f g h) banks =
+    hands-back-once silence gets (left.quiet p) (left.quiet q) banks = p ∙ sym q
+    hands-back-once (error code) gets (left.erred a b c d) (left.erred e f g h) banks =
         same-left (a ∙ sym e) (b ∙ sym f) (c ∙ sym g) banks (error-once frame before (one .buffer) (other .buffer) room one-buffer other-buffer d h)
-    answered-once good gets (left.read is a b c d) (left.read was e f g h) banks =
+    hands-back-once good gets (left.read is a b c d) (left.read was e f g h) banks =
         same-left (a ∙ sym e) (b ∙ sym f) (c ∙ sym g) banks (reads gets)
       where
-        reads : Gets sheet bank frame good → one .buffer ≡ other .buffer
+        reads : Gets given frame good → one .buffer ≡ other .buffer
         reads (plain.allRight x y z s t right v) =
             read-once frame before (one .buffer) (other .buffer) room one-buffer other-buffer (omega (arith, right .atMost47 is, count-is))
             (λ k less. let open-one = right .read is k less in (open-one .place, open-one .access, open-one .lies)) d h
           where
             count-is : registers frame ≡ word frame 4
             count-is = ap (λ (n : ℕ). cond (eqb n 0x06) 1 (word frame 4)) is
-    answered-once good gets (left.read is a b c d) (left.echoed another e f g h) banks = absurd (another is)
-    answered-once good gets (left.echoed another a b c d) (left.read is e f g h) banks = absurd (another is)
-    answered-once good gets (left.echoed another a b c d) (left.echoed also e f g h) banks =
+    hands-back-once good gets (left.read is a b c d) (left.echoed another e f g h) banks = absurd (another is)
+    hands-back-once good gets (left.echoed another a b c d) (left.read is e f g h) banks = absurd (another is)
+    hands-back-once good gets (left.echoed another a b c d) (left.echoed also e f g h) banks =
         same-left (a ∙ sym e) (b ∙ sym f) (c ∙ sym g) banks (echo-once frame before (one .buffer) (other .buffer) room one-buffer other-buffer d h)
 
-    pub leaves-once : Leaves sheet bank frame before one → Leaves sheet bank frame before other → one ≡ other
+    pub leaves-once : Leaves given frame before one → Leaves given frame before other → one ≡ other
     leaves-once a b =
-        answered-once (a .fate) (a .gets) (a .answered)
-        (subst (Answered sheet bank frame before other) (one-fate sheet bank frame keeps bytes (b .gets) (a .gets)) (b .answered))
+        hands-back-once (a .fate) (a .gets) (a .handsBack)
+        (subst (HandsBack given frame before other) (one-fate given frame keeps bytes (b .gets) (a .gets)) (b .handsBack))
         (ext-getD 0 (one .bank) (other .bank) (a .bankSize ∙ sym (b .bankSize))
-        (λ k less. words-same (one .bank) (other .bank) one-bank other-bank 0 (word sheet 10 + 1)
+        (λ k less. words-same (one .bank) (other .bank) one-bank other-bank 0 (word (given .sheet) 10 + 1)
         (λ i inside. subst (λ (n : ℕ). word (one .bank) n ≡ word (other .bank) n) (let same : 2 * i ≡ 0 + 2 * i = omega arith in same)
         (word-once (a .words i) (b .words i))) k (omega arith) (omega (arith, a .bankSize, fits, less))))

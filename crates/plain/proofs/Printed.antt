@@ -1,11 +1,11 @@
 -- Each row of the makers' maps is kept as printed. Assumes nothing.
-use mathlib.Core.Path.{_≡_, refl, sym, ap, ap₂, subst, _∙_}
+use mathlib.Core.Path.{_≡_, refl, sym, ap, subst, _∙_}
 use mathlib.Core.Bool.{Bool, true, false, not, _&&_, _||_, true≢false}
 use mathlib.Core.Logic.{inl, inr}
 use mathlib.Core.List.{List, [], _∷_}
 use Prim.Native.Nat.{ℕ, _+_, _-_, _*_, _/_, _%_, _≤_, _<_}
 use native.Mathlib.Omega.{arith}
-use lib.Dec.{T, leb, ltb, eqb}
+use lib.Dec.{T, leb, ltb}
 use lib.Pow.{areBytes}
 use borrow.Author.Tests.{eq-eqb, leb-true, ltb-true}
 use Rattle.words.proofs.Small.{tested-bytes}
@@ -19,57 +19,59 @@ use Rattle.sheet_rules.specs.Rows.{areas, items, functions}
 use Rattle.sheet_rules.specs.Rules.{sound, isPair, lengthOf, placeInArea, pairWithin, pairRule, kindRule, boundsRule, lowHighRule, coverRule, itemsSound}
 use Rattle.sheet_rules.specs.Lookup.{liesIn, addressOf}
 use Rattle.sheet_rules.proofs.Sound.{sound-parts, sound-areas}
-use Rattle.sheet_rules.proofs.Addresses.{address-there, lies-there, address-lies, next-consecutive, lies-word}
+use Rattle.sheet_rules.proofs.Addresses.{address-there, lies-there, address-lies, lies-word}
+use Rattle.bank_rules.specs.Calls.{Lent}
 use Rattle.bank_rules.proofs.Held.{holds-first, holds-second, held-below, held-writable, writable-access}
-use Rattle.makers.specs.Maps.{Row, Map}
+use Rattle.makers.specs.Maps.{Row}
 use Rattle.makers.specs.Sheets.{sheetOf}
-use Rattle.makers.proofs.Sheets.{Meter, ux15-25, aswe-40, aswe-50, aswe-80, mapOf, Said, saidBy, meant, says, rowOf, rowsOf, sheet-sound}
+use Rattle.makers.proofs.Sheets.{Meter, ux15-25, aswe-40, aswe-50, aswe-80, mapOf, countsOf, Said, saidBy, meant, says, rowOf, rowsOf, sheet-sound}
 use Rattle.plain.specs.Numbers.{Bytes, word}
 use Rattle.plain.specs.Sheet.{LiesAt}
 use Rattle.plain.specs.Frame as plain
-use Rattle.plain.specs.Frame.{Set, WouldBe, ValueWouldBe}
+use Rattle.plain.specs.Frame.{Set, WouldBe}
 use Rattle.plain.specs.Registers.{writeOne, TakenWithin, AsPrinted}
-use Rattle.plain.proofs.Rows.{word-same, lies-plain, plain-lies}
+use Rattle.plain.proofs.Rows.{word-same, lies-plain}
 use Rattle.plain.proofs.Registers.{goes, goes-here, lies-once, sent-same, taken-within}
 
-module _ (sheet bank : List ℕ) (keeps : sound sheet ≡ true) (bytes : Bytes sheet) (set06 : Set (word sheet 12) 4) (item : Item)
-    (among : Among item (items sheet)) where
+module _ (given : Lent) (keeps : sound (given .sheet) ≡ true) (bytes : Bytes (given .sheet)) (set06 : Set (word (given .sheet) 12) 4) (item : Item)
+    (among : Among item (items (given .sheet))) where
   abbrev first : ℕ
-  first = addressOf (areas sheet) (item .place)
+  first = addressOf (areas (given .sheet)) (item .place)
 
   -- ---- where an item lies
 
-  item-lies : liesIn (areas sheet) first ≡ At (item .place) 3
+  item-lies : liesIn (areas (given .sheet)) first ≡ At (item .place) 3
   item-lies =
-      let found = address-lies sheet keeps (item .place) (held-below sheet keeps (item .place) among (holds-first item (item .place) refl)) in
+      let found = address-lies (given .sheet) keeps (item .place) (held-below (given .sheet) keeps (item .place) among (holds-first item (item .place) refl)) in
       found .1 ∙ ap (At (item .place))
-      (writable-access sheet keeps first (item .place) (found .0) (found .1) (held-writable sheet keeps (item .place) among (holds-first item (item .place) refl)))
+      (writable-access (given .sheet) keeps first (item .place) (found .0) (found .1)
+      (held-writable (given .sheet) keeps (item .place) among (holds-first item (item .place) refl)))
 
   small : first ≤ 0xFFFF
-  small = omega (arith, lies-word sheet bytes first (item .place) 3 item-lies)
+  small = omega (arith, lies-word (given .sheet) bytes first (item .place) 3 item-lies)
 
-  pair-rule : pairRule (areas sheet) item ≡ true
+  pair-rule : pairRule (areas (given .sheet)) item ≡ true
   unfolding itemsSound
   pair-rule =
-      each-among (pairRule (areas sheet)) among
-      (second-of (each kindRule (items sheet) && each boundsRule (items sheet) && each lowHighRule (items sheet) && coverRule sheet)
-      (each (pairRule (areas sheet)) (items sheet)) (sound-parts sheet keeps .item-rows))
+      each-among (pairRule (areas (given .sheet))) among
+      (second-of (each kindRule (items (given .sheet)) && each boundsRule (items (given .sheet)) && each lowHighRule (items (given .sheet)) && coverRule (given .sheet))
+      (each (pairRule (areas (given .sheet))) (items (given .sheet))) (sound-parts (given .sheet) keeps .item-rows))
 
   module _ (pair : item .kind ≡ 2) where
-    next-lies : liesIn (areas sheet) (first + 1) ≡ At (item .place + 1) 3
-    next-lies = go (some-among (λ (area : Area). placeInArea (item .place) area && placeInArea (item .place + 1) area) (areas sheet) within)
+    next-lies : liesIn (areas (given .sheet)) (first + 1) ≡ At (item .place + 1) 3
+    next-lies = go (some-among (λ (area : Area). placeInArea (item .place) area && placeInArea (item .place + 1) area) (areas (given .sheet)) within)
       where
         left : (b c : Bool) → b ≡ true → (not b || c) ≡ true → c ≡ true
         left true c e f = f
         left false c e f = absurd (true≢false (sym e))
 
-        within : pairWithin (areas sheet) (item .place) ≡ true
-        within = left (isPair item) (pairWithin (areas sheet) (item .place)) (eq-eqb (item .kind) 2 pair) pair-rule
+        within : pairWithin (areas (given .sheet)) (item .place) ≡ true
+        within = left (isPair item) (pairWithin (areas (given .sheet)) (item .place)) (eq-eqb (item .kind) 2 pair) pair-rule
 
-        go : (area : Area) × Among area (areas sheet) × ((placeInArea (item .place) area && placeInArea (item .place + 1) area) ≡ true)
-            → liesIn (areas sheet) (first + 1) ≡ At (item .place + 1) 3
+        go : (area : Area) × Among area (areas (given .sheet)) × ((placeInArea (item .place) area && placeInArea (item .place + 1) area) ≡ true)
+            → liesIn (areas (given .sheet)) (first + 1) ≡ At (item .place + 1) 3
         go (area, m, both) =
-            let rules = sound-areas sheet keeps in
+            let rules = sound-areas (given .sheet) keeps in
             let p = item .place in
             let one = first-of (placeInArea p area) (placeInArea (p + 1) area) both in
             let two = second-of (placeInArea p area) (placeInArea (p + 1) area) both in
@@ -80,53 +82,53 @@ module _ (sheet bank : List ℕ) (keeps : sound sheet ≡ true) (bytes : Bytes s
             let there-now = lies-there (first + 1) m (rules .ascend) (omega (arith, at, low)) (omega (arith, at, low, top)) in
             let place : area .place + (first + 1 - area .first) ≡ p + 1 = omega (arith, at, low) in
             let lies = there-now ∙ ap (λ (n : ℕ). At n (area .access)) place in
-            lies ∙ ap (At (p + 1)) (writable-access sheet keeps (first + 1) (p + 1) (area .access) lies
-            (held-writable sheet keeps (p + 1) among (holds-second item (p + 1) (eq-eqb (item .kind) 2 pair) refl)))
+            lies ∙ ap (At (p + 1)) (writable-access (given .sheet) keeps (first + 1) (p + 1) (area .access) lies
+            (held-writable (given .sheet) keeps (p + 1) among (holds-second item (p + 1) (eq-eqb (item .kind) 2 pair) refl)))
 
     small-next : first + 1 ≤ 0xFFFF
-    small-next = omega (arith, lies-word sheet bytes (first + 1) (item .place + 1) 3 next-lies)
+    small-next = omega (arith, lies-word (given .sheet) bytes (first + 1) (item .place + 1) 3 next-lies)
 
   -- ---- the word that would be at the place written, and at another
 
-  module _ (at v q : ℕ) (at-small : at ≤ 0xFFFF) (v-small : v < 65536) (lies : LiesAt sheet at q 3) where
-    sent-there : WouldBe sheet bank (writeOne sheet bank at v) q v
+  module _ (at v q : ℕ) (at-small : at ≤ 0xFFFF) (v-small : v < 65536) (lies : LiesAt (given .sheet) at q 3) where
+    sent-there : WouldBe given (writeOne given at v) q v
     sent-there =
-        plain.written 0 (goes-here sheet bank keeps bytes at v at-small v-small set06 q lies) (sym (sent-same sheet bank at v at-small v-small))
+        plain.written 0 (goes-here given keeps bytes at v at-small v-small set06 q lies) (sym (sent-same given at v at-small v-small))
 
-    kept-elsewhere : (other : ℕ) → (other ≡ q → ⊥) → WouldBe sheet bank (writeOne sheet bank at v) other (word bank (2 * other))
+    kept-elsewhere : (other : ℕ) → (other ≡ q → ⊥) → WouldBe given (writeOne given at v) other (word (given .bank) (2 * other))
     kept-elsewhere other apart =
-        plain.kept (λ k is. apart (goes sheet bank keeps bytes at v at-small v-small set06 q lies k other is)) refl
+        plain.kept (λ k is. apart (goes given keeps bytes at v at-small v-small set06 q lies k other is)) refl
 
   -- ---- the three ways to write to an item
 
-  pub word-taken : (item .kind ≡ 2 → ⊥) → (v : ℕ) → v < 65536 → TakenWithin sheet bank first v (item .kind) (item .low) (item .high) v
+  pub word-taken : (item .kind ≡ 2 → ⊥) → (v : ℕ) → v < 65536 → TakenWithin given first v (item .kind) (item .low) (item .high) v
   word-taken single v v-small =
-      let lies = lies-plain sheet keeps item-lies in
-      taken-within sheet bank keeps bytes first v small v-small set06 (item .place) lies item among
-      (0, inl (goes-here sheet bank keeps bytes first v small v-small set06 (item .place) lies)) v
+      let lies = lies-plain (given .sheet) keeps item-lies in
+      taken-within given keeps bytes first v small v-small set06 (item .place) lies item among
+      (0, inl (goes-here given keeps bytes first v small v-small set06 (item .place) lies)) v
       (plain.ofWord single (sent-there first v (item .place) small v-small lies))
 
-  pub upper-taken : item .kind ≡ 2 → (v place : ℕ) → v < 65536 → LiesAt sheet (first + 1) place 3
-      → TakenWithin sheet bank first v (item .kind) (item .low) (item .high) (65536 * v + word bank (2 * place))
+  pub upper-taken : item .kind ≡ 2 → (v place : ℕ) → v < 65536 → LiesAt (given .sheet) (first + 1) place 3
+      → TakenWithin given first v (item .kind) (item .low) (item .high) (65536 * v + word (given .bank) (2 * place))
   upper-taken pair v place v-small next =
-      let lies = lies-plain sheet keeps item-lies in
-      let same : place ≡ item .place + 1 = lies-once sheet keeps next (lies-plain sheet keeps (next-lies pair)) in
-      taken-within sheet bank keeps bytes first v small v-small set06 (item .place) lies item among
-      (0, inl (goes-here sheet bank keeps bytes first v small v-small set06 (item .place) lies)) (65536 * v + word bank (2 * place))
-      (plain.ofPair pair v (word bank (2 * place)) (sent-there first v (item .place) small v-small lies)
-      (subst (λ (n : ℕ). WouldBe sheet bank (writeOne sheet bank first v) n (word bank (2 * place))) same
+      let lies = lies-plain (given .sheet) keeps item-lies in
+      let same : place ≡ item .place + 1 = lies-once (given .sheet) keeps next (lies-plain (given .sheet) keeps (next-lies pair)) in
+      taken-within given keeps bytes first v small v-small set06 (item .place) lies item among
+      (0, inl (goes-here given keeps bytes first v small v-small set06 (item .place) lies)) (65536 * v + word (given .bank) (2 * place))
+      (plain.ofPair pair v (word (given .bank) (2 * place)) (sent-there first v (item .place) small v-small lies)
+      (subst (λ (n : ℕ). WouldBe given (writeOne given first v) n (word (given .bank) (2 * place))) same
       (kept-elsewhere first v (item .place) small v-small lies place (λ e. omega (arith, e, same)))) refl)
 
-  pub lower-taken : item .kind ≡ 2 → (v place : ℕ) → v < 65536 → LiesAt sheet first place 3
-      → TakenWithin sheet bank (first + 1) v (item .kind) (item .low) (item .high) (65536 * word bank (2 * place) + v)
+  pub lower-taken : item .kind ≡ 2 → (v place : ℕ) → v < 65536 → LiesAt (given .sheet) first place 3
+      → TakenWithin given (first + 1) v (item .kind) (item .low) (item .high) (65536 * word (given .bank) (2 * place) + v)
   lower-taken pair v place v-small front =
-      let lies = lies-plain sheet keeps (next-lies pair) in
-      let same : place ≡ item .place = lies-once sheet keeps front (lies-plain sheet keeps item-lies) in
-      taken-within sheet bank keeps bytes (first + 1) v (small-next pair) v-small set06 (item .place + 1) lies item among
-      (0, inr (pair, goes-here sheet bank keeps bytes (first + 1) v (small-next pair) v-small set06 (item .place + 1) lies))
-      (65536 * word bank (2 * place) + v)
-      (plain.ofPair pair (word bank (2 * place)) v
-      (subst (λ (n : ℕ). WouldBe sheet bank (writeOne sheet bank (first + 1) v) n (word bank (2 * place))) same
+      let lies = lies-plain (given .sheet) keeps (next-lies pair) in
+      let same : place ≡ item .place = lies-once (given .sheet) keeps front (lies-plain (given .sheet) keeps item-lies) in
+      taken-within given keeps bytes (first + 1) v (small-next pair) v-small set06 (item .place + 1) lies item among
+      (0, inr (pair, goes-here given keeps bytes (first + 1) v (small-next pair) v-small set06 (item .place + 1) lies))
+      (65536 * word (given .bank) (2 * place) + v)
+      (plain.ofPair pair (word (given .bank) (2 * place)) v
+      (subst (λ (n : ℕ). WouldBe given (writeOne given (first + 1) v) n (word (given .bank) (2 * place))) same
       (kept-elsewhere (first + 1) v (item .place + 1) (small-next pair) v-small lies place (λ e. omega (arith, e, same))))
       (sent-there (first + 1) v (item .place + 1) (small-next pair) v-small lies) refl)
 
@@ -154,26 +156,27 @@ allows-06 aswe-40 = refl
 allows-06 aswe-50 = refl
 allows-06 aswe-80 = refl
 
--- every row of every map, whatever the bank holds
-pub as-printed : (meter : Meter) (bank : List ℕ) (row : Row) → Among row (mapOf meter .rows) → AsPrinted (sheetOf (mapOf meter)) bank row
+-- every row of every map, whatever is lent beside the sheet
+pub as-printed : (meter : Meter) (given : Lent) → given .sheet ≡ sheetOf (mapOf meter) → (row : Row) → Among row (mapOf meter .rows) → AsPrinted given row
 unfolding saidBy meant
-as-printed meter bank row m = go (row-of (areas sheet) (items sheet) (subst (Among row) (sym (ap (λ (said : Said). said .rows) (says meter))) m))
+as-printed meter given its row m = go (row-of (areas (given .sheet)) (items (given .sheet)) (subst (Among row) (sym rows) m))
   where
-    sheet : List ℕ
-    sheet = sheetOf (mapOf meter)
+    said : saidBy (given .sheet) ≡ meant (mapOf meter) (countsOf meter)
+    said = ap saidBy its ∙ says meter
 
-    set06 : Set (word (sheetOf (mapOf meter)) 12) 4
-    set06 =
-        ap (λ (n : ℕ). n / 4 % 2) (word-same (sheetOf (mapOf meter)) 12 ∙ ap (λ (said : Said). said .functions) (says meter)) ∙ allows-06 meter
+    rows : rowsOf (areas (given .sheet)) (items (given .sheet)) ≡ mapOf meter .rows
+    rows = ap (λ (s : Said). s .rows) said
 
-    go : (item : Item) × Among item (items (sheetOf (mapOf meter))) × (row ≡ rowOf (areas (sheetOf (mapOf meter))) item)
-        → AsPrinted (sheetOf (mapOf meter)) bank row
+    set06 : Set (word (given .sheet) 12) 4
+    set06 = ap (λ (n : ℕ). n / 4 % 2) (word-same (given .sheet) 12 ∙ ap (λ (s : Said). s .functions) said) ∙ allows-06 meter
+
+    go : (item : Item) × Among item (items (given .sheet)) × (row ≡ rowOf (areas (given .sheet)) item) → AsPrinted given row
     go (item, among, same) =
-        let keeps = sheet-sound meter in
-        let bytes = tested-bytes (sheetOf (mapOf meter)) (sheet-bytes meter) in
-        subst (AsPrinted (sheetOf (mapOf meter)) bank) (sym same)
+        let keeps = ap sound its ∙ sheet-sound meter in
+        let bytes = subst Bytes (sym its) (tested-bytes (sheetOf (mapOf meter)) (sheet-bytes meter)) in
+        subst (AsPrinted given) (sym same)
         record {
-          ofWord = word-taken (sheetOf (mapOf meter)) bank keeps bytes set06 item among;
-          ofUpper = upper-taken (sheetOf (mapOf meter)) bank keeps bytes set06 item among;
-          ofLower = lower-taken (sheetOf (mapOf meter)) bank keeps bytes set06 item among;
+          ofWord = word-taken given keeps bytes set06 item among;
+          ofUpper = upper-taken given keeps bytes set06 item among;
+          ofLower = lower-taken given keeps bytes set06 item among;
         }

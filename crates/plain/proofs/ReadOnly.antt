@@ -1,21 +1,22 @@
 -- What follows from what a call leaves: a word that lies in an access 1 area is as before, and a word that is not as before lies in an access 3
 -- area or is the mark. Assumes nothing.
-use mathlib.Core.Path.{_≡_, sym, ap, subst, _∙_}
+use mathlib.Core.Path.{_≡_, sym, ap, _∙_}
 use mathlib.Core.Bool.{true}
 use mathlib.Core.Logic.{_⊎_, inl, inr}
 use mathlib.Core.List.{List}
 use Prim.Native.Nat.{ℕ, _*_, _<_}
 use native.Mathlib.Omega.{arith}
 use Rattle.sheet_rules.specs.declared.Lies.the-variants.{At}
-use Rattle.sheet_rules.specs.Rows.{areas, bankWords}
+use Rattle.sheet_rules.specs.Rows.{areas}
 use Rattle.sheet_rules.specs.Rules.{sound}
 use Rattle.sheet_rules.specs.Lookup.{liesIn}
 use Rattle.sheet_rules.proofs.Addresses.{place-address, lies-below}
+use Rattle.bank_rules.specs.Calls.{Lent}
 use Rattle.plain.specs.Numbers.{word}
 use Rattle.plain.specs.Sheet.{LiesAt}
 use Rattle.plain.specs.Frame.{address}
 use Rattle.plain.specs.Left as left
-use Rattle.plain.specs.Left.{Left, WordLeft, Leaves}
+use Rattle.plain.specs.Left.{WordLeft}
 use Rattle.plain.proofs.Rows.{word-same, plain-lies}
 
 module _ (sheet : List ℕ) (keeps : sound sheet ≡ true) where
@@ -31,14 +32,14 @@ module _ (sheet : List ℕ) (keeps : sound sheet ≡ true) where
   below : {a place x : ℕ} → LiesAt sheet a place x → place < word sheet 10
   below {a} {place} {x} lies = omega (arith, lies-below sheet keeps a place x (plain-lies sheet keeps lies), word-same sheet 10)
 
-  module _ (bank frame : List ℕ) {place : ℕ} where
-    pub read-only-kept : {a w : ℕ} → LiesAt sheet a place 1 → WordLeft sheet bank frame place w → w ≡ word bank (2 * place)
-    read-only-kept lies (left.stored k stored is) = absurd (omega (arith, one-access lies (stored .goes .1)))
-    read-only-kept lies (left.cleared clears is) = absurd (omega (arith, below lies, clears .2))
-    read-only-kept lies (left.asBefore none unclear is) = is
+module _ (given : Lent) (frame : List ℕ) (keeps : sound (given .sheet) ≡ true) {place : ℕ} where
+  pub read-only-kept : {a w : ℕ} → LiesAt (given .sheet) a place 1 → WordLeft given frame place w → w ≡ word (given .bank) (2 * place)
+  read-only-kept lies (left.stored k stored is) = absurd (omega (arith, one-access (given .sheet) keeps lies (stored .goes .1)))
+  read-only-kept lies (left.cleared clears is) = absurd (omega (arith, below (given .sheet) keeps lies, clears .2))
+  read-only-kept lies (left.asBefore none unclear is) = is
 
-    pub changed-writable : {w : ℕ} → WordLeft sheet bank frame place w → (w ≡ word bank (2 * place) → ⊥)
-        → ((k : ℕ) × LiesAt sheet (address frame k) place 3) ⊎ (place ≡ word sheet 10)
-    changed-writable (left.stored k stored is) other = inl (k, stored .goes .1)
-    changed-writable (left.cleared clears is) other = inr (clears .2)
-    changed-writable (left.asBefore none unclear is) other = absurd (other is)
+  pub changed-writable : {w : ℕ} → WordLeft given frame place w → (w ≡ word (given .bank) (2 * place) → ⊥)
+      → ((k : ℕ) × LiesAt (given .sheet) (address frame k) place 3) ⊎ (place ≡ word (given .sheet) 10)
+  changed-writable (left.stored k stored is) other = inl (k, stored .goes .1)
+  changed-writable (left.cleared clears is) other = inr (clears .2)
+  changed-writable (left.asBefore none unclear is) other = absurd (other is)

@@ -1,15 +1,12 @@
 -- A 06 to a register is good exactly if the value that its item would have is within the item's bounds; and so for each row of the makers'
 -- maps as printed. Assumes nothing.
-use mathlib.Core.Path.{_≡_, refl, sym, ap, ap₂, subst, _∙_}
-use mathlib.Core.Bool.{Bool, true, false, not, _&&_, _||_}
-use mathlib.Core.Logic.{_⊎_, inl, inr, _↔_}
-use mathlib.Core.List.{List, [], _∷_, _++_}
-use Prim.Native.Nat.{ℕ, _+_, _-_, _*_, _/_, _%_, _≤_, _<_}
+use mathlib.Core.Path.{_≡_, refl, sym, ap, subst, _∙_}
+use mathlib.Core.Bool.{Bool, true, not}
+use mathlib.Core.Logic.{inl, inr}
+use mathlib.Core.List.{List}
+use Prim.Native.Nat.{ℕ, _+_, _-_, _≤_, _<_}
 use native.Mathlib.Omega.{arith}
-use native.Mathlib.Nat.{div-add-mod'}
 use borrow.Author.Tests.{eq-eqb}
-use lib.ListN.{length}
-use Rattle.check_value.specs.Check.{valueOf}
 use Rattle.check_value.proofs.Zero.{closed-passes}
 use Rattle.lists.proofs.Among.{Among}
 use Rattle.sheet_rules.specs.declared.Item.{Item}
@@ -18,6 +15,7 @@ use Rattle.sheet_rules.specs.Rows.{items}
 use Rattle.sheet_rules.specs.Rules.{sound}
 use Rattle.sheet_rules.specs.Lookup.{holds}
 use Rattle.bank_rules.specs.Bank.{valueBy}
+use Rattle.bank_rules.specs.Calls.{Lent}
 use Rattle.bank_rules.proofs.Held.{holds-first, holds-second, holder-alone}
 use Rattle.sheet_rules.specs.declared.Purpose.the-variants.{Write}
 use Rattle.sheet_rules.specs.Runs.{allOpen}
@@ -25,7 +23,7 @@ use Rattle.frame.specs.Frame.{count, run}
 use Rattle.meter_rules.specs.Write.{firstPlace, wouldBe}
 use Rattle.meter_rules.proofs.Soundness.{open-write}
 use Rattle.plain.specs.Numbers.{byte, word, Bytes}
-use Rattle.plain.specs.Sheet.{ItemRow, LiesAt}
+use Rattle.plain.specs.Sheet.{LiesAt}
 use Rattle.plain.specs.Frame as plain
 use Rattle.plain.specs.Frame.{Gets, error, good, Set, Whole, RightAddress, RightValue, Within, ValueWouldBe, Touches, Writable}
 use Rattle.plain.specs.Registers.{oneBody, writeOne, TakenWithin}
@@ -35,12 +33,12 @@ use Rattle.plain.proofs.Addresses.{address-tells}
 use Rattle.plain.proofs.Values.{value-so}
 use Rattle.plain.proofs.Fates.{one-fate}
 
-module _ (sheet bank : List ℕ) (at v : ℕ) (small : at ≤ 0xFFFF) (word-sent : v < 65536) where
+module _ (given : Lent) (at v : ℕ) (small : at ≤ 0xFFFF) (word-sent : v < 65536) where
   abbrev frame : List ℕ
-  frame = writeOne sheet bank at v
+  frame = writeOne given at v
 
   whole : Whole frame
-  whole = whole-tells frame .right (let passes-it = closed-passes (oneBody sheet bank at v) (omega arith) (omega arith) in ap (λ (b : Bool). not b) passes-it)
+  whole = whole-tells frame .right (let passes-it = closed-passes (oneBody given at v) (omega arith) (omega arith) in ap (λ (b : Bool). not b) passes-it)
 
   at-same : word frame 2 ≡ at
   at-same = omega arith
@@ -54,64 +52,64 @@ lies-once sheet keeps {at} {p} {q} {x} {y} one other =
     let same : At p x ≡ At q y = sym (plain-lies sheet keeps one) ∙ plain-lies sheet keeps other in
     cc
 
-module _ (sheet bank : List ℕ) (keeps : sound sheet ≡ true) (bytes : Bytes sheet) (at v : ℕ) (small : at ≤ 0xFFFF) (word-sent : v < 65536)
-    (set06 : Set (word sheet 12) 4) (q : ℕ) (lies : LiesAt sheet at q 3) where
+module _ (given : Lent) (keeps : sound (given .sheet) ≡ true) (bytes : Bytes (given .sheet)) (at v : ℕ) (small : at ≤ 0xFFFF) (word-sent : v < 65536)
+    (set06 : Set (word (given .sheet) 12) 4) (q : ℕ) (lies : LiesAt (given .sheet) at q 3) where
   abbrev sent : List ℕ
-  sent = writeOne sheet bank at v
+  sent = writeOne given at v
 
   no-other : {code : ℕ} → (6 ≡ code → ⊥) → byte sent 1 ≡ code → ⊥
   no-other apart e = apart e
 
-  addresses : RightAddress sheet sent
+  addresses : RightAddress (given .sheet) sent
   addresses =
       record {
         atMost47 = λ e. absurd (no-other (λ f. omega (arith, f)) e);
         read = λ e. absurd (no-other (λ f. omega (arith, f)) e);
         written = λ is k less. let none : k ≡ 0 = omega (arith, less) in
-            let here : word sent 2 + k ≡ at = omega (arith, none, at-same sheet bank at v small word-sent) in
-            subst (Writable sheet) (sym here) record { small = small; place = q; lies = lies };
+            let here : word sent 2 + k ≡ at = omega (arith, none, at-same given at v small word-sent) in
+            subst (Writable (given .sheet)) (sym here) record { small = small; place = q; lies = lies };
         cleared = λ e. absurd (no-other (λ f. omega (arith, f)) e);
       }
 
-  pub goes : (k place : ℕ) → plain.Goes sheet sent k place → place ≡ q
+  pub goes : (k place : ℕ) → plain.Goes (given .sheet) sent k place → place ≡ q
   goes k place is =
       let none : k ≡ 0 = omega (arith, is .0) in
-      let here : word sent 2 + k ≡ at = omega (arith, none, at-same sheet bank at v small word-sent) in
-      lies-once sheet keeps (subst (λ (n : ℕ). LiesAt sheet n place 3) here (is .1)) lies
+      let here : word sent 2 + k ≡ at = omega (arith, none, at-same given at v small word-sent) in
+      lies-once (given .sheet) keeps (subst (λ (n : ℕ). LiesAt (given .sheet) n place 3) here (is .1)) lies
 
-  pub goes-here : plain.Goes sheet sent 0 q
+  pub goes-here : plain.Goes (given .sheet) sent 0 q
   goes-here =
-      let here : word sent 2 + 0 ≡ at = omega (arith, at-same sheet bank at v small word-sent) in
-      (omega arith, subst (λ (n : ℕ). LiesAt sheet n q 3) (sym here) lies)
+      let here : word sent 2 + 0 ≡ at = omega (arith, at-same given at v small word-sent) in
+      (omega arith, subst (λ (n : ℕ). LiesAt (given .sheet) n q 3) (sym here) lies)
 
-  all-open : allOpen Write sheet (run sent) ≡ true
-  all-open = open-write sheet bank sent refl (address-tells sheet keeps bytes sent .wrongly addresses) .all
+  all-open : allOpen Write (given .sheet) (run sent) ≡ true
+  all-open = open-write (given .sheet) sent refl (address-tells (given .sheet) keeps bytes sent .wrongly addresses) .all
 
   -- what is touched holds the place
-  touched-holds : (item : Item) → Touches sheet sent (item .kind) (item .place) → holds item q ≡ true
+  touched-holds : (item : Item) → Touches (given .sheet) sent (item .kind) (item .place) → holds item q ≡ true
   touched-holds item (k, inl is) = holds-first item q (goes k (item .place) is)
   touched-holds item (k, inr is) = holds-second item q (eq-eqb (item .kind) 2 (is .0)) (goes k (item .place + 1) (is .1))
 
-  module _ (item : Item) (among : Among item (items sheet)) (touch : Touches sheet sent (item .kind) (item .place)) (value : ℕ)
-      (is : ValueWouldBe sheet bank sent (item .place) value (item .kind)) where
-    values : Within (item .kind) (item .low) (item .high) value → RightValue sheet bank sent
+  module _ (item : Item) (among : Among item (items (given .sheet))) (touch : Touches (given .sheet) sent (item .kind) (item .place)) (value : ℕ)
+      (is : ValueWouldBe given sent (item .place) value (item .kind)) where
+    values : Within (item .kind) (item .low) (item .high) value → RightValue given sent
     values within =
         record {
           ofClear = λ e. absurd (no-other (λ f. omega (arith, f)) e);
           ofItems = λ write kind place low high other row touches is-other.
               let that : Item = record { kind = kind; place = place; low = low; high = high } in
-              let same : item ≡ that = holder-alone sheet keeps q among (touched-holds item touch) (row-item sheet row) (touched-holds that touches) in
+              let same : item ≡ that = holder-alone (given .sheet) keeps q among (touched-holds item touch) (row-item (given .sheet) row) (touched-holds that touches) in
               let equal : value ≡ other =
-              value-so sheet bank sent keeps all-open item value is
-              ∙ ap (valueBy (wouldBe (firstPlace sheet sent) (count sent) bank sent)) same
-              ∙ sym (value-so sheet bank sent keeps all-open that other is-other) in
+              value-so given sent keeps all-open item value is
+              ∙ ap (valueBy (wouldBe (firstPlace (given .sheet) sent) (count sent) (given .bank) sent)) same
+              ∙ sym (value-so given sent keeps all-open that other is-other) in
               subst (λ (i : Item). Within (i .kind) (i .low) (i .high) other) same
               (subst (Within (item .kind) (item .low) (item .high)) equal within);
         }
 
-    within-values : RightValue sheet bank sent → Within (item .kind) (item .low) (item .high) value
+    within-values : RightValue given sent → Within (item .kind) (item .low) (item .high) value
     within-values right =
-        right .ofItems (inl refl) (item .kind) (item .place) (item .low) (item .high) value (item-row sheet item among) touch is
+        right .ofItems (inl refl) (item .kind) (item .place) (item .low) (item .high) value (item-row (given .sheet) item among) touch is
 
     eight : plain.RightLength sent
     eight = record { eight = λ e. refl; nineAndMore = λ e. absurd (no-other (λ f. omega (arith, f)) e) }
@@ -119,19 +117,19 @@ module _ (sheet bank : List ℕ) (keeps : sound sheet ≡ true) (bytes : Bytes s
     counted : plain.RightCount sent
     counted = record { ofRead = λ e. absurd (no-other (λ f. omega (arith, f)) e); ofMany = λ e. absurd (no-other (λ f. omega (arith, f)) e) }
 
-    gets-good : RightValue sheet bank sent → Gets sheet bank sent good
-    gets-good right = plain.allRight (whole sheet bank at v small word-sent) refl (inr (inr (inl (refl, set06)))) eight counted addresses right
+    gets-good : RightValue given sent → Gets given sent good
+    gets-good right = plain.allRight (whole given at v small word-sent) refl (inr (inr (inl (refl, set06)))) eight counted addresses right
 
-    gets-error : (RightValue sheet bank sent → ⊥) → Gets sheet bank sent (error 3)
-    gets-error wrong = plain.wrongValue (whole sheet bank at v small word-sent) refl (inr (inr (inl (refl, set06)))) eight counted addresses wrong
+    gets-error : (RightValue given sent → ⊥) → Gets given sent (error 3)
+    gets-error wrong = plain.wrongValue (whole given at v small word-sent) refl (inr (inr (inl (refl, set06)))) eight counted addresses wrong
 
-    good-right : Gets sheet bank sent good → RightValue sheet bank sent
+    good-right : Gets given sent good → RightValue given sent
     good-right (plain.allRight a b c d e f g) = g
 
-    not-both : Gets sheet bank sent (error 3) → Gets sheet bank sent good → ⊥
-    not-both bad fine = let same = one-fate sheet bank sent keeps bytes bad fine in let z : _≡_ {A = ℕ} 0 1 = cc in omega arith
+    not-both : Gets given sent (error 3) → Gets given sent good → ⊥
+    not-both bad fine = let same = one-fate given sent keeps bytes bad fine in let z : _≡_ {A = ℕ} 0 1 = cc in omega arith
 
-    pub taken-within : TakenWithin sheet bank at v (item .kind) (item .low) (item .high) value
+    pub taken-within : TakenWithin given at v (item .kind) (item .low) (item .high) value
     taken-within =
         record {
           taken = (λ fine. within-values (good-right fine), λ within. gets-good (values within));

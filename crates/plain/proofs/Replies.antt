@@ -1,11 +1,9 @@
 -- The replies that the definitions lay in the answer buffer are those of the plain numbers. Assumes nothing.
-use mathlib.Core.Path.{_≡_, refl, sym, ap, ap₂, subst, _∙_}
-use mathlib.Core.Bool.{Bool, true, false, cond}
+use mathlib.Core.Path.{_≡_, refl, sym, ap, _∙_}
 use mathlib.Core.List.{List, [], _∷_, _++_, append-assoc}
 use Prim.Native.Nat.{ℕ, zero, suc, _+_, _-_, _*_, _/_, _%_, _≤_, _<_}
 use native.Mathlib.Omega.{arith}
-use native.Mathlib.Nat.{div-add-mod'}
-use lib.ListN.{length, take, drop, getD, length-append, List·getD-append}
+use lib.ListN.{length, take, drop, List·getD-append}
 use lib.Seq.{getD-append-add, getD-append-seam, getD-drop, take-at}
 use Rattle.words.specs.Words.{byteAt, wordAt, upper, lower, bytesOf}
 use Rattle.check_value.specs.Check.{valueOf}
@@ -13,7 +11,7 @@ use Rattle.lists.specs.Lists.{upFrom}
 use Rattle.frame.specs.Frame.{function}
 use Rattle.frame.specs.Reply.{wordsFrom, readReply, echo, errorReply, withCheck, laid}
 use Rattle.frame.proofs.Laying.{laid-length}
-use Rattle.frame.proofs.Reading.{words-length, read-length, check-length}
+use Rattle.frame.proofs.Reading.{check-length}
 use Rattle.bank_rules.specs.Stores.{wordOf}
 use Rattle.plain.specs.Numbers.{byte, word, Bytes}
 use Rattle.plain.specs.Left.{Closed, ErrorReply, Echo}

@@ -2,7 +2,7 @@
 use mathlib.Core.Path.{_≡_, sym, ap, ap₂, subst, _∙_}
 use mathlib.Core.Bool.{true}
 use mathlib.Core.List.{List}
-use Prim.Native.Nat.{ℕ, _+_, _-_, _*_, _≤_, _<_}
+use Prim.Native.Nat.{ℕ, _+_, _-_, _*_}
 use native.Mathlib.Omega.{arith}
 use Rattle.words.specs.Words.{wordAt}
 use Rattle.sheet_rules.specs.declared.Area.{Area}
@@ -14,7 +14,7 @@ use Rattle.sheet_rules.specs.Lookup.{liesIn}
 use Rattle.sheet_rules.proofs.Sound.{sound-areas}
 use Rattle.sheet_rules.proofs.Addresses.{lies-found, lies-there}
 use Rattle.lists.proofs.Among.{Among, row-among, among-row}
-use Rattle.plain.specs.Numbers.{byte, word}
+use Rattle.plain.specs.Numbers.{word}
 use Rattle.plain.specs.Sheet.{AreaRow, ItemRow, LiesAt}
 
 -- a word is a word

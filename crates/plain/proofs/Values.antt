@@ -1,20 +1,18 @@
 -- Condition 7 in plain numbers is what step 7 tests: the value of a clear, and each item that a write touches within its bounds. Assumes nothing.
-use mathlib.Core.Path.{_≡_, refl, sym, ap, ap₂, subst, _∙_}
-use mathlib.Core.Bool.{Bool, true, false, not, cond, _&&_, _||_, true≢false, false≢true}
+use mathlib.Core.Path.{_≡_, refl, sym, ap, ap₂, _∙_}
+use mathlib.Core.Bool.{Bool, true, false, not, cond, _&&_, _||_, false≢true}
 use mathlib.Core.List.{List}
-use mathlib.Core.Logic.{_⊎_, inl, inr}
-use Prim.Native.Nat.{ℕ, _+_, _-_, _*_, _≤_, _<_}
+use mathlib.Core.Logic.{inl, inr}
+use Prim.Native.Nat.{ℕ, _+_, _-_, _*_, _<_}
 use native.Mathlib.Omega.{arith}
 use lib.Dec.{leb, ltb, eqb}
 use lib.IntN.{ℤ, pos, _+ℤ_, -ℤ-+ℤ-cancel}
 use lib.Signed.{leZ}
 use borrow.Author.Tests.{eqb-true, eqb-false, eq-eqb, ne-eqb, leb-true, le-leb, lt-ltb, ltb-true, ltb-false, not-true, not-false}
-use Rattle.words.specs.Words.{wordAt}
 use Rattle.range.specs.Range.{signedWord, numberOf, notAbove, inRange}
 use Rattle.range.proofs.Numbers.{number-plain, number-low, number-high, order-kept}
-use Rattle.lists.specs.Lists.{some}
 use Rattle.lists.proofs.Tests.{first-of, second-of}
-use Rattle.lists.proofs.Among.{Among, among-some, some-among}
+use Rattle.lists.proofs.Among.{among-some, some-among}
 use Rattle.sheet_rules.specs.declared.Item.{Item}
 use Rattle.sheet_rules.specs.declared.Lies.the-variants.{At}
 use Rattle.sheet_rules.specs.Rows.{areas, items}
@@ -22,6 +20,7 @@ use Rattle.sheet_rules.specs.Rules.{sound, isPair}
 use Rattle.sheet_rules.specs.Lookup.{liesIn, placeIn}
 use Rattle.bank_rules.specs.Stores.{wordOf}
 use Rattle.bank_rules.specs.Bank.{valueBy, goodBy}
+use Rattle.bank_rules.specs.Calls.{Lent}
 use Rattle.sheet_rules.specs.declared.Purpose.the-variants.{Write}
 use Rattle.sheet_rules.specs.Runs.{allOpen}
 use Rattle.frame.specs.Frame.{function, start, second, isWrite, count, run, sent}
@@ -30,9 +29,9 @@ use Rattle.meter_rules.specs.Steps.{wrongValue, badWrite}
 use Rattle.meter_rules.proofs.Written.{each-open, run-place}
 use Rattle.meter_rules.proofs.Judging.{run-above}
 use Rattle.meter_rules.proofs.Stopping.{run-below}
-use Rattle.plain.specs.Numbers.{byte, word, signedAndMore}
-use Rattle.plain.specs.Sheet.{ItemRow, LiesAt}
-use Rattle.plain.specs.Frame.{registers, address, sentWord, Goes, WouldBe, written, kept, ValueWouldBe, ofWord, ofPair, Touches, Within, RightValue}
+use Rattle.plain.specs.Numbers.{signedAndMore}
+use Rattle.plain.specs.Sheet.{ItemRow}
+use Rattle.plain.specs.Frame.{sentWord, Goes, WouldBe, written, kept, ValueWouldBe, ofWord, ofPair, Touches, Within, RightValue}
 use Rattle.plain.proofs.Rows.{word-same, lies-plain, plain-lies, item-row, row-item}
 use Rattle.plain.proofs.Conditions.{Tells, neither-first, neither-second, neither, where-so, so-where}
 use Rattle.plain.proofs.Addresses.{address-same, registers-same, writes, which}
@@ -91,62 +90,62 @@ module _ (kind low high value : ℕ) where
 pub sent-same : (frame : List ℕ) (k : ℕ) → sentWord frame k ≡ sent frame k
 sent-same frame k = word-same frame (cond (eqb (function frame) 0x06) 4 7 + 2 * k)
 
-module _ (sheet bank frame : List ℕ) (keeps : sound sheet ≡ true) (all : allOpen Write sheet (run frame) ≡ true) where
+module _ (given : Lent) (frame : List ℕ) (keeps : sound (given .sheet) ≡ true) (all : allOpen Write (given .sheet) (run frame) ≡ true) where
   abbrev first : ℕ
-  first = firstPlace sheet frame
+  first = firstPlace (given .sheet) frame
 
   abbrev many : ℕ
   many = count frame
 
-  pub goes-at : (k place : ℕ) → Goes sheet frame k place → place ≡ first + k
+  pub goes-at : (k place : ℕ) → Goes (given .sheet) frame k place → place ≡ first + k
   goes-at k place goes =
-      sym (ap placeIn (plain-lies sheet keeps (goes .1))) ∙ ap (λ (n : ℕ). placeIn (liesIn (areas sheet) n)) (address-same frame k)
-      ∙ run-place Write sheet keeps (start frame) many all k (omega (arith, goes .0, registers-same frame))
+      sym (ap placeIn (plain-lies (given .sheet) keeps (goes .1))) ∙ ap (λ (n : ℕ). placeIn (liesIn (areas (given .sheet)) n)) (address-same frame k)
+      ∙ run-place Write (given .sheet) keeps (start frame) many all k (omega (arith, goes .0, registers-same frame))
 
-  pub goes-in : (k place : ℕ) → Goes sheet frame k place → inRun first many place ≡ true
+  pub goes-in : (k place : ℕ) → Goes (given .sheet) frame k place → inRun first many place ≡ true
   goes-in k place goes =
       let at = goes-at k place goes in
       ap₂ _&&_ (le-leb first place (omega (arith, at))) (lt-ltb place (first + many) (omega (arith, at, goes .0, registers-same frame)))
 
-  pub in-goes : (place : ℕ) → inRun first many place ≡ true → Goes sheet frame (place - first) place
+  pub in-goes : (place : ℕ) → inRun first many place ≡ true → Goes (given .sheet) frame (place - first) place
   in-goes place e =
       let low = run-above first many place e in
       let high = run-below first many place e in
       let k : ℕ = place - first in
       let less : k < many = omega arith in
-      let one = each-open Write sheet keeps (start frame) many all k less in
-      let there : placeIn (liesIn (areas sheet) (start frame + k)) ≡ place =
-      run-place Write sheet keeps (start frame) many all k less ∙ (let sum : first + k ≡ place = omega arith in sum) in (
+      let one = each-open Write (given .sheet) keeps (start frame) many all k less in
+      let there : placeIn (liesIn (areas (given .sheet)) (start frame + k)) ≡ place =
+      run-place Write (given .sheet) keeps (start frame) many all k less ∙ (let sum : first + k ≡ place = omega arith in sum) in (
         omega (arith, registers-same frame),
-        lies-plain sheet keeps (ap (liesIn (areas sheet)) (address-same frame k) ∙ one .at
+        lies-plain (given .sheet) keeps (ap (liesIn (areas (given .sheet))) (address-same frame k) ∙ one .at
             ∙ ap₂ At there (eqb-true (one .access) 3 (one .permitted))),
       )
 
   -- ---- the word that would be at a place
 
-  would-so : (place w : ℕ) → WouldBe sheet bank frame place w → w ≡ wouldBe first many bank frame place
+  would-so : (place w : ℕ) → WouldBe given frame place w → w ≡ wouldBe first many (given .bank) frame place
   would-so place w (written k goes is) =
       is ∙ sent-same frame k ∙ ap (sent frame) (let back : k ≡ place - first = omega (arith, goes-at k place goes) in back)
-      ∙ ap (λ (b : Bool). cond b (sent frame (place - first)) (wordOf bank place)) (sym (goes-in k place goes))
+      ∙ ap (λ (b : Bool). cond b (sent frame (place - first)) (wordOf (given .bank) place)) (sym (goes-in k place goes))
   would-so place w (kept none is) = go (inRun first many place) refl
     where
-      go : (b : Bool) → inRun first many place ≡ b → w ≡ cond b (sent frame (place - first)) (wordOf bank place)
+      go : (b : Bool) → inRun first many place ≡ b → w ≡ cond b (sent frame (place - first)) (wordOf (given .bank) place)
       go true e = absurd (none (place - first) (in-goes place e))
-      go false e = is ∙ word-same bank (2 * place)
+      go false e = is ∙ word-same (given .bank) (2 * place)
 
-  so-would : (place : ℕ) → WouldBe sheet bank frame place (wouldBe first many bank frame place)
+  so-would : (place : ℕ) → WouldBe given frame place (wouldBe first many (given .bank) frame place)
   so-would place = go (inRun first many place) refl
     where
-      go : (b : Bool) → inRun first many place ≡ b → WouldBe sheet bank frame place (cond b (sent frame (place - first)) (wordOf bank place))
+      go : (b : Bool) → inRun first many place ≡ b → WouldBe given frame place (cond b (sent frame (place - first)) (wordOf (given .bank) place))
       go true e = written (place - first) (in-goes place e) (sym (sent-same frame (place - first)))
-      go false e = kept (λ k goes. false≢true (sym e ∙ goes-in k place goes)) (sym (word-same bank (2 * place)))
+      go false e = kept (λ k goes. false≢true (sym e ∙ goes-in k place goes)) (sym (word-same (given .bank) (2 * place)))
 
   -- ---- the value that an item would have
 
   abbrev would : ℕ → ℕ
-  would = wouldBe first many bank frame
+  would = wouldBe first many (given .bank) frame
 
-  pub value-so : (item : Item) (value : ℕ) → ValueWouldBe sheet bank frame (item .place) value (item .kind) → value ≡ valueBy would item
+  pub value-so : (item : Item) (value : ℕ) → ValueWouldBe given frame (item .place) value (item .kind) → value ≡ valueBy would item
   value-so item value (ofWord other is) =
       would-so (item .place) value is
       ∙ ap (λ (b : Bool). cond b (would (item .place) * 65536 + would (item .place + 1)) (would (item .place))) (sym (ne-eqb (item .kind) 2 other))
@@ -154,18 +153,18 @@ module _ (sheet bank frame : List ℕ) (keeps : sound sheet ≡ true) (all : all
       is ∙ omega (arith, would-so (item .place) upper up, would-so (item .place + 1) lower down)
       ∙ ap (λ (b : Bool). cond b (would (item .place) * 65536 + would (item .place + 1)) (would (item .place))) (sym (eq-eqb (item .kind) 2 pair))
 
-  pub so-value : (item : Item) → ValueWouldBe sheet bank frame (item .place) (valueBy would item) (item .kind)
+  pub so-value : (item : Item) → ValueWouldBe given frame (item .place) (valueBy would item) (item .kind)
   so-value item = go (isPair item) refl
     where
       go : (pair : Bool) → isPair item ≡ pair
-          → ValueWouldBe sheet bank frame (item .place) (cond pair (would (item .place) * 65536 + would (item .place + 1)) (would (item .place))) (item .kind)
+          → ValueWouldBe given frame (item .place) (cond pair (would (item .place) * 65536 + would (item .place + 1)) (would (item .place))) (item .kind)
       go true e =
           ofPair (eqb-true (item .kind) 2 e) (would (item .place)) (would (item .place + 1)) (so-would (item .place)) (so-would (item .place + 1)) (omega arith)
       go false e = ofWord (eqb-false (item .kind) 2 e) (so-would (item .place))
 
   -- ---- the items that a write touches
 
-  pub touches-so : (item : Item) → Touches sheet frame (item .kind) (item .place) → touched first many item ≡ true
+  pub touches-so : (item : Item) → Touches (given .sheet) frame (item .kind) (item .place) → touched first many item ≡ true
   touches-so item (k, inl goes) =
       ap (λ (b : Bool). b || (isPair item && inRun first many (item .place + 1))) (goes-in k (item .place) goes)
   touches-so item (k, inr second) =
@@ -176,11 +175,11 @@ module _ (sheet bank frame : List ℕ) (keeps : sound sheet ≡ true) (all : all
       either true b e = refl
       either false b e = e
 
-  pub so-touches : (item : Item) → touched first many item ≡ true → Touches sheet frame (item .kind) (item .place)
+  pub so-touches : (item : Item) → touched first many item ≡ true → Touches (given .sheet) frame (item .kind) (item .place)
   so-touches item e = go (inRun first many (item .place)) refl e
     where
       go : (b : Bool) → inRun first many (item .place) ≡ b → (b || (isPair item && inRun first many (item .place + 1))) ≡ true
-          → Touches sheet frame (item .kind) (item .place)
+          → Touches (given .sheet) frame (item .kind) (item .place)
       go true here e = (item .place - first, inl (in-goes (item .place) here))
       go false here e = (
         item .place + 1 - first,
@@ -193,10 +192,10 @@ module _ (sheet bank frame : List ℕ) (keeps : sound sheet ≡ true) (all : all
   -- ---- no item is bad
 
   abbrev ItemsRight : Type 0
-  ItemsRight = (kind place low high value : ℕ) → ItemRow sheet kind place low high → Touches sheet frame kind place
-      → ValueWouldBe sheet bank frame place value kind → Within kind low high value
+  ItemsRight = (kind place low high value : ℕ) → ItemRow (given .sheet) kind place low high → Touches (given .sheet) frame kind place
+      → ValueWouldBe given frame place value kind → Within kind low high value
 
-  items-so : someBad sheet bank frame ≡ false → ItemsRight
+  items-so : someBad given frame ≡ false → ItemsRight
   unfolding someBad badItem goodBy
   items-so none kind place low high value row touch is =
       let item : Item = record { kind = kind; place = place; low = low; high = high } in
@@ -208,44 +207,44 @@ module _ (sheet bank frame : List ℕ) (keeps : sound sheet ≡ true) (all : all
           → inRange kind low high (valueBy would record { kind = kind; place = place; low = low; high = high }) ≡ true
       go true e = e
       go false e =
-          absurd (false≢true (sym none ∙ among-some (badItem first many bank frame) (row-item sheet row)
+          absurd (false≢true (sym none ∙ among-some (badItem first many (given .bank) frame) (row-item (given .sheet) row)
           (ap₂ _&&_ (touches-so record { kind = kind; place = place; low = low; high = high } touch) (ap not e))))
 
-  pub so-items : ItemsRight → someBad sheet bank frame ≡ false
+  pub so-items : ItemsRight → someBad given frame ≡ false
   unfolding someBad badItem goodBy
-  so-items right = go (someBad sheet bank frame) refl
+  so-items right = go (someBad given frame) refl
     where
-      go : (bad : Bool) → someBad sheet bank frame ≡ bad → someBad sheet bank frame ≡ false
+      go : (bad : Bool) → someBad given frame ≡ bad → someBad given frame ≡ false
       go false e = e
       go true e =
-          let found = some-among (badItem first many bank frame) (items sheet) e in
+          let found = some-among (badItem first many (given .bank) frame) (items (given .sheet)) e in
           let item = found .0 in
           let touch = first-of (touched first many item) (not (goodBy would item)) (found .2) in
           let unfit = not-true (goodBy would item) (second-of (touched first many item) (not (goodBy would item)) (found .2)) in
           absurd (false≢true (sym unfit ∙ so-within (item .kind) (item .low) (item .high) (valueBy would item)
-          (right (item .kind) (item .place) (item .low) (item .high) (valueBy would item) (item-row sheet item (found .1)) (so-touches item touch) (so-value item))))
+          (right (item .kind) (item .place) (item .low) (item .high) (valueBy would item) (item-row (given .sheet) item (found .1)) (so-touches item touch) (so-value item))))
 
 -- ---- the whole of step 7
 
-module _ (sheet bank frame : List ℕ) (keeps : sound sheet ≡ true) (opened : isWrite frame ≡ true → allOpen Write sheet (run frame) ≡ true) where
-  value-right : (wrongValue frame || badWrite sheet bank frame) ≡ false → RightValue sheet bank frame
+module _ (given : Lent) (frame : List ℕ) (keeps : sound (given .sheet) ≡ true) (opened : isWrite frame ≡ true → allOpen Write (given .sheet) (run frame) ≡ true) where
+  value-right : (wrongValue frame || badWrite given frame) ≡ false → RightValue given frame
   value-right e =
       record {
         ofClear = λ is. word-same frame 4 ∙ eqb-true (second frame) 0 (not-false (eqb (second frame) 0)
-            (where-so (eqb (function frame) 0x05) (not (eqb (second frame) 0)) (neither-first (wrongValue frame) (badWrite sheet bank frame) e)
+            (where-so (eqb (function frame) 0x05) (not (eqb (second frame) 0)) (neither-first (wrongValue frame) (badWrite given frame) e)
             (eq-eqb (function frame) 0x05 is)));
         ofItems = λ is. let write = writes frame is in
-            items-so sheet bank frame keeps (opened write)
-            (where-so (isWrite frame) (someBad sheet bank frame) (neither-second (wrongValue frame) (badWrite sheet bank frame) e) write);
+            items-so given frame keeps (opened write)
+            (where-so (isWrite frame) (someBad given frame) (neither-second (wrongValue frame) (badWrite given frame) e) write);
       }
 
-  right-value : RightValue sheet bank frame → (wrongValue frame || badWrite sheet bank frame) ≡ false
+  right-value : RightValue given frame → (wrongValue frame || badWrite given frame) ≡ false
   right-value right =
       neither
       (so-where (eqb (function frame) 0x05) (not (eqb (second frame) 0))
       (λ is. ap not (eq-eqb (second frame) 0 (sym (word-same frame 4) ∙ right .ofClear (eqb-true (function frame) 0x05 is)))))
-      (so-where (isWrite frame) (someBad sheet bank frame)
-      (λ is. so-items sheet bank frame keeps (opened is) (right .ofItems (which frame is))))
+      (so-where (isWrite frame) (someBad given frame)
+      (λ is. so-items given frame keeps (opened is) (right .ofItems (which frame is))))
 
-  pub value-tells : Tells (wrongValue frame || badWrite sheet bank frame) (RightValue sheet bank frame)
+  pub value-tells : Tells (wrongValue frame || badWrite given frame) (RightValue given frame)
   value-tells = record { right = value-right; wrongly = right-value }

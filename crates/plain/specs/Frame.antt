@@ -8,6 +8,7 @@ use Prim.Native.Nat.{ℕ, _+_, _-_, _*_, _/_, _%_, _≤_, _<_}
 use lib.Dec.{eqb}
 use lib.ListN.{length, take}
 use Rattle.check_value.specs.Check.{valueOf}
+use Rattle.bank_rules.specs.Calls.{Lent}
 use Rattle.plain.specs.Numbers.{byte, word, signedAndMore}
 use Rattle.plain.specs.Sheet.{ItemRow, LiesAt}
 
@@ -18,8 +19,8 @@ pub record Whole (frame : List ℕ) : Type 0 where
   pub check : byte frame (length frame - 2) + 256 * byte frame (length frame - 1) ≡ valueOf (take (length frame - 2) frame)
 
 -- ---- 2, rules J20 and J21: the first byte is the word of the bank at the place that header word 8 gives
-abbrev pub OurStation : List ℕ → List ℕ → List ℕ → Type 0
-OurStation sheet bank frame = byte frame 0 ≡ word bank (2 * word sheet 16)
+abbrev pub OurStation : Lent → List ℕ → Type 0
+OurStation given frame = byte frame 0 ≡ word (given .bank) (2 * word (given .sheet) 16)
 
 -- ---- 3, rules J30 and S13: the second byte is a function whose bit is set in header word 6
 abbrev pub Set : ℕ → ℕ → Type 0
@@ -42,7 +43,8 @@ pub record RightCount (frame : List ℕ) : Type 0 where
 
 -- ---- 6, rules J60 to J65: the addresses
 
--- how many registers a frame reads or writes, from the address in its third and fourth byte on: one for 06, else its count
+-- how many registers a read or a write is for, from the address in its third and fourth byte on: one for 06, for 03 and 10 the count in its fifth
+-- and sixth byte. (Those bytes of a 05 are its value: nothing asks how many registers it is for.)
 abbrev pub registers : List ℕ → ℕ
 registers frame = cond (eqb (byte frame 1) 0x06) 1 (word frame 4)
 
@@ -79,15 +81,15 @@ abbrev pub Goes : List ℕ → List ℕ → ℕ → ℕ → Type 0
 Goes sheet frame k place = (k < registers frame) × LiesAt sheet (address frame k) place 3
 
 -- the word that would be at a place: the word sent there, or the bank's where none is
-pub data WouldBe (sheet bank frame : List ℕ) (place w : ℕ) : Type 0 where
-  written : (k : ℕ) → Goes sheet frame k place → w ≡ sentWord frame k → WouldBe sheet bank frame place w
-  kept : ((k : ℕ) → Goes sheet frame k place → ⊥) → w ≡ word bank (2 * place) → WouldBe sheet bank frame place w
+pub data WouldBe (given : Lent) (frame : List ℕ) (place w : ℕ) : Type 0 where
+  written : (k : ℕ) → Goes (given .sheet) frame k place → w ≡ sentWord frame k → WouldBe given frame place w
+  kept : ((k : ℕ) → Goes (given .sheet) frame k place → ⊥) → w ≡ word (given .bank) (2 * place) → WouldBe given frame place w
 
 -- the value that an item would have: a pair's is its two words, the upper one first
-pub data ValueWouldBe (sheet bank frame : List ℕ) (place value : ℕ) : ℕ → Type 0 where
-  ofWord : {kind : ℕ} → (kind ≡ 2 → ⊥) → WouldBe sheet bank frame place value → ValueWouldBe sheet bank frame place value kind
-  ofPair : {kind : ℕ} → kind ≡ 2 → (upper lower : ℕ) → WouldBe sheet bank frame place upper → WouldBe sheet bank frame (place + 1) lower
-      → value ≡ 65536 * upper + lower → ValueWouldBe sheet bank frame place value kind
+pub data ValueWouldBe (given : Lent) (frame : List ℕ) (place value : ℕ) : ℕ → Type 0 where
+  ofWord : {kind : ℕ} → (kind ≡ 2 → ⊥) → WouldBe given frame place value → ValueWouldBe given frame place value kind
+  ofPair : {kind : ℕ} → kind ≡ 2 → (upper lower : ℕ) → WouldBe given frame place upper → WouldBe given frame (place + 1) lower
+      → value ≡ 65536 * upper + lower → ValueWouldBe given frame place value kind
 
 -- the write goes to a place of an item
 abbrev pub Touches : List ℕ → List ℕ → ℕ → ℕ → Type 0
@@ -98,10 +100,10 @@ pub record Within (kind low high value : ℕ) : Type 0 where
   pub plain : (kind ≡ 1 → ⊥) → (low ≤ value) × (value ≤ high)
   pub signed : kind ≡ 1 → (signedAndMore low ≤ signedAndMore value) × (signedAndMore value ≤ signedAndMore high)
 
-pub record RightValue (sheet bank frame : List ℕ) : Type 0 where
+pub record RightValue (given : Lent) (frame : List ℕ) : Type 0 where
   pub ofClear : byte frame 1 ≡ 0x05 → word frame 4 ≡ 0
-  pub ofItems : (byte frame 1 ≡ 0x06) ⊎ (byte frame 1 ≡ 0x10) → (kind place low high value : ℕ) → ItemRow sheet kind place low high
-      → Touches sheet frame kind place → ValueWouldBe sheet bank frame place value kind → Within kind low high value
+  pub ofItems : (byte frame 1 ≡ 0x06) ⊎ (byte frame 1 ≡ 0x10) → (kind place low high value : ℕ) → ItemRow (given .sheet) kind place low high
+      → Touches (given .sheet) frame kind place → ValueWouldBe given frame place value kind → Within kind low high value
 
 -- ---- what comes of it: silence, an error by its code, or a reply without error
 
@@ -111,16 +113,16 @@ pub data Fate : Type 0 where
   good : Fate
 
 -- rules J1, J80, D20 and D24: the first condition that fails decides; where none fails there is a reply without error
-pub data Gets (sheet bank frame : List ℕ) : Fate → Type 0 where
-  notWhole : (Whole frame → ⊥) → Gets sheet bank frame silence
-  otherStation : Whole frame → (OurStation sheet bank frame → ⊥) → Gets sheet bank frame silence
-  notAllowed : Whole frame → OurStation sheet bank frame → (Allowed sheet frame → ⊥) → Gets sheet bank frame (error 1)
-  wrongLength : Whole frame → OurStation sheet bank frame → Allowed sheet frame → (RightLength frame → ⊥) → Gets sheet bank frame silence
-  wrongCount : Whole frame → OurStation sheet bank frame → Allowed sheet frame → RightLength frame → (RightCount frame → ⊥)
-      → Gets sheet bank frame (error 3)
-  wrongAddress : Whole frame → OurStation sheet bank frame → Allowed sheet frame → RightLength frame → RightCount frame
-      → (RightAddress sheet frame → ⊥) → Gets sheet bank frame (error 2)
-  wrongValue : Whole frame → OurStation sheet bank frame → Allowed sheet frame → RightLength frame → RightCount frame → RightAddress sheet frame
-      → (RightValue sheet bank frame → ⊥) → Gets sheet bank frame (error 3)
-  allRight : Whole frame → OurStation sheet bank frame → Allowed sheet frame → RightLength frame → RightCount frame → RightAddress sheet frame
-      → RightValue sheet bank frame → Gets sheet bank frame good
+pub data Gets (given : Lent) (frame : List ℕ) : Fate → Type 0 where
+  notWhole : (Whole frame → ⊥) → Gets given frame silence
+  otherStation : Whole frame → (OurStation given frame → ⊥) → Gets given frame silence
+  notAllowed : Whole frame → OurStation given frame → (Allowed (given .sheet) frame → ⊥) → Gets given frame (error 1)
+  wrongLength : Whole frame → OurStation given frame → Allowed (given .sheet) frame → (RightLength frame → ⊥) → Gets given frame silence
+  wrongCount : Whole frame → OurStation given frame → Allowed (given .sheet) frame → RightLength frame → (RightCount frame → ⊥)
+      → Gets given frame (error 3)
+  wrongAddress : Whole frame → OurStation given frame → Allowed (given .sheet) frame → RightLength frame → RightCount frame
+      → (RightAddress (given .sheet) frame → ⊥) → Gets given frame (error 2)
+  wrongValue : Whole frame → OurStation given frame → Allowed (given .sheet) frame → RightLength frame → RightCount frame → RightAddress (given .sheet) frame
+      → (RightValue given frame → ⊥) → Gets given frame (error 3)
+  allRight : Whole frame → OurStation given frame → Allowed (given .sheet) frame → RightLength frame → RightCount frame → RightAddress (given .sheet) frame
+      → RightValue given frame → Gets given frame good

@@ -8,6 +8,7 @@ use Prim.Native.Nat.{ℕ, _+_, _-_, _*_, _≤_, _<_}
 use lib.Dec.{ltb}
 use lib.ListN.{length, take}
 use Rattle.check_value.specs.Check.{valueOf}
+use Rattle.bank_rules.specs.Calls.{Lent}
 use Rattle.plain.specs.Numbers.{byte, word}
 use Rattle.plain.specs.Sheet.{ItemRow, LiesAt}
 use Rattle.plain.specs.Frame.{Whole, OurStation, Allowed, RightLength, RightCount, RightAddress, registers, address, sentWord, Goes, Touches, ValueWouldBe, Within, Fate, silence, error, good, Gets}
@@ -40,63 +41,68 @@ pub record ErrorReply (frame before after : List ℕ) (code : ℕ) : Type 0 wher
   pub itsCode : byte after 2 ≡ code
 
 -- rules R1 and R6: the words are the bank's at the addresses
-pub record ReadReply (sheet bank frame before after : List ℕ) : Type 0 where
+pub record ReadReply (given : Lent) (frame before after : List ℕ) : Type 0 where
   pub closed : Closed before after (5 + 2 * registers frame)
   pub station : byte after 0 ≡ byte frame 0
   pub function : byte after 1 ≡ 0x03
   pub bytes : byte after 2 ≡ 2 * registers frame
-  pub words : (k place access : ℕ) → k < registers frame → LiesAt sheet (address frame k) place access → word after (3 + 2 * k) ≡ word bank (2 * place)
+  pub words : (k place access : ℕ) → k < registers frame → LiesAt (given .sheet) (address frame k) place access
+      → word after (3 + 2 * k) ≡ word (given .bank) (2 * place)
 
 -- rules R2, R3 and R6: the first six bytes as they came, and their check
 pub record Echo (frame before after : List ℕ) : Type 0 where
   pub closed : Closed before after 8
   pub six : (k : ℕ) → k < 6 → byte after k ≡ byte frame k
 
--- rules N0, N1 and R7, what is handed back and sent, for each fate; the rate is the one before the frame, the word at the place that header word 9 gives
-pub data Answered (sheet bank frame before : List ℕ) (left : Left) : Fate → Type 0 where
-  quiet : left ≡ record { number = 1; size = 0; rate = 0; bank = bank; buffer = before } → Answered sheet bank frame before left silence
-  erred : {code : ℕ} → left .number ≡ 0 → left .size ≡ 5 → left .rate ≡ word bank (2 * word sheet 18) → ErrorReply frame before (left .buffer) code
-      → Answered sheet bank frame before left (error code)
-  read : byte frame 1 ≡ 0x03 → left .number ≡ 0 → left .size ≡ 5 + 2 * registers frame → left .rate ≡ word bank (2 * word sheet 18)
-      → ReadReply sheet bank frame before (left .buffer) → Answered sheet bank frame before left good
-  echoed : (byte frame 1 ≡ 0x03 → ⊥) → left .number ≡ 0 → left .size ≡ 8 → left .rate ≡ word bank (2 * word sheet 18)
-      → Echo frame before (left .buffer) → Answered sheet bank frame before left good
+-- rule R7, the rate before the frame: the word of the bank at the place that header word 9 gives
+abbrev pub rateBefore : Lent → ℕ
+rateBefore given = word (given .bank) (2 * word (given .sheet) 18)
+
+-- rules N0, N1 and R7, what is handed back and sent, for each fate
+pub data HandsBack (given : Lent) (frame before : List ℕ) (left : Left) : Fate → Type 0 where
+  quiet : left ≡ record { number = 1; size = 0; rate = 0; bank = given .bank; buffer = before } → HandsBack given frame before left silence
+  erred : {code : ℕ} → left .number ≡ 0 → left .size ≡ 5 → left .rate ≡ rateBefore given → ErrorReply frame before (left .buffer) code
+      → HandsBack given frame before left (error code)
+  read : byte frame 1 ≡ 0x03 → left .number ≡ 0 → left .size ≡ 5 + 2 * registers frame → left .rate ≡ rateBefore given
+      → ReadReply given frame before (left .buffer) → HandsBack given frame before left good
+  echoed : (byte frame 1 ≡ 0x03 → ⊥) → left .number ≡ 0 → left .size ≡ 8 → left .rate ≡ rateBefore given
+      → Echo frame before (left .buffer) → HandsBack given frame before left good
 
 -- ---- the bank
 
 -- a write that conditions 1 to 6 let through
-pub record LetThrough (sheet bank frame : List ℕ) : Type 0 where
+pub record LetThrough (given : Lent) (frame : List ℕ) : Type 0 where
   pub whole : Whole frame
-  pub ours : OurStation sheet bank frame
-  pub allowed : Allowed sheet frame
+  pub ours : OurStation given frame
+  pub allowed : Allowed (given .sheet) frame
   pub long : RightLength frame
   pub counted : RightCount frame
-  pub addressed : RightAddress sheet frame
+  pub addressed : RightAddress (given .sheet) frame
   pub writes : (byte frame 1 ≡ 0x06) ⊎ (byte frame 1 ≡ 0x10)
 
 -- rules K5 to K7, the k-th word sent is stored at a place: the write goes there, and the place stands in front of every item that would be out of range
-pub record Stored (sheet bank frame : List ℕ) (k place : ℕ) : Type 0 where
-  pub through : LetThrough sheet bank frame
-  pub goes : Goes sheet frame k place
-  pub inFront : (kind first low high value : ℕ) → ItemRow sheet kind first low high → Touches sheet frame kind first
-      → ValueWouldBe sheet bank frame first value kind → (Within kind low high value → ⊥) → place < first
+pub record Stored (given : Lent) (frame : List ℕ) (k place : ℕ) : Type 0 where
+  pub through : LetThrough given frame
+  pub goes : Goes (given .sheet) frame k place
+  pub inFront : (kind first low high value : ℕ) → ItemRow (given .sheet) kind first low high → Touches (given .sheet) frame kind first
+      → ValueWouldBe given frame first value kind → (Within kind low high value → ⊥) → place < first
 
 -- rule K8, a good clear sets the mark, the word behind the bank's B words (header word 5)
-abbrev pub Clears : List ℕ → List ℕ → List ℕ → ℕ → Type 0
-Clears sheet bank frame place = Gets sheet bank frame good × (byte frame 1 ≡ 0x05) × (place ≡ word sheet 10)
+abbrev pub Clears : Lent → List ℕ → ℕ → Type 0
+Clears given frame place = Gets given frame good × (byte frame 1 ≡ 0x05) × (place ≡ word (given .sheet) 10)
 
 -- rule K9, the word at a place afterwards: a word sent that is stored there, 0 for the mark of a good clear, and else the word from before
-pub data WordLeft (sheet bank frame : List ℕ) (place w : ℕ) : Type 0 where
-  stored : (k : ℕ) → Stored sheet bank frame k place → w ≡ sentWord frame k → WordLeft sheet bank frame place w
-  cleared : Clears sheet bank frame place → w ≡ 0 → WordLeft sheet bank frame place w
-  asBefore : ((k : ℕ) → Stored sheet bank frame k place → ⊥) → (Clears sheet bank frame place → ⊥) → w ≡ word bank (2 * place)
-      → WordLeft sheet bank frame place w
+pub data WordLeft (given : Lent) (frame : List ℕ) (place w : ℕ) : Type 0 where
+  stored : (k : ℕ) → Stored given frame k place → w ≡ sentWord frame k → WordLeft given frame place w
+  cleared : Clears given frame place → w ≡ 0 → WordLeft given frame place w
+  asBefore : ((k : ℕ) → Stored given frame k place → ⊥) → (Clears given frame place → ⊥) → w ≡ word (given .bank) (2 * place)
+      → WordLeft given frame place w
 
 -- ---- rules D20 to D23: all of it
 
-pub record Leaves (sheet bank frame before : List ℕ) (left : Left) : Type 0 where
+pub record Leaves (given : Lent) (frame before : List ℕ) (left : Left) : Type 0 where
   pub fate : Fate
-  pub gets : Gets sheet bank frame fate
-  pub answered : Answered sheet bank frame before left fate
-  pub bankSize : length (left .bank) ≡ length bank
-  pub words : (place : ℕ) → WordLeft sheet bank frame place (word (left .bank) (2 * place))
+  pub gets : Gets given frame fate
+  pub handsBack : HandsBack given frame before left fate
+  pub bankSize : length (left .bank) ≡ length (given .bank)
+  pub words : (place : ℕ) → WordLeft given frame place (word (left .bank) (2 * place))

@@ -1,10 +1,13 @@
 -- `meter::answer` meets its contract: the refusals in their order, then what becomes of the judged frame.
 -- Assumes nothing.
-use mathlib.Core.Path.{_∙_, ap, sym}
+use Prim.Native.Nat.{ℕ, _≤_}
+use mathlib.Core.Path.{_≡_, _∙_, ap, sym}
+use mathlib.Core.List.{List}
 use borrow.Author.Tests.{lt-ltb, le-ltb}
 use denote.Ref.{now}
 use lib.ListN.{length}
-use Rattle.bank_rules.specs.Calls.{lent}
+use Rattle.refusals.specs.declared.Answer.the-variants.{Done}
+use Rattle.bank_rules.specs.Calls.{Lent, lent, checkAnswer}
 use Rattle.bank_rules.proofs.Changes.{check-passed}
 use Rattle.meter_rules.specs.declared.Judged.{Judged}
 use Rattle.meter_rules.specs.Answer.{leastBuffer, actedOn}
@@ -14,34 +17,65 @@ use borrow.Author.Needs.{needs}
 use Rattle.meter.proofs.answer.Statement.{statement}
 use Rattle.meter.proofs.answer.Tie as tie
 
+-- sheet and bank were checked
+module _ (c : tie.After-check) where
+  abbrev start : tie.Start
+  start = c .before .before .before .before .before .before
+
+  abbrev given : Lent
+  given = lent (now (start .args .sheet)) (now (start .args .bank))
+
+  abbrev frame : List ℕ
+  frame = now (start .args .frame)
+
+  abbrev buffer : List ℕ
+  buffer = now (start .args .buffer)
+
+  checks : c .check .result ≡ checkAnswer given
+  checks = c .check .ensures
+
+-- .. and pass, and the buffer is large enough
+module _ (c : tie.Else1) where
+  abbrev checked : tie.After-check
+  checked = c .before .before .before
+
+  passes : checked .check .result ≡ Done
+  passes = c .before .enum-told .given .1
+
+  enough : leastBuffer ≤ length (buffer checked)
+  enough = c .if1 .left
+
 returns : tie.Need-returns
 returns c =
-    let a = c .before .before .before .before .before .before .before .before .before .args in
-    answer-refused (lent (now (a .sheet)) (now (a .bank))) (now (a .frame)) (now (a .buffer)) (c .before .before .before .check .ensures) (c .before .refusal .given .1)
+    let at = c .before .before .before in
+    answer-refused (given at) (frame at) (buffer at) (checks at) (c .before .refusal .given .1)
 
 returns-2 : tie.Need-returns-2
 returns-2 c =
-    let a = c .before .before .before .before .before .before .before .before .before .args in
-    answer-small (lent (now (a .sheet)) (now (a .bank))) (now (a .frame)) (now (a .buffer)) (c .before .before .before .check .ensures) (c .before .enum-told .given .1)
-    (lt-ltb (length (now (a .buffer))) leastBuffer (c .if1 .taken))
+    let at = c .before .before .before in
+    answer-small (given at) (frame at) (buffer at) (checks at) (c .before .enum-told .given .1) (lt-ltb (length (buffer at)) leastBuffer (c .if1 .taken))
 
-judged-requires : tie.Need-judged-requires
-judged-requires c κs =
-    let a = c .before .before .before .before .before .before .before .before .before .before .args in
-    check-passed (lent (now (a .sheet)) (now (a .bank))) (sym (c .before .before .before .before .check .ensures) ∙ c .before .before .enum-told .given .1) .right
+judged-frame-requires : tie.Need-judged-frame-requires
+judged-frame-requires c κs =
+    let at = checked (c .before) in
+    check-passed (given at) (sym (checks at) ∙ passes (c .before)) .right
 
 acted-requires : tie.Need-acted-requires
 acted-requires c κs =
-    let a = c .before .before .before .before .before .before .before .before .before .before .before .before .before .args in
-    judged-room (now (a .sheet)) (now (a .bank)) (now (a .frame)) (now (a .buffer)) (c .before .before .judged .ensures) (c .before .before .before .before .if1 .left)
+    let judging = c .before .before in
+    let ready = judging .before .before in
+    let at = checked ready in
+    judged-room (given at) (frame at) (buffer at) (judging .judged-frame .ensures) (enough ready)
 
 returns-3 : tie.Need-returns-3
 returns-3 c =
-    let a = c .before .before .before .before .before .before .before .before .before .before .before .before .before .before .before .before .before .before .args in
-    c .before .before .before .before .acted .ensures
-    ∙ ap (λ (j : Judged). actedOn j (now (a .sheet)) (now (a .bank)) (now (a .frame)) (now (a .buffer))) (c .before .before .before .before .before .before .before .judged .ensures)
-    ∙ answer-acted (lent (now (a .sheet)) (now (a .bank))) (now (a .frame)) (now (a .buffer)) (c .before .before .before .before .before .before .before .before .before .before .before .before .check .ensures)
-    (c .before .before .before .before .before .before .before .before .before .before .enum-told .given .1) (le-ltb (length (now (a .buffer))) leastBuffer (c .before .before .before .before .before .before .before .before .before .if1 .left))
+    let acting = c .before .before .before .before in
+    let judging = acting .before .before .before in
+    let ready = judging .before .before in
+    let at = checked ready in
+    acting .acted .ensures
+    ∙ ap (λ (j : Judged). actedOn j (given at) (frame at) (buffer at)) (judging .judged-frame .ensures)
+    ∙ answer-acted (given at) (frame at) (buffer at) (checks at) (passes ready) (le-ltb (length (buffer at)) leastBuffer (enough ready))
 
 pub answer-spec : {M : Type 1} → statement M
 answer-spec =
@@ -54,7 +88,7 @@ answer-spec =
     returns
     (λ c. search needs)
     returns-2
-    judged-requires
+    judged-frame-requires
     acted-requires
     (λ c. search needs)
     (λ c. search needs)

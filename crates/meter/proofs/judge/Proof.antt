@@ -1,8 +1,10 @@
 -- `meter::judge` meets its contract: the refusals of the bank's check, then where the frame stops. Assumes nothing.
-use mathlib.Core.Path.{_∙_, ap, sym}
+use Prim.Native.Nat.{ℕ}
+use mathlib.Core.Path.{_≡_, _∙_, ap, sym}
+use mathlib.Core.List.{List}
 use denote.Ref.{now}
 use borrow.Author.Needs.{needs}
-use Rattle.bank_rules.specs.Calls.{lent, checkAnswer}
+use Rattle.bank_rules.specs.Calls.{Lent, lent, checkAnswer}
 use Rattle.bank_rules.proofs.Changes.{check-passed}
 use Rattle.refusals.specs.declared.Answer.{Answer}
 use Rattle.meter_rules.specs.declared.Judgement.the-variants.{Stops}
@@ -11,25 +13,34 @@ use Rattle.meter_rules.specs.Judgement.{judgementBy, judgement}
 use Rattle.meter.proofs.judge.Statement.{statement}
 use Rattle.meter.proofs.judge.Tie as tie
 
-returns : tie.Need-returns
-unfolding judgement
-returns c =
-    let a = c .before .before .before .before .before .before .before .args in
-    ap (λ (answer : Answer). judgementBy answer (judgedFrame (now (a .sheet)) (now (a .bank)) (now (a .frame))))
-    (sym (c .before .refusal .given .1) ∙ c .before .before .before .check .ensures)
+-- sheet and bank were checked
+module _ (c : tie.After-check) where
+  abbrev start : tie.Start
+  start = c .before .before .before .before
 
-judged-requires : tie.Need-judged-requires
-judged-requires c κs =
-    let a = c .before .before .before .before .before .before .args in
-    check-passed (lent (now (a .sheet)) (now (a .bank))) (sym (c .before .before .check .ensures) ∙ c .enum-told .given .1) .right
+  abbrev given : Lent
+  given = lent (now (start .args .sheet)) (now (start .args .bank))
+
+  abbrev frame : List ℕ
+  frame = now (start .args .frame)
+
+  checks : c .check .result ≡ checkAnswer given
+  checks = c .check .ensures
+
+  by : {told : Answer} → c .check .result ≡ told → judgementBy told (judgedFrame given frame) ≡ judgement given frame
+  unfolding judgement
+  by is = ap (λ (answer : Answer). judgementBy answer (judgedFrame given frame)) (sym is ∙ checks)
+
+returns : tie.Need-returns
+returns c = by (c .before .before .before) (c .before .refusal .given .1)
+
+judged-frame-requires : tie.Need-judged-frame-requires
+judged-frame-requires c κs =
+    let at = c .before .before in
+    check-passed (given at) (sym (checks at) ∙ c .enum-told .given .1) .right
 
 returns-2 : tie.Need-returns-2
-unfolding judgement
-returns-2 c =
-    let a = c .before .before .before .before .before .before .before .args in
-    ap Stops (c .judged .ensures)
-    ∙ ap (λ (answer : Answer). judgementBy answer (judgedFrame (now (a .sheet)) (now (a .bank)) (now (a .frame))))
-    (sym (c .before .enum-told .given .1) ∙ c .before .before .before .check .ensures)
+returns-2 c = ap Stops (c .judged-frame .ensures) ∙ by (c .before .before .before) (c .before .enum-told .given .1)
 
 pub judge-spec : {M : Type 1} → statement M
 judge-spec =
@@ -39,5 +50,5 @@ judge-spec =
     (λ c. search needs)
     (λ c. search needs)
     returns
-    judged-requires
+    judged-frame-requires
     returns-2)

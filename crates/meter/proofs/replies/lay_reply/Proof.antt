@@ -1,5 +1,7 @@
 -- `meter::replies::lay_reply` meets its contract: an error, the reply to a good frame, or none. Assumes nothing.
+use Prim.Native.Nat.{ℕ}
 use mathlib.Core.Path.{refl}
+use mathlib.Core.List.{List}
 use denote.Ref.{now}
 use Rattle.frame.specs.Reply.{readReply, echo}
 use Rattle.meter.proofs.Acting.{answers-error, answers-good, answers-none, no-good-reply, echo-reply}
@@ -7,32 +9,50 @@ use borrow.Author.Needs.{needs}
 use Rattle.meter.proofs.replies.lay_reply.Statement.{statement}
 use Rattle.meter.proofs.replies.lay_reply.Tie as tie
 
+-- the error code was found
+module _ (c : tie.After-error-code) where
+  abbrev start : tie.Start
+  start = c .before .before .before .before
+
+  abbrev bank : List ℕ
+  bank = now (start .args .bank)
+
+  abbrev frame : List ℕ
+  frame = now (start .args .frame)
+
+  abbrev buffer : List ℕ
+  buffer = now (start .args .buffer)
+
 returns : tie.Need-returns
 returns c =
-    let d = c .before .before .before .before .before in
-    let a = d .before .before .before .before .args in
-    answers-error (a .judged) (now (a .bank)) (now (a .frame)) (now (a .buffer)) (a .rate) (d .before .before .before .before .pre) (d .error-code .ensures) (c .before .before .before .before .if1 .taken) (c .before .before .reply-error .ensures)
+    let erring = c .before .before .before .before in
+    let at = erring .before in
+    answers-error (start at .args .judged) (bank at) (frame at) (buffer at) (start at .args .rate) (start at .pre) (at .error-code .ensures) (erring .if1 .taken)
+    (c .before .before .reply-error .ensures)
 
 returns-2 : tie.Need-returns-2
 returns-2 c =
-    let d = c .before .before .before .before .before .before .before .before in
-    let a = d .before .before .before .before .args in
-    let told = c .before .before .before .before .before .judged .given in
-    answers-good (a .judged) (now (a .bank)) (now (a .frame)) (now (a .buffer)) (a .rate) (d .before .before .before .before .pre) (d .error-code .ensures)
-    (readReply (now (a .bank)) (now (a .frame)) (told .0 .0) (told .0 .1 .0)) (c .before .before .before .before .before .before .before .if1 .left) (told .1) refl (c .before .before .reply-read .ensures)
+    let reading = c .before .before .before .before .before in
+    let fine = reading .before .before in
+    let at = fine .before in
+    let told = reading .judged .given in
+    answers-good (start at .args .judged) (bank at) (frame at) (buffer at) (start at .args .rate) (start at .pre) (at .error-code .ensures)
+    (readReply (bank at) (frame at) (told .0 .0) (told .0 .1 .0)) (fine .if1 .left) (told .1) refl (c .before .before .reply-read .ensures)
 
 returns-3 : tie.Need-returns-3
 returns-3 c =
-    let d = c .before .before .before .before .before .before in
-    let a = d .before .before .before .before .args in
-    answers-good (a .judged) (now (a .bank)) (now (a .frame)) (now (a .buffer)) (a .rate) (d .before .before .before .before .pre) (d .error-code .ensures)
-    (echo (now (a .frame))) (c .before .before .before .before .before .if1 .left) refl (echo-reply (a .judged) (now (a .bank)) (now (a .frame)) (c .before .before .before .before .match .keys2)) (c .before .before .reply-echo .ensures)
+    let echoing = c .before .before .before .before in
+    let fine = echoing .before in
+    let at = fine .before in
+    answers-good (start at .args .judged) (bank at) (frame at) (buffer at) (start at .args .rate) (start at .pre) (at .error-code .ensures) (echo (frame at))
+    (fine .if1 .left) refl (echo-reply (start at .args .judged) (bank at) (frame at) (echoing .match .keys2)) (c .before .before .reply-echo .ensures)
 
 returns-4 : tie.Need-returns-4
 returns-4 c =
-    let d = c .before .before in
-    let a = d .before .before .before .before .args in
-    answers-none (a .judged) (now (a .bank)) (now (a .frame)) (now (a .buffer)) (a .rate) (d .error-code .ensures) (c .before .if1 .left) (no-good-reply (a .judged) (now (a .bank)) (now (a .frame)) (c .match .keys3))
+    let fine = c .before in
+    let at = fine .before in
+    answers-none (start at .args .judged) (bank at) (frame at) (buffer at) (start at .args .rate) (at .error-code .ensures) (fine .if1 .left)
+    (no-good-reply (start at .args .judged) (bank at) (frame at) (c .match .keys3))
 
 pub lay-reply-spec : {M : Type 1} → statement M
 lay-reply-spec =

@@ -2,11 +2,14 @@
 -- Assumes nothing.
 use borrow.Author.Needs.{needs}
 use native.Mathlib.Omega.{arith}
-use Prim.Native.Nat.{ℕ, _-_, _≤_}
+use Prim.Native.Nat.{ℕ, _-_, _≤_, _<_}
 use mathlib.Core.Path.{_≡_, sym, ap, _∙_}
+use mathlib.Core.Bool.{true}
+use mathlib.Core.List.{List}
 use denote.Ref.{now}
 use Rattle.sheet_rules.specs.declared.Item.{Item}
-use Rattle.sheet_rules.specs.Rows.{itemCount, itemRow, items}
+use Rattle.sheet_rules.specs.Rows.{areaCount, itemCount, itemRow, itemAt, items}
+use Rattle.sheet_rules.specs.Rules.{sound}
 use Rattle.sheet_rules.proofs.Sound.{row-counted, row-past, sound-numbers}
 use Rattle.meter_rules.specs.Write.{stopIn}
 use Rattle.meter_rules.proofs.Stopping.{itemsFrom, stop-skips, stop-past, stop-goes-on, stop-here, stop-none}
@@ -22,6 +25,54 @@ Inv-loop sheet bank frame write areas end k₀ k =
 abbrev μ-loop : tie.MeasureT-loop
 μ-loop sheet bank frame write areas end k₀ k = itemCount sheet - k
 
+-- ---- the items that are left, at the loop
+
+module _ (c : tie.At-loop Inv-loop μ-loop) where
+  abbrev start : tie.Start Inv-loop μ-loop
+  start = c .before .before .before .before .before .before .before
+
+  abbrev sheet : List ℕ
+  sheet = now (start .args .sheet)
+
+  abbrev first : ℕ
+  first = start .args .write .first
+
+  abbrev many : ℕ
+  many = start .args .write .many
+
+  abbrev bank : List ℕ
+  bank = now (start .args .bank)
+
+  abbrev frame : List ℕ
+  frame = now (start .args .frame)
+
+  keeps : sound sheet ≡ true
+  keeps = start .pre .0
+
+  areas-are : c .before .before .before .area-count .result ≡ areaCount sheet
+  areas-are = c .before .before .before .area-count .ensures
+
+  -- where the write stops by all items, and so by those that are left
+  abbrev whole : ℕ
+  whole = stopIn first many bank frame (items sheet)
+
+  left : stopIn first many bank frame (itemsFrom sheet (c .loop .k)) ≡ whole
+  left = c .loop .inv .1
+
+-- ---- the item at hand
+
+module _ (c : tie.After-item-row Inv-loop μ-loop) where
+  abbrev loop : tie.At-loop Inv-loop μ-loop
+  loop = c .before .before .before
+
+  inside : loop .loop .k < itemCount (sheet loop)
+  inside = row-counted (sheet loop) (keeps loop) (loop .loop .k) (areas-are loop) (c .before .before .item-end .ensures) (c .before .if1 .taken)
+
+  item-is : c .item-row .result ≡ itemAt (sheet loop) (loop .loop .k)
+  item-is = c .item-row .ensures ∙ ap (λ (n : ℕ). itemRow (sheet loop) n (loop .loop .k)) (areas-are loop)
+
+-- ---- the needs
+
 add-end : tie.Need-add-end Inv-loop μ-loop
 add-end c = record { fits = c .before .before .before .before .before .pre .1 .1 }
 
@@ -36,75 +87,44 @@ loop-holds c =
 
 returns : tie.Need-returns Inv-loop μ-loop
 returns c =
-    let a = c .before .before .before .before .before .before .before .before .before .before .before .before .args in
-    let s = now (a .sheet) in
-    let loop = c .before .before .before .before .before .loop in
-    let areas = c .before .before .before .before .before .before .before .before .area-count .ensures in
-    let inside = row-counted s (c .before .before .before .before .before .before .before .before .before .before .before .before .pre .0) (loop .k) areas (c .before .before .before .before .item-end .ensures) (c .before .before .before .if1 .taken) in
-    let item = c .before .before .item-row .result in
-    let item-says = c .before .before .item-row .ensures ∙ ap (λ (n : ℕ). itemRow s n (loop .k)) areas in
-    stop-past (a .write .first) (a .write .many) (now (a .bank)) (now (a .frame)) s (loop .k)
-    (stopIn (a .write .first) (a .write .many) (now (a .bank)) (now (a .frame)) (items s)) (loop .inv .1)
-    (c .before .before .before .before .before .before .before .before .before .before .before .before .pre .0) inside (omega (arith, c .if2 .taken, ap (λ (i : Item). i .place) item-says))
+    let row = c .before .before in
+    let at = loop row in
+    stop-past (first at) (many at) (bank at) (frame at) (sheet at) (at .loop .k) (whole at) (left at)
+    (keeps at) (inside row) (omega (arith, c .if2 .taken, ap (λ (i : Item). i .place) (item-is row)))
 
 is-bad-requires : tie.Need-is-bad-requires Inv-loop μ-loop
-is-bad-requires c κs = c .before .before .before .before .before .before .before .before .before .before .before .before .pre .1 .0
+is-bad-requires c κs = start (loop (c .before .before)) .pre .1 .0
 
 returns-2 : tie.Need-returns-2 Inv-loop μ-loop
 returns-2 c =
-    let a = c .before .before .before .before .before .before .before .before .before .before .before .before .before .before .before .args in
-    let s = now (a .sheet) in
-    let loop = c .before .before .before .before .before .before .before .before .loop in
-    let areas = c .before .before .before .before .before .before .before .before .before .before .before .area-count .ensures in
-    let inside = row-counted s (c .before .before .before .before .before .before .before .before .before .before .before .before .before .before .before .pre .0) (loop .k) areas (c .before .before .before .before .before .before .before .item-end .ensures) (c .before .before .before .before .before .before .if1 .taken) in
-    let item = c .before .before .before .before .before .item-row .result in
-    let item-says = c .before .before .before .before .before .item-row .ensures ∙ ap (λ (n : ℕ). itemRow s n (loop .k)) areas in
-    stop-here (a .write .first) (a .write .many) (now (a .bank)) (now (a .frame)) s (loop .k)
-    (stopIn (a .write .first) (a .write .many) (now (a .bank)) (now (a .frame)) (items s)) (loop .inv .1)
-    item item-says inside (sym (c .before .before .is-bad .ensures) ∙ c .before .if3 .taken)
+    let tested = c .before .before in
+    let row = tested .before .before .before in
+    let at = loop row in
+    stop-here (first at) (many at) (bank at) (frame at) (sheet at) (at .loop .k) (whole at) (left at)
+    (row .item-row .result) (item-is row) (inside row) (sym (tested .is-bad .ensures) ∙ c .before .if3 .taken)
 
 add-k : tie.Need-add-k Inv-loop μ-loop
 add-k c =
-    let a = c .before .before .before .before .before .before .before .before .before .before .before .before .before .before .args in
-    let s = now (a .sheet) in
-    let loop = c .before .before .before .before .before .before .before .loop in
-    let areas = c .before .before .before .before .before .before .before .before .before .before .area-count .ensures in
-    let inside = row-counted s (c .before .before .before .before .before .before .before .before .before .before .before .before .before .before .pre .0) (loop .k) areas (c .before .before .before .before .before .before .item-end .ensures) (c .before .before .before .before .before .if1 .taken) in
-    omega (arith, inside, sound-numbers s (c .before .before .before .before .before .before .before .before .before .before .before .before .before .before .pre .0) .items-high)
+    let row = c .before .before .before .before in
+    omega (arith, inside row, sound-numbers (sheet (loop row)) (keeps (loop row)) .items-high)
 
 loop-less : tie.Need-loop-less Inv-loop μ-loop
-loop-less c =
-    let a = c .before .before .before .before .before .before .before .before .before .before .before .before .before .before .args in
-    let s = now (a .sheet) in
-    let loop = c .before .before .before .before .before .before .before .loop in
-    let areas = c .before .before .before .before .before .before .before .before .before .before .area-count .ensures in
-    let inside = row-counted s (c .before .before .before .before .before .before .before .before .before .before .before .before .before .before .pre .0) (loop .k) areas (c .before .before .before .before .before .before .item-end .ensures) (c .before .before .before .before .before .if1 .taken) in
-    omega (arith, inside)
+loop-less c = omega (arith, inside (c .before .before .before .before))
 
 loop-again : tie.Need-loop-again Inv-loop μ-loop
 loop-again c =
-    let a = c .before .before .before .before .before .before .before .before .before .before .before .before .before .before .args in
-    let s = now (a .sheet) in
-    let loop = c .before .before .before .before .before .before .before .loop in
-    let areas = c .before .before .before .before .before .before .before .before .before .before .area-count .ensures in
-    let inside = row-counted s (c .before .before .before .before .before .before .before .before .before .before .before .before .before .before .pre .0) (loop .k) areas (c .before .before .before .before .before .before .item-end .ensures) (c .before .before .before .before .before .if1 .taken) in
-    let item = c .before .before .before .before .item-row .result in
-    let item-says = c .before .before .before .before .item-row .ensures ∙ ap (λ (n : ℕ). itemRow s n (loop .k)) areas in (
-      omega (arith, inside),
-      stop-goes-on (a .write .first) (a .write .many) (now (a .bank)) (now (a .frame)) s (loop .k)
-          (stopIn (a .write .first) (a .write .many) (now (a .bank)) (now (a .frame)) (items s)) (loop .inv .1)
-          item item-says inside (sym (c .before .is-bad .ensures) ∙ c .if3 .left),
+    let row = c .before .before .before .before in
+    let at = loop row in (
+      omega (arith, inside row),
+      stop-goes-on (first at) (many at) (bank at) (frame at) (sheet at) (at .loop .k) (whole at) (left at)
+          (row .item-row .result) (item-is row) (inside row) (sym (c .before .is-bad .ensures) ∙ c .if3 .left),
     )
 
 returns-3 : tie.Need-returns-3 Inv-loop μ-loop
 returns-3 c =
-    let a = c .before .before .before .before .before .before .before .before .before .args in
-    let s = now (a .sheet) in
-    let loop = c .before .before .loop in
-    let areas = c .before .before .before .before .before .area-count .ensures in
-    let past = row-past s (c .before .before .before .before .before .before .before .before .before .pre .0) (loop .k) areas (c .before .item-end .ensures) (c .if1 .left) in
-    stop-none (a .write .first) (a .write .many) (now (a .bank)) (now (a .frame)) s (loop .k)
-    (stopIn (a .write .first) (a .write .many) (now (a .bank)) (now (a .frame)) (items s)) (loop .inv .1) past
+    let at = c .before .before in
+    stop-none (first at) (many at) (bank at) (frame at) (sheet at) (at .loop .k) (whole at) (left at)
+    (row-past (sheet at) (keeps at) (at .loop .k) (areas-are at) (c .before .item-end .ensures) (c .if1 .left))
 
 pub stop-place-spec : {M : Type 1} → statement M
 stop-place-spec =
