@@ -1,12 +1,17 @@
--- Terms of the rules by themselves: the places that an item holds (rules S45 and S48), and what an access is good for (rules S21, J60 and J61), each as one
--- table under one statement. Assumes nothing.
+-- Terms of the rules by themselves: the places that an item holds (rules S45 and S48), what an access is good for (rules S21, J60 and J61), and how far a run of
+-- addresses is open (rules J60 to J62), each as one table under one statement. Assumes nothing.
 use mathlib.Core.Path.{_≡_, refl}
 use mathlib.Core.Bool.{Bool, true, not, _&&_}
 use mathlib.Core.List.{List, [], _∷_}
 use Prim.Native.Nat.{ℕ}
+use lib.Dec.{eqb}
+use Rattle.sheet_rules.specs.declared.Area.{Area}
 use Rattle.sheet_rules.specs.declared.Item.{Item}
+use Rattle.sheet_rules.specs.declared.Purpose.{Purpose}
+use Rattle.sheet_rules.specs.declared.Purpose.the-variants.{Read, Write}
 use Rattle.sheet_rules.specs.Rules.{readable, writable}
 use Rattle.sheet_rules.specs.Lookup.{holds}
+use Rattle.sheet_rules.specs.Runs.{reach}
 use Rattle.lists.specs.Lists.{each}
 
 -- an item by its kind, at place 5
@@ -55,3 +60,35 @@ accesses = closed 0 ∷ read-only 1 ∷ closed 2 ∷ read-and-write 3 ∷ closed
 pub accesses-fit : each fitting accesses ≡ true
 unfolding accesses each
 accesses-fit = refl
+
+abbrev area : ℕ → ℕ → ℕ → ℕ → Area
+area first last place access = record { first = first; last = last; place = place; access = access }
+
+-- 0010 to 0013 with access 3 and 0014 and 0015 with access 1 are neighbours; 0016 is a gap
+abbrev someAreas : List Area
+someAreas = area 0x0010 0x0013 0 3 ∷ area 0x0014 0x0015 4 1 ∷ area 0x0017 0x0018 6 3 ∷ area 0xFFFE 0xFFFF 8 1 ∷ []
+
+-- a purpose, an address, and the first one from it on that is not open
+pub record Reach : Type 0 where
+  pub purpose : Purpose
+  pub start : ℕ
+  pub end : ℕ
+
+abbrev from : Purpose → ℕ → ℕ → Reach
+from purpose start end = record { purpose = purpose; start = start; end = end }
+
+abbrev pub reaches : Reach → Bool
+reaches this = eqb (reach (this .purpose) someAreas (this .start)) (this .end)
+
+pub runs : List Reach
+runs =
+    from Read 0x000F 0x000F ∷ from Read 0x0010 0x0016 ∷ from Read 0x0013 0x0016 ∷ from Read 0x0014 0x0016 ∷ from Read 0x0015 0x0016
+    ∷ from Read 0x0016 0x0016 ∷ from Read 0x0017 0x0019 ∷ from Read 0x0018 0x0019 ∷ from Read 0x0019 0x0019
+    ∷ from Read 0xFFFE 0x10000 ∷ from Read 0xFFFF 0x10000 ∷ from Read 0x10000 0x10000
+    ∷ from Write 0x000F 0x000F ∷ from Write 0x0010 0x0014 ∷ from Write 0x0013 0x0014 ∷ from Write 0x0014 0x0014 ∷ from Write 0x0015 0x0015
+    ∷ from Write 0x0016 0x0016 ∷ from Write 0x0017 0x0019 ∷ from Write 0xFFFF 0xFFFF ∷ []
+
+-- every row is right
+pub runs-reach : each reaches runs ≡ true
+unfolding runs each reach
+runs-reach = refl
