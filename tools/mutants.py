@@ -49,6 +49,7 @@ BARE = "lists refusals words check_value range sheet_rules makers bank_rules fra
 STATED = ["plain"]
 # the files that compute a statement from the definitions, and stand on nothing else of proofs/
 TABLES = {
+    "words": ["Edges"],
     "check_value": ["Witness"],
     "sheet_rules": ["Terms", "Sides", "SheetLimits"],
     "makers": ["Sheets"],
@@ -144,7 +145,7 @@ def second_argument(text):
 def line_slips(code, steps):
     """(what is changed, the changed line) for each number and sign of a line."""
     for match in NUMBER.finditer(code):
-        if code[:match.start()].endswith("Type "):
+        if code[:match.start()].endswith(("Type ", "{")):
             continue
         for by in steps:
             other = moved(match.group(1), by)
