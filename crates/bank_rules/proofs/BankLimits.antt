@@ -59,6 +59,19 @@ broken = bytesOf (changed 0 sheetWords (at 0 2 ∷ []))
 abbrev fromZero : List ℕ
 fromZero = bytesOf (changed 0 sheetWords (at 43 0 ∷ []))
 
+-- a sheet whose first place is read only, and whose pair and word are at the highest values
+abbrev highest : List ℕ
+highest =
+    bytesOf
+    (0x0001 ∷ 2 ∷ 12 ∷ 4 ∷ 20 ∷ 6 ∷ 15 ∷ 44 ∷ 1 ∷ 2 ∷ 0x0300 ∷ 0x0000
+    ∷ 0x0005 ∷ 0x0005 ∷ 0 ∷ 1
+    ∷ 0x0010 ∷ 0x0014 ∷ 1 ∷ 3
+    ∷ 0 ∷ 1 ∷ 0x0000 ∷ 0x0001 ∷ 0x0000 ∷ 0x00F7
+    ∷ 0 ∷ 2 ∷ 0x0000 ∷ 0x0000 ∷ 0x0000 ∷ 0x0001
+    ∷ 2 ∷ 3 ∷ 0xFFFF ∷ 0xFFFE ∷ 0xFFFF ∷ 0xFFFF
+    ∷ 0 ∷ 5 ∷ 0x0000 ∷ 0xFFFF ∷ 0x0000 ∷ 0xFFFF
+    ∷ [])
+
 -- a bank whose mark is 2
 abbrev unsound : List ℕ
 unsound = bank (at 13 2 ∷ [])
@@ -145,6 +158,7 @@ table =
     ∷ fresh sheet (replicate 28 0xFF) 0 (bytesOf freshWords)
     ∷ fresh sheet unsound 0 (bytesOf freshWords)
     ∷ fresh fromZero (bank []) 0 (bytesOf freshWords)  -- the address is 1, also where its range begins at 0
+    ∷ fresh highest (replicate 14 0xFF) 0 (bytesOf (0x0000 ∷ 0x0001 ∷ 0x0001 ∷ 0xFFFF ∷ 0xFFFE ∷ 0xFFFF ∷ 0x0000 ∷ []))
     ∷ fresh broken (bank []) 2 (bank [])
     ∷ fresh broken [] 2 []
     ∷ fresh sheet (take 27 (bank [])) 3 (take 27 (bank []))
