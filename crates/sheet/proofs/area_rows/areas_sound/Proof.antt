@@ -6,11 +6,11 @@ use Prim.Native.Nat.{ℕ, _-_, _*_, _≤_}
 use native.Mathlib.Omega.{arith}
 use lib.Dec.{eqb}
 use denote.Ref.{now}
-use Rattle.sheet_rules.specs.Rows.{areaAt, areaCount, bankWords, functions, clearAddress, areasFrom}
+use Rattle.sheet_rules.specs.Rows.{areaAt, areaCount, bankWords, functions, clearAddress}
 use Rattle.sheet_rules.specs.Rules.{allowed, bitOf05, areasSound}
 use Rattle.lists.proofs.Tests.{refused, passed}
 use Rattle.lists.proofs.Walks.{rows-all}
-use Rattle.sheet_rules.proofs.Rows.{areas-rows}
+use Rattle.sheet_rules.proofs.Rows.{areasFrom, areas-rows}
 use Rattle.sheet.proofs.Areas.{walk, walk-on, walk-next, walk-end, walk-sound, word-broken, allowed-word, kept-word}
 use Rattle.sheet_rules.specs.declared.Header.{Header}
 use borrow.Author.Needs.{needs}
