@@ -66,10 +66,7 @@ pub fn post(sheet: &[u8], bank: &mut [u8], address: u32, bytes: &[u8]) -> Answer
     let Answer::Done = checked else {
         return checked;
     };
-    if bytes.len() == 0 {
-        return Answer::Refused(Refusal::BadInput);
-    }
-    if bytes.len() % 2 == 1 {
+    if bank_steps::empty_or_odd(bytes) {
         return Answer::Refused(Refusal::BadInput);
     }
     if !bank_steps::all_read_only(sheet, address, bytes.len() / 2) {

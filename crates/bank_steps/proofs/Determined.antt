@@ -8,6 +8,8 @@ use Rattle.bank_steps.proofs.store_item.Kinds as store-item
 use Rattle.bank_steps.proofs.store_item.Reads as store-item-reads
 use Rattle.bank_steps.proofs.zero_words.Kinds as zero-words
 use Rattle.bank_steps.proofs.zero_words.Reads as zero-words-reads
+use Rattle.bank_steps.proofs.empty_or_odd.Kinds as empty-or-odd
+use Rattle.bank_steps.proofs.empty_or_odd.Reads as empty-or-odd-reads
 use Rattle.bank_steps.proofs.all_read_only.Kinds as all-read-only
 use Rattle.bank_steps.proofs.all_read_only.Reads as all-read-only-reads
 
@@ -22,6 +24,9 @@ store-item-determined κs a x y = read-off (λ o. (tt, (o, (tt, (tt, tt)))))
 
 pub zero-words-determined : Determined 1 zero-words.ps zero-words.r zero-words-reads.Post
 zero-words-determined κs a x y = read-off (λ o. (tt, (o, (tt, tt))))
+
+pub empty-or-odd-determined : Determined 1 empty-or-odd.ps empty-or-odd.r empty-or-odd-reads.Post
+empty-or-odd-determined κs a x y = read-off (λ r. (r, x .1))
 
 pub all-read-only-determined : Determined 1 all-read-only.ps all-read-only.r all-read-only-reads.Post
 all-read-only-determined κs a x y = read-off (λ r. (r, x .1))

@@ -1,10 +1,10 @@
-// The steps of the calls on a bank, each for any bytes: what every call refuses, an item's value and its stores, zeros, and the addresses
-// that are posted to.
+// The steps of the calls on a bank, each for any bytes: what every call refuses, an item's value and its stores, zeros, and what is posted
+// and where to.
 ghost use mathlib.Core.Path.{_≡_};
 ghost use mathlib.Core.List.{map};
 ghost use Rattle.lists.specs.Lists.{upFrom};
 ghost use Rattle.bank_rules.specs.Stores.{wordOf, stored};
-ghost use Rattle.bank_rules.specs.Bank.{valueBy, zeroAt, itemStores, isReadOnly, allReadOnly};
+ghost use Rattle.bank_rules.specs.Bank.{valueBy, zeroAt, itemStores, emptyOrOdd, isReadOnly, allReadOnly};
 ghost use Rattle.bank_rules.specs.Calls.{lent, freshAnswer};
 use refusals::Answer;
 use refusals::Refusal;
@@ -59,6 +59,16 @@ pub fn zero_words(bank: &mut [u8], count: u32)
         words::store_word(bank, 2 * (place as usize), 0);
         place += 1;
     }
+}
+
+// Rule N7, of posted bytes: there are none, or half a word is left over.
+pub fn empty_or_odd(bytes: &[u8]) -> bool
+    ensures { λ r. ⌜ r ≡ emptyOrOdd (now (bytes .entry)) ⌝ }
+{
+    if bytes.len() == 0 {
+        return true;
+    }
+    bytes.len() % 2 == 1
 }
 
 // Whether what lies somewhere is in an access 1 area.

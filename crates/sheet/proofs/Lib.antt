@@ -1,4 +1,3 @@
-pub mod Areas
 pub mod Covering
 pub mod Items
 pub mod Determined

@@ -1,4 +1,4 @@
--- `sheet::area_rows::areas_sound` meets its contract. The invariant: what the walk says of the areas from here on is what the rules say of
+-- `areas::area_rows::areas_sound` meets its contract. The invariant: what the walk says of the areas from here on is what the rules say of
 -- all of them. Assumes nothing.
 use mathlib.Core.Path.{_≡_, sym, ap, ap₂, _∙_}
 use mathlib.Core.Bool.{Bool}
@@ -11,14 +11,14 @@ use Rattle.sheet_rules.specs.Rules.{allowed, bitOf05, areasSound}
 use Rattle.lists.proofs.Tests.{refused, passed}
 use Rattle.lists.proofs.Walks.{rows-all}
 use Rattle.sheet_rules.proofs.Rows.{areasFrom, areas-rows}
-use Rattle.sheet.proofs.Areas.{walk, walk-on, walk-next, walk-end, walk-sound, word-broken, allowed-word, kept-word}
+use Rattle.areas.proofs.Walk.{walk, walk-on, walk-next, walk-end, walk-sound, word-broken, allowed-word, kept-word}
 use Rattle.sheet_rules.specs.declared.Header.{Header}
 use borrow.Author.Needs.{needs}
 use Prim.Native.Nat.{_<_}
-use Rattle.sheet.proofs.area_rows.areas_sound.Statement.{statement}
-use Rattle.sheet.proofs.area_rows.areas_sound.Tie as tie
-use Rattle.sheet.proofs.area_rows.sums_05.Reads as sums-05-reads
-use Rattle.sheet.proofs.area_rows.word_sound_without_05.Reads as word-sound-without-05-reads
+use Rattle.areas.proofs.area_rows.areas_sound.Statement.{statement}
+use Rattle.areas.proofs.area_rows.areas_sound.Tie as tie
+use Rattle.areas.proofs.area_rows.sums_05.Reads as sums-05-reads
+use Rattle.areas.proofs.area_rows.word_sound_without_05.Reads as word-sound-without-05-reads
 
 abbrev Inv-loop : tie.InvT-loop
 Inv-loop sheet header count clear allowed lowest₀ places₀ k₀ lowest places k =

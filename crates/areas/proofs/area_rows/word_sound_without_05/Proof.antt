@@ -1,7 +1,7 @@
--- `sheet::area_rows::word_sound_without_05` meets its contract. Assumes nothing.
+-- `areas::area_rows::word_sound_without_05` meets its contract. Assumes nothing.
 use borrow.Author.Needs.{needs}
-use Rattle.sheet.proofs.area_rows.word_sound_without_05.Statement.{statement}
-use Rattle.sheet.proofs.area_rows.word_sound_without_05.Tie as tie
+use Rattle.areas.proofs.area_rows.word_sound_without_05.Statement.{statement}
+use Rattle.areas.proofs.area_rows.word_sound_without_05.Tie as tie
 
 returns : tie.Need-returns
 returns c = search needs

@@ -1,16 +1,9 @@
-// The header of a sheet, read and checked: rules S0 to S12. It is read once and handed on, and only where it breaks no rule.
+// The header: rules S0 to S12.
 ghost use mathlib.Core.Path.{_≡_};
 ghost use Rattle.lists.specs.Lists.{between};
 ghost use Rattle.sheet_rules.specs.Rows.{headerOf};
 ghost use Rattle.sheet_rules.specs.Rules.{headerSound};
-ghost use Rattle.header.specs.Checked.{checkedHeader};
 use sheet_rules::Header;
-
-// What the check of a header gives.
-pub enum Checked {
-    Sound(Header),
-    Broken,
-}
 
 // Whether a number lies between two others, or is one of them.
 fn between(low: u16, high: u16, n: u16) -> bool
@@ -19,7 +12,7 @@ fn between(low: u16, high: u16, n: u16) -> bool
     low <= n && n <= high
 }
 
-fn header_sound(sheet: &[u8], header: Header) -> bool
+pub(crate) fn header_sound(sheet: &[u8], header: Header) -> bool
     requires { ⌜ header ≡ headerOf (now sheet) ⌝ }
     ensures { λ r. ⌜ r ≡ headerSound (now (sheet .entry)) ⌝ }
 {
@@ -36,15 +29,4 @@ fn header_sound(sheet: &[u8], header: Header) -> bool
         && words as u32 == 12 + 4 * (areas as u32) + 6 * (items as u32)
         && header.spare == 0
         && sheet.len() == 2 * (words as usize)
-}
-
-// The header of a sheet, where it breaks no rule.
-pub fn check(sheet: &[u8]) -> Checked
-    ensures { λ r. ⌜ r ≡ checkedHeader (now (sheet .entry)) ⌝ }
-{
-    let header = rows::header(sheet);
-    if !header_sound(sheet, header) {
-        return Checked::Broken;
-    }
-    Checked::Sound(header)
 }
