@@ -10,6 +10,8 @@ use Rattle.one_row.proofs.clear_outside.Kinds as clear-outside
 use Rattle.one_row.proofs.clear_outside.Reads as clear-outside-reads
 use Rattle.one_row.proofs.item_sound.Kinds as item-sound
 use Rattle.one_row.proofs.item_sound.Reads as item-sound-reads
+use Rattle.one_row.proofs.size_of.Kinds as size-of
+use Rattle.one_row.proofs.size_of.Reads as size-of-reads
 use Rattle.one_row.proofs.address_found.Kinds as address-found
 use Rattle.one_row.proofs.address_found.Reads as address-found-reads
 use Rattle.one_row.proofs.rate_found.Kinds as rate-found
@@ -29,6 +31,9 @@ clear-outside-determined κs a x y = read-off (λ r. (r, x .1))
 
 pub item-sound-determined : Determined 0 item-sound.ps item-sound.r item-sound-reads.Post
 item-sound-determined κs a x y = read-off (λ r. (r, x .1))
+
+pub size-of-determined : Determined 0 size-of.ps size-of.r size-of-reads.Post
+size-of-determined κs a x y = read-off (λ r. (r, x .1))
 
 pub address-found-determined : Determined 0 address-found.ps address-found.r address-found-reads.Post
 address-found-determined κs a x y = read-off (λ r. (r, x .1))

@@ -1,8 +1,8 @@
 // One area row or item row by itself, wherever it was read: the rules that need no other row, and whether an address lies in an area.
 ghost use mathlib.Core.Path.{_≡_};
-ghost use mathlib.Core.Bool.{not, _&&_, _||_};
+ghost use mathlib.Core.Bool.{not, cond, _&&_, _||_};
 ghost use lib.Dec.{leb, eqb};
-ghost use Rattle.sheet_rules.specs.Rules.{readable, accessRule, firstLastRule, inArea, lengthOf, kindRule, boundsRule, lowHighRule, settingAt, addressItem, rateItem};
+ghost use Rattle.sheet_rules.specs.Rules.{readable, accessRule, firstLastRule, inArea, lengthOf, isPair, kindRule, boundsRule, lowHighRule, settingAt, addressItem, rateItem};
 use sheet_rules::Area;
 use sheet_rules::Item;
 
@@ -86,6 +86,16 @@ pub fn item_sound(item: Item) -> bool
         return false;
     }
     range::not_above(item.kind, item.low, item.high)
+}
+
+// How many places an item has: its first place, and the next one for a pair. Rule S45.
+pub fn size_of(item: Item) -> u32
+    ensures { λ r. ⌜ r ≡ cond (isPair item) 2 1 ⌝ }
+{
+    if item.kind == 2 {
+        return 2;
+    }
+    1
 }
 
 // Rules S61 and S62, of an item and a place.

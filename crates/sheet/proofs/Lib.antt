@@ -1,3 +1,4 @@
+pub mod Areas
 pub mod Covering
 pub mod Items
 pub mod Determined

@@ -48,16 +48,6 @@ fn opened(sheet: &[u8], count: u16, cover: Cover) -> Cover
     Cover { next, end, area }
 }
 
-// How many places an item has: its first place, and the next one for a pair.
-fn size_of(item: Item) -> u32
-    ensures { λ r. ⌜ r ≡ sizeOf item ⌝ }
-{
-    if item.kind == 2 {
-        return 2;
-    }
-    1
-}
-
 // Whether an item stands at the next place and ends within the area of that place.
 fn covers(item: Item, cover: Cover) -> bool
     requires { ⌜ cover .next < 0x20000 ⌝ }
@@ -66,7 +56,7 @@ fn covers(item: Item, cover: Cover) -> bool
     if item.place as u32 != cover.next {
         return false;
     }
-    let size = size_of(item);
+    let size = one_row::size_of(item);
     cover.next + size <= cover.end
 }
 
@@ -107,7 +97,7 @@ pub(crate) fn items_and_settings_sound(sheet: &[u8], header: Header) -> bool
             return false;
         }
         cover = Cover {
-            next: at.next + size_of(item),
+            next: at.next + one_row::size_of(item),
             end: at.end,
             area: at.area,
         };

@@ -5,7 +5,7 @@ use denote.Ref.{now}
 use Rattle.sheet_rules.specs.Rules.{sound}
 use Rattle.lists.proofs.Tests.{refused, passed}
 use Rattle.sheet_rules.proofs.Sound.{rest-of, sheet-answered}
-use Rattle.areas.proofs.Told.{sound-told, broken-told}
+use Rattle.header.proofs.Told.{sound-told, broken-told}
 use borrow.Author.Needs.{needs}
 use Rattle.sheet.proofs.check.Statement.{statement}
 use Rattle.sheet.proofs.check.Tie as tie
@@ -25,22 +25,34 @@ returns c =
     let s = now (c .before .before .before .before .args .sheet) in
     sheet-answered s {right = false} (simp (broken-told s (c .before .before .check .ensures) (c .enum-told .given .1)))
 
-items-and-settings-sound-requires : tie.Need-items-and-settings-sound-requires
-items-and-settings-sound-requires c κs =
-    let told = sound-told (now (c .before .before .before .before .before .args .sheet)) (c .before .before .before .check .ensures) (c .before .checked .given .1) in
-    (told .2, told .1)
+areas-sound-requires : tie.Need-areas-sound-requires
+areas-sound-requires c κs =
+    sound-told (now (c .before .before .before .before .before .args .sheet)) (c .before .before .before .check .ensures) (c .before .checked .given .1) .1
 
 returns-2 : tie.Need-returns-2
+unfolding sound
 returns-2 c =
     let s = now (c .before .before .before .before .before .before .before .args .sheet) in
-    let told = sound-told s (c .before .before .before .before .before .check .ensures) (c .before .before .before .checked .given .1) in
-    sheet-answered s (rest-of s (told .0) (told .1) ∙ refused (c .before .items-and-settings-sound .ensures) (c .if1 .taken))
+    sheet-answered s {right = false}
+    (simp (sound-told s (c .before .before .before .before .before .check .ensures) (c .before .before .before .checked .given .1) .0, refused (c .before .areas-sound .ensures) (c .if1 .taken)))
+
+items-and-settings-sound-requires : tie.Need-items-and-settings-sound-requires
+items-and-settings-sound-requires c κs = (
+  sound-told (now (c .before .before .before .before .before .before .before .args .sheet)) (c .before .before .before .before .before .check .ensures) (c .before .before .before .checked .given .1) .1,
+  passed (c .before .areas-sound .ensures) (c .if1 .left),
+)
 
 returns-3 : tie.Need-returns-3
 returns-3 c =
-    let s = now (c .before .before .before .before .before .before .before .args .sheet) in
-    let told = sound-told s (c .before .before .before .before .before .check .ensures) (c .before .before .before .checked .given .1) in
-    sheet-answered s (rest-of s (told .0) (told .1) ∙ passed (c .before .items-and-settings-sound .ensures) (c .if1 .left))
+    let s = now (c .before .before .before .before .before .before .before .before .before .args .sheet) in
+    sheet-answered s (rest-of s (sound-told s (c .before .before .before .before .before .before .before .check .ensures) (c .before .before .before .before .before .checked .given .1) .0)
+    (passed (c .before .before .before .areas-sound .ensures) (c .before .before .if1 .left)) ∙ refused (c .before .items-and-settings-sound .ensures) (c .if2 .taken))
+
+returns-4 : tie.Need-returns-4
+returns-4 c =
+    let s = now (c .before .before .before .before .before .before .before .before .before .args .sheet) in
+    sheet-answered s (rest-of s (sound-told s (c .before .before .before .before .before .before .before .check .ensures) (c .before .before .before .before .before .checked .given .1) .0)
+    (passed (c .before .before .before .areas-sound .ensures) (c .before .before .if1 .left)) ∙ passed (c .before .items-and-settings-sound .ensures) (c .if2 .left))
 
 pub check-spec : {M : Type 1} → statement M
 check-spec =
@@ -50,6 +62,8 @@ check-spec =
     enum-known-checked
     enum-told
     returns
-    items-and-settings-sound-requires
+    areas-sound-requires
     returns-2
-    returns-3)
+    items-and-settings-sound-requires
+    returns-3
+    returns-4)

@@ -1,7 +1,7 @@
--- `areas::header::between` meets its contract. Assumes nothing.
+-- `header::between` meets its contract. Assumes nothing.
 use borrow.Author.Tests.{lt-leb, le-leb}
-use Rattle.areas.proofs.header.between.Statement.{statement}
-use Rattle.areas.proofs.header.between.Tie as tie
+use Rattle.header.proofs.between.Statement.{statement}
+use Rattle.header.proofs.between.Tie as tie
 
 returns : tie.Need-returns
 returns c = simp (le-leb _ _ (c .if1 .taken))

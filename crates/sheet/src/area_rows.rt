@@ -1,28 +1,8 @@
 // The rules of the area rows, in one walk over them.
 ghost use mathlib.Core.Path.{_≡_};
-ghost use mathlib.Core.Bool.{_||_};
-ghost use Prim.Native.Nat.{_/_, _%_};
-ghost use lib.Dec.{eqb};
 ghost use Rattle.sheet_rules.specs.Rows.{headerOf};
-ghost use Rattle.sheet_rules.specs.Rules.{bitOf05, areasSound};
+ghost use Rattle.sheet_rules.specs.Rules.{areasSound};
 use sheet_rules::Header;
-
-// Rule S13: whether 05 is in the sum.
-fn sums_05(functions: u16) -> bool
-    ensures { λ r. ⌜ r ≡ eqb (functions / bitOf05 % 2) 1 ⌝ }
-{
-    functions / 2 % 2 == 1
-}
-
-// Rule S27.
-fn word_sound_without_05(allowed: bool, clear: u16) -> bool
-    ensures { λ r. ⌜ r ≡ (allowed || eqb clear 0) ⌝ }
-{
-    if allowed {
-        return true;
-    }
-    clear == 0
-}
 
 pub(crate) fn areas_sound(sheet: &[u8], header: Header) -> bool
     requires { ⌜ header ≡ headerOf (now sheet) ⌝ }
@@ -30,8 +10,8 @@ pub(crate) fn areas_sound(sheet: &[u8], header: Header) -> bool
 {
     let count = header.areas;
     let clear = header.clear;
-    let allowed = sums_05(header.functions);
-    if !word_sound_without_05(allowed, clear) {
+    let allowed = header::sums_05(header.functions);
+    if !header::clear_sound_without_05(allowed, clear) {
         return false;
     }
     let mut lowest: u32 = 0;

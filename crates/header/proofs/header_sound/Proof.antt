@@ -1,4 +1,4 @@
--- `areas::header::header_sound` meets its contract: after each `&&` the answer so far is the rules so far. Assumes nothing.
+-- `header::header_sound` meets its contract: after each `&&` the answer so far is the rules so far. Assumes nothing.
 use mathlib.Core.Path.{_≡_, refl, ap, _∙_}
 use mathlib.Core.Bool.{Bool, _&&_}
 use mathlib.Core.Logic.{⊎-elim}
@@ -12,8 +12,8 @@ use Rattle.sheet_rules.specs.Rules.{headerSound}
 use Rattle.lists.specs.Lists.{between}
 use Rattle.lists.proofs.Tests.{tested, carried}
 use borrow.Author.Needs.{needs}
-use Rattle.areas.proofs.header.header_sound.Statement.{statement}
-use Rattle.areas.proofs.header.header_sound.Tie as tie
+use Rattle.header.proofs.header_sound.Statement.{statement}
+use Rattle.header.proofs.header_sound.Tie as tie
 
 -- the rules of a header, but for the last one, by its words
 module _ (h : Header) where

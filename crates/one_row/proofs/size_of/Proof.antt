@@ -1,7 +1,7 @@
--- `sheet::item_rows::size_of` meets its contract. Assumes nothing.
+-- `one_row::size_of` meets its contract. Assumes nothing.
 use borrow.Author.Tests.{eq-eqb, ne-eqb}
-use Rattle.sheet.proofs.item_rows.size_of.Statement.{statement}
-use Rattle.sheet.proofs.item_rows.size_of.Tie as tie
+use Rattle.one_row.proofs.size_of.Statement.{statement}
+use Rattle.one_row.proofs.size_of.Tie as tie
 
 returns : tie.Need-returns
 returns c = simp (eq-eqb _ _ (c .if1 .taken))
