@@ -1,13 +1,9 @@
 -- Each promise of this crate determines the answer and the lent bank at exit. Assumes nothing.
 use Rattle.words.proofs.Promise.{Determined, read-off}
-use Rattle.bank.proofs.value_in.Kinds as value-in
-use Rattle.bank.proofs.value_in.Reads as value-in-reads
 use Rattle.bank.proofs.check.Kinds as check
 use Rattle.bank.proofs.check.Reads as check-reads
 use Rattle.bank.proofs.fresh_words.store_fresh.Kinds as store-fresh
 use Rattle.bank.proofs.fresh_words.store_fresh.Reads as store-fresh-reads
-use Rattle.bank.proofs.post_words.all_read_only.Kinds as all-read-only
-use Rattle.bank.proofs.post_words.all_read_only.Reads as all-read-only-reads
 use Rattle.bank.proofs.post_words.store_posted.Kinds as store-posted
 use Rattle.bank.proofs.post_words.store_posted.Reads as store-posted-reads
 use Rattle.bank.proofs.fresh.Kinds as fresh
@@ -16,9 +12,6 @@ use Rattle.bank.proofs.post.Kinds as post
 use Rattle.bank.proofs.post.Reads as post-reads
 use Rattle.bank.proofs.set_mark.Kinds as set-mark
 use Rattle.bank.proofs.set_mark.Reads as set-mark-reads
-
-pub value-in-determined : Determined 1 value-in.ps value-in.r value-in-reads.Post
-value-in-determined κs a x y = read-off (λ r. (r, x .1))
 
 pub check-determined : Determined 2 check.ps check.r check-reads.Post
 check-determined κs a x y = read-off (λ r. (r, x .1))
@@ -34,9 +27,6 @@ set-mark-determined κs a x y = read-off (λ o. (o .answer, (tt, (o .bank, (tt, 
 
 pub store-fresh-determined : Determined 2 store-fresh.ps store-fresh.r store-fresh-reads.Post
 store-fresh-determined κs a x y = read-off (λ o. (tt, (tt, (o, tt))))
-
-pub all-read-only-determined : Determined 1 all-read-only.ps all-read-only.r all-read-only-reads.Post
-all-read-only-determined κs a x y = read-off (λ r. (r, x .1))
 
 pub store-posted-determined : Determined 3 store-posted.ps store-posted.r store-posted-reads.Post
 store-posted-determined κs a x y = read-off (λ o. (tt, (tt, (o, (tt, (tt, tt))))))

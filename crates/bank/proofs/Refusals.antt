@@ -1,17 +1,13 @@
 -- The outcome of a call on a bank, from what it answers: a refusal leaves the bank, and a call that is done makes its stores.
 -- Assumes nothing.
 use mathlib.Core.Path.{_≡_, sym, ap, _∙_}
-use mathlib.Core.Bool.{Bool, not}
 use mathlib.Core.List.{List}
-use Prim.Native.Nat.{ℕ, _+_, _*_}
-use lib.Dec.{eqb}
-use lib.ListN.{length}
+use Prim.Native.Nat.{ℕ}
 use Rattle.refusals.specs.declared.Refusal.{Refusal}
 use Rattle.refusals.specs.declared.Answer.{Answer}
 use Rattle.refusals.specs.declared.Answer.the-variants.{Done, Refused}
-use Rattle.sheet_rules.specs.Rows.{bankWords}
 use Rattle.bank_rules.specs.Stores.{Store, stored}
-use Rattle.bank_rules.specs.Calls.{Lent, misfittingBank, bankOutcome, effectOf}
+use Rattle.bank_rules.specs.Calls.{bankOutcome, effectOf}
 
 module _ (bank : List ℕ) (stores : List Store) {answer : Answer} where
   pub outcome-refused : {refused : Answer} {refusal : Refusal} → refused ≡ Refused refusal → answer ≡ Refused refusal
@@ -23,8 +19,3 @@ module _ (bank : List ℕ) (stores : List Store) {answer : Answer} where
   pub outcome-done : {made : List ℕ} → answer ≡ Done → made ≡ stored bank stores
       → bankOutcome Done made ≡ bankOutcome answer (stored bank (effectOf answer stores))
   outcome-done is e = ap (bankOutcome Done) e ∙ ap (λ (a : Answer). bankOutcome a (stored bank (effectOf a stores))) (sym is)
-
--- a bank's size, tested by the number of words at hand
-pub size-tested : (given : Lent) {words : ℕ} {same : Bool} → words ≡ bankWords (given .sheet) → eqb (length (given .bank)) (2 * words + 2) ≡ same
-    → misfittingBank given ≡ not same
-size-tested given e tested = ap not (ap (λ (n : ℕ). eqb (length (given .bank)) (2 * n + 2)) (sym e) ∙ tested)

@@ -2,27 +2,13 @@
 ghost use mathlib.Core.Path.{_≡_};
 ghost use mathlib.Core.Bool.{true};
 ghost use Rattle.sheet_rules.specs.Rules.{sound};
-ghost use Rattle.bank_rules.specs.Stores.{wordOf};
-ghost use Rattle.bank_rules.specs.Bank.{valueBy, bankSound};
-ghost use Rattle.bank_rules.specs.Calls.{lent, checkAnswer, freshAnswer, freshOutcome, postOutcome, markOutcome, bankOutcome};
+ghost use Rattle.bank_rules.specs.Bank.{bankSound};
+ghost use Rattle.bank_rules.specs.Calls.{lent, checkAnswer, freshOutcome, postOutcome, markOutcome, bankOutcome};
 use refusals::Answer;
 use refusals::Refusal;
-use sheet_rules::Item;
 
 mod fresh_words;
 mod post_words;
-
-// The value of an item: its word, or for a pair both, upper word first.
-pub fn value_in(bank: &[u8], item: Item) -> u32
-    ensures { λ r. ⌜ r ≡ valueBy (wordOf (now (bank .entry))) item ⌝ }
-{
-    let at = 2 * (item.place as usize);
-    let word = words::word_at(bank, at) as u32;
-    if item.kind != 2 {
-        return word;
-    }
-    word * 65536 + words::word_at(bank, at + 2) as u32
-}
 
 // Whether a bank is sound: rules B10 to B12.
 fn sound(sheet: &[u8], bank: &[u8]) -> bool
@@ -33,7 +19,12 @@ fn sound(sheet: &[u8], bank: &[u8]) -> bool
     let mut k = 0;
     while rows::item_end(areas, k) <= sheet.len() {
         let item = rows::item_row(sheet, areas, k);
-        if !range::in_range(item.kind, item.low, item.high, value_in(bank, item)) {
+        if !range::in_range(
+            item.kind,
+            item.low,
+            item.high,
+            bank_steps::value_in(bank, item),
+        ) {
             return false;
         }
         k += 1;
@@ -41,25 +32,11 @@ fn sound(sheet: &[u8], bank: &[u8]) -> bool
     words::word_at(bank, 2 * (rows::bank_words(sheet) as usize)) <= 1
 }
 
-// The refusals that all calls on a bank share: a sheet that breaks a rule, and a bank that has not 2B + 2 bytes.
-fn check_size(sheet: &[u8], bank: &[u8]) -> Answer
-    ensures { λ r. ⌜ r ≡ freshAnswer (lent (now (sheet .entry)) (now (bank .entry))) ⌝ }
-{
-    let checked = sheet::check(sheet);
-    let Answer::Done = checked else {
-        return checked;
-    };
-    if bank.len() != 2 * (rows::bank_words(sheet) as usize) + 2 {
-        return Answer::Refused(Refusal::MisfittingBank);
-    }
-    Answer::Done
-}
-
-// The refusals that posting, setting the mark and answering share: these, and a bank that is not sound.
+// The refusals that posting, setting the mark and answering share: those of every call on a bank, and a bank that is not sound.
 pub fn check(sheet: &[u8], bank: &[u8]) -> Answer
     ensures { λ r. ⌜ r ≡ checkAnswer (lent (now (sheet .entry)) (now (bank .entry))) ⌝ }
 {
-    let checked = check_size(sheet, bank);
+    let checked = bank_steps::check_size(sheet, bank);
     let Answer::Done = checked else {
         return checked;
     };
@@ -73,7 +50,7 @@ pub fn check(sheet: &[u8], bank: &[u8]) -> Answer
 pub fn fresh(sheet: &[u8], bank: &mut [u8]) -> Answer
     ensures { λ r. ⌜ bankOutcome r (now (bank .exit)) ≡ freshOutcome (lent (now (sheet .entry)) (now (bank .entry))) ⌝ }
 {
-    let checked = check_size(sheet, bank);
+    let checked = bank_steps::check_size(sheet, bank);
     let Answer::Done = checked else {
         return checked;
     };
@@ -89,13 +66,10 @@ pub fn post(sheet: &[u8], bank: &mut [u8], address: u32, bytes: &[u8]) -> Answer
     let Answer::Done = checked else {
         return checked;
     };
-    if bytes.len() == 0 {
+    if bank_steps::empty_or_odd(bytes) {
         return Answer::Refused(Refusal::BadInput);
     }
-    if bytes.len() % 2 == 1 {
-        return Answer::Refused(Refusal::BadInput);
-    }
-    if !post_words::all_read_only(sheet, address, bytes.len() / 2) {
+    if !bank_steps::all_read_only(sheet, address, bytes.len() / 2) {
         return Answer::Refused(Refusal::NotReadOnly);
     }
     post_words::store_posted(sheet, bank, address, bytes);

@@ -7,7 +7,8 @@ use native.Mathlib.Omega.{arith}
 use lib.Dec.{leb, ltb}
 use borrow.Author.Tests.{lt-ltb, le-ltb, lt-leb, le-leb, leb-true, leb-false}
 use Rattle.sheet_rules.specs.declared.Area.{Area}
-use Rattle.sheet_rules.specs.Rows.{areaCount, areaAt, areasFrom}
+use Rattle.sheet_rules.specs.Rows.{areaCount, areaAt}
+use Rattle.sheet_rules.proofs.Rows.{areasFrom}
 use Rattle.sheet_rules.specs.Rules.{placeInArea, lengthOf}
 use Rattle.sheet_rules.specs.Lookup.{addressOf}
 use Rattle.lists.proofs.Walks.{rows-on, rows-end}

@@ -1,8 +1,8 @@
 // What lies at an address, the address of a place, and how far a run of addresses is open: one walk over the area rows each.
 ghost use mathlib.Core.Path.{_≡_};
 ghost use Rattle.sheet_rules.specs.Rows.{areas};
-ghost use Rattle.sheet_rules.specs.Rules.{inArea, placeInArea};
-ghost use Rattle.sheet_rules.specs.Lookup.{liesIn, addressOf};
+ghost use Rattle.sheet_rules.specs.Rules.{placeInArea};
+ghost use Rattle.sheet_rules.specs.Lookup.{liesIn, placeIn, addressOf};
 ghost use Rattle.sheet_rules.specs.Runs.{permits, carried, runFrom};
 use sheet_rules::Area;
 use sheet_rules::Lies;
@@ -14,16 +14,6 @@ const READ_ONLY: u16 = 1;
 
 const READ_AND_WRITE: u16 = 3;
 
-// Whether an address lies in an area.
-pub fn in_area(address: u32, area: Area) -> bool
-    ensures { λ r. ⌜ r ≡ inArea address area ⌝ }
-{
-    if address < area.first as u32 {
-        return false;
-    }
-    address <= area.last as u32
-}
-
 // What lies at an address: a place of the bank with the access of its area, or nothing.
 pub fn lies_at(sheet: &[u8], address: u32) -> Lies
     ensures { λ r. ⌜ r ≡ liesIn (areas (now (sheet .entry))) address ⌝ }
@@ -32,7 +22,7 @@ pub fn lies_at(sheet: &[u8], address: u32) -> Lies
     let mut k: u16 = 0;
     while k < count {
         let area = rows::area_row(sheet, k);
-        if in_area(address, area) {
+        if one_row::in_area(address, area) {
             return Lies::At {
                 place: area.place as u32 + (address - area.first as u32),
                 access: area.access,
@@ -41,6 +31,16 @@ pub fn lies_at(sheet: &[u8], address: u32) -> Lies
         k += 1;
     }
     Lies::Nowhere
+}
+
+// The place of what lies somewhere; 0 where nothing lies there.
+pub fn place_in(lies: Lies) -> u32
+    ensures { λ r. ⌜ r ≡ placeIn lies ⌝ }
+{
+    match lies {
+        Lies::At { place, access: _ } => place,
+        Lies::Nowhere => 0,
+    }
 }
 
 // Whether a place is one of an area's.
@@ -83,7 +83,7 @@ fn permitted(purpose: Purpose, access: u16) -> bool
 fn carried(purpose: Purpose, area: Area, address: u32) -> u32
     ensures { λ r. ⌜ r ≡ carried purpose area address ⌝ }
 {
-    if !in_area(address, area) {
+    if !one_row::in_area(address, area) {
         return address;
     }
     if !permitted(purpose, area.access) {
@@ -103,7 +103,7 @@ pub fn reached(sheet: &[u8], purpose: Purpose, start: u32) -> Run
     let mut k: u16 = 0;
     while k < count {
         let area = rows::area_row(sheet, k);
-        if !found && in_area(start, area) {
+        if !found && one_row::in_area(start, area) {
             found = true;
             place = area.place as u32 + (start - area.first as u32);
         }

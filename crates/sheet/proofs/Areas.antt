@@ -10,7 +10,8 @@ use lib.Dec.{leb, eqb, leb·zero}
 use borrow.Author.Tests.{le-leb, leb-true}
 use Rattle.lists.proofs.Tests.{and-left-comm, first-of, second-of}
 use Rattle.sheet_rules.specs.declared.Area.{Area}
-use Rattle.sheet_rules.specs.Rows.{areas, areaAt, areaCount, bankWords, functions, clearAddress, areasFrom}
+use Rattle.sheet_rules.specs.Rows.{areas, areaAt, areaCount, bankWords, functions, clearAddress}
+use Rattle.sheet_rules.proofs.Rows.{areasFrom}
 use Rattle.lists.proofs.Walks.{rows-on, rows-end}
 use Rattle.lists.specs.Lists.{each, some}
 use Rattle.sheet_rules.specs.Rules.{accessRule, firstLastRule, areasAscend, placesFollow, lengthsSum, inArea, lengthOf, allowed, bitOf05, clearAddressRule, areasSound}

@@ -9,12 +9,12 @@ use borrow.Author.Tests.{le-leb, lt-leb, lt-ltb, le-ltb, eq-eqb, ne-eqb, eqb-tru
 use Rattle.sheet_rules.specs.declared.Area.{Area}
 use Rattle.sheet_rules.specs.declared.Item.{Item}
 use Rattle.sheet.specs.declared.item_rows.Cover.{Cover}
-use Rattle.sheet_rules.specs.Rows.{areaCount, areaAt, areas, areasFrom, items}
+use Rattle.sheet_rules.specs.Rows.{areaCount, areaAt, areas, items}
 use Rattle.lists.specs.Lists.{upFrom, samePlaces, each}
 use Rattle.sheet_rules.specs.Rules.{lengthOf, placesFollow, writable, writablePlaces, isPair, pairWithin, areasSound, firstLastRule}
 use Rattle.sheet.specs.Cover.{placesLeft, UnderWay, sizeOf}
 use Rattle.lists.proofs.Walks.{rows-on, rows-end}
-use Rattle.sheet_rules.proofs.Rows.{areas-rows}
+use Rattle.sheet_rules.proofs.Rows.{areasFrom, areas-rows}
 use Rattle.lists.proofs.Among.{Among, row-among}
 use Rattle.sheet_rules.proofs.Within.{pair-within}
 use Rattle.sheet_rules.proofs.Sound.{areas-rules}

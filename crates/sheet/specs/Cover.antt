@@ -8,8 +8,8 @@ use lib.Dec.{ltb}
 use Rattle.sheet_rules.specs.declared.Area.{Area}
 use Rattle.sheet_rules.specs.declared.Item.{Item}
 use Rattle.sheet.specs.declared.item_rows.Cover.{Cover}
-use Rattle.sheet_rules.specs.Rows.{areaCount, areas, areasFrom}
-use Rattle.lists.specs.Lists.{each, upFrom}
+use Rattle.sheet_rules.specs.Rows.{areaCount, areaAt, areas}
+use Rattle.lists.specs.Lists.{each, upFrom, rows}
 use Rattle.sheet_rules.specs.Rules.{firstLastRule, placesFollow, isPair, writablePlaces, pairWithin}
 
 -- how many places an item has
@@ -19,7 +19,8 @@ sizeOf item = cond (isPair item) 2 1
 -- the places that are left to cover: those of the area at hand, and those of the access 3 areas behind it
 unfoldable pub placesLeft : List ℕ → Cover → List ℕ
 placesLeft sheet cover =
-    upFrom (cover .next) (cover .end - cover .next) ++ writablePlaces (areasFrom sheet (cover .area))
+    upFrom (cover .next) (cover .end - cover .next)
+    ++ writablePlaces (rows (areaAt sheet) (cover .area) (areaCount sheet - cover .area))
 
 -- a cover that is under way: a pair at a place that is left of the area at hand lies within one area just where the next place is left
 -- of that area too

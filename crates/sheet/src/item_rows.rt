@@ -1,10 +1,10 @@
 // The rules of the item rows, with those of the address and the rate, in one walk over them.
 ghost use mathlib.Core.Path.{_≡_};
-ghost use mathlib.Core.Bool.{true, cond, _&&_, _||_};
+ghost use mathlib.Core.Bool.{true, cond, _&&_};
 ghost use Prim.Native.Nat.{_+_, _<_};
 ghost use lib.Dec.{leb, eqb};
 ghost use Rattle.sheet_rules.specs.Rows.{areaCount, headerOf};
-ghost use Rattle.sheet_rules.specs.Rules.{writable, lengthOf, firstLastRule, areasSound, kindRule, boundsRule, lowHighRule, settingAt, addressItem, rateItem, itemsSound, settingsSound};
+ghost use Rattle.sheet_rules.specs.Rules.{writable, lengthOf, firstLastRule, areasSound, itemsSound, settingsSound};
 ghost use Rattle.sheet.specs.Cover.{UnderWay, Opened, sizeOf};
 use sheet_rules::Area;
 use sheet_rules::Header;
@@ -48,42 +48,6 @@ fn opened(sheet: &[u8], count: u16, cover: Cover) -> Cover
     Cover { next, end, area }
 }
 
-// How many places an item has: its first place, and the next one for a pair.
-fn size_of(item: Item) -> u32
-    ensures { λ r. ⌜ r ≡ sizeOf item ⌝ }
-{
-    if item.kind == 2 {
-        return 2;
-    }
-    1
-}
-
-// Rule S42.
-fn bounds_sound(item: Item) -> bool
-    ensures { λ r. ⌜ r ≡ boundsRule item ⌝ }
-{
-    if item.kind == 2 {
-        return true;
-    }
-    if item.low >= 0x10000 {
-        return false;
-    }
-    item.high < 0x10000
-}
-
-// The rules of an item by itself: rules S41, S42 and S44.
-fn row_sound(item: Item) -> bool
-    ensures { λ r. ⌜ r ≡ (kindRule item && boundsRule item && lowHighRule item) ⌝ }
-{
-    if item.kind > 2 {
-        return false;
-    }
-    if !bounds_sound(item) {
-        return false;
-    }
-    range::not_above(item.kind, item.low, item.high)
-}
-
 // Whether an item stands at the next place and ends within the area of that place.
 fn covers(item: Item, cover: Cover) -> bool
     requires { ⌜ cover .next < 0x20000 ⌝ }
@@ -92,56 +56,8 @@ fn covers(item: Item, cover: Cover) -> bool
     if item.place as u32 != cover.next {
         return false;
     }
-    let size = size_of(item);
+    let size = one_row::size_of(item);
     cover.next + size <= cover.end
-}
-
-// Rules S61 and S62, of an item and a place.
-fn setting_at(item: Item, place: u16) -> bool
-    ensures { λ r. ⌜ r ≡ settingAt place item ⌝ }
-{
-    if item.kind != 0 {
-        return false;
-    }
-    if item.place != place {
-        return false;
-    }
-    range::in_range(item.kind, item.low, item.high, 1)
-}
-
-// Whether the address's item is found: before, or here. Rule S63. The place is tested first: it is the one of few items.
-fn address_found(before: bool, item: Item, place: u16) -> bool
-    ensures { λ r. ⌜ r ≡ (before || addressItem place item) ⌝ }
-{
-    if item.place != place {
-        return before;
-    }
-    if !setting_at(item, place) {
-        return before;
-    }
-    if item.high > 0xFF {
-        return before;
-    }
-    true
-}
-
-// Whether the rate's item is found: before, or here. Rule S64.
-fn rate_found(before: bool, item: Item, place: u16) -> bool
-    ensures { λ r. ⌜ r ≡ (before || rateItem place item) ⌝ }
-{
-    if item.place != place {
-        return before;
-    }
-    if !setting_at(item, place) {
-        return before;
-    }
-    if item.low != 0 {
-        return before;
-    }
-    if item.high != 1 {
-        return before;
-    }
-    true
 }
 
 // The cover is opened at each item, and once more behind the last one: then no place may be left.
@@ -174,19 +90,19 @@ pub(crate) fn items_and_settings_sound(sheet: &[u8], header: Header) -> bool
             return address && rate;
         }
         let item = rows::item_row(sheet, areas, k);
-        if !row_sound(item) {
+        if !one_row::item_sound(item) {
             return false;
         }
         if !covers(item, at) {
             return false;
         }
         cover = Cover {
-            next: at.next + size_of(item),
+            next: at.next + one_row::size_of(item),
             end: at.end,
             area: at.area,
         };
-        address = address_found(address, item, address_place);
-        rate = rate_found(rate, item, rate_place);
+        address = one_row::address_found(address, item, address_place);
+        rate = one_row::rate_found(rate, item, rate_place);
         k += 1;
     }
 }

@@ -3,20 +3,20 @@ ghost use mathlib.Core.Path.{_≡_};
 ghost use Rattle.sheet_rules.specs.Rules.{sheetAnswer};
 
 mod area_rows;
-mod header;
 mod item_rows;
 
+use header::Checked;
 use refusals::Answer;
 use refusals::Refusal;
 
-// Whether a sheet breaks a rule of 01. The header is read once and handed on.
+// Whether a sheet breaks a rule of 01: its header, its areas, then its items with the address and the rate.
 pub fn check(sheet: &[u8]) -> Answer
     ensures { λ r. ⌜ r ≡ sheetAnswer (now (sheet .entry)) ⌝ }
 {
-    let header = rows::header(sheet);
-    if !header::header_sound(sheet, header) {
+    let checked = header::check(sheet);
+    let Checked::Sound(header) = checked else {
         return Answer::Refused(Refusal::BrokenSheet);
-    }
+    };
     if !area_rows::areas_sound(sheet, header) {
         return Answer::Refused(Refusal::BrokenSheet);
     }

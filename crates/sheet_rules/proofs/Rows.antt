@@ -10,10 +10,14 @@ use Rattle.sheet_rules.specs.declared.Purpose.{Purpose}
 use Rattle.sheet_rules.specs.Runs.{carried, reach}
 use Rattle.sheet_rules.specs.declared.Lies.the-variants.{At, Nowhere}
 use Rattle.lists.specs.Lists.{rows}
-use Rattle.sheet_rules.specs.Rows.{areaCount, areaAt, areas, itemCount, itemAt, items, areasFrom}
+use Rattle.sheet_rules.specs.Rows.{areaCount, areaAt, areas, itemCount, itemAt, items}
 use Rattle.sheet_rules.specs.Rules.{inArea}
 use Rattle.sheet_rules.specs.Lookup.{liesIn, placeIn}
 use Rattle.lists.proofs.Walks.{rows-end, rows-on}
+
+-- the area rows from an index on
+abbrev pub areasFrom : List ℕ → ℕ → List Area
+areasFrom sheet k = rows (areaAt sheet) k (areaCount sheet - k)
 
 pub areas-rows : (sheet : List ℕ) → rows (areaAt sheet) 0 (areaCount sheet) ≡ areas sheet
 unfolding areas

@@ -131,10 +131,6 @@ unfoldable pub areas : List ℕ → List Area
 unfolding rows areaAt
 areas sheet = rows (areaAt sheet) 0 (areaCount sheet)
 
--- the area rows from an index on
-abbrev pub areasFrom : List ℕ → ℕ → List Area
-areasFrom sheet k = rows (areaAt sheet) k (areaCount sheet - k)
-
 unfoldable pub items : List ℕ → List Item
 unfolding rows itemFrom
 items sheet = rows (itemAt sheet) 0 (itemCount sheet)

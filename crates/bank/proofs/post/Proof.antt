@@ -2,10 +2,11 @@
 -- Assumes nothing.
 use native.Mathlib.Omega.{arith}
 use Prim.Native.Nat.{ℕ, _/_, _%_, _<_}
-use mathlib.Core.Path.{_≡_, refl, ap, _∙_}
-use mathlib.Core.Bool.{true, false, not}
+use mathlib.Core.Path.{_≡_, refl, sym, ap, _∙_}
+use mathlib.Core.Bool.{Bool, true, false, not, _||_, true≢false}
 use mathlib.Core.List.{List, [], _∷_}
-use borrow.Author.Tests.{eq-eqb, ne-eqb}
+use lib.Dec.{eqb}
+use borrow.Author.Tests.{eqb-false}
 use denote.Ref.{now}
 use lib.ListN.{length}
 use Rattle.lists.specs.Cases.{Case, when, firstCase}
@@ -55,6 +56,14 @@ module _ (given : Lent) (address : ℕ) (bytes : List ℕ) {checked : Answer} (i
   unfolding firstCase
   post-passes even right = behind-bytes even ∙ passed-here (bad-address given address bytes) [] (ap not right)
 
+-- bytes that are neither none nor odd are some words
+some-posted : (bytes : List ℕ) → emptyOrOdd bytes ≡ false → 0 < length bytes / 2
+some-posted bytes even = go (eqb (length bytes) 0) refl even
+  where
+    go : (none : Bool) → eqb (length bytes) 0 ≡ none → (none || eqb (length bytes % 2) 1) ≡ false → 0 < length bytes / 2
+    go true e odd = absurd (true≢false odd)
+    go false e odd = omega (arith, eqb-false (length bytes) 0 e, eqb-false (length bytes % 2) 1 odd)
+
 check-requires : tie.Need-check-requires
 check-requires c κs = search needs
 
@@ -76,16 +85,22 @@ returns c =
     outcome-refused (now (a .bank)) (postStores (now (a .sheet)) (a .address) (now (a .bytes))) told
     (front-refuses (checkRefusals given) (further given (a .address) (now (a .bytes))) (c .before .before .check .ensures) told)
 
+empty-or-odd-requires : tie.Need-empty-or-odd-requires
+empty-or-odd-requires c κs = search needs
+
 same-length-2 : tie.Need-same-length-2
 same-length-2 c = search needs
 
 returns-2 : tie.Need-returns-2
 unfolding postOutcome
 returns-2 c =
-    let a = c .before .before .before .before .before .before .before .before .args in
+    let a = c .before .before .before .before .before .before .before .before .before .args in
     outcome-refused (now (a .bank)) (postStores (now (a .sheet)) (a .address) (now (a .bytes))) refl
-    (bytes-refused (lent (now (a .sheet)) (now (a .bank))) (a .address) (now (a .bytes)) (c .before .before .before .check .ensures) (c .before .enum-told .given .1)
-    (simp (eq-eqb (length (now (a .bytes))) 0 (c .if1 .taken))))
+    (bytes-refused (lent (now (a .sheet)) (now (a .bank))) (a .address) (now (a .bytes)) (c .before .before .before .before .check .ensures) (c .before .before .enum-told .given .1)
+    (sym (c .before .empty-or-odd .ensures) ∙ c .if1 .taken))
+
+all-read-only-requires : tie.Need-all-read-only-requires
+all-read-only-requires c κs = search needs
 
 same-length-3 : tie.Need-same-length-3
 same-length-3 c = search needs
@@ -93,13 +108,19 @@ same-length-3 c = search needs
 returns-3 : tie.Need-returns-3
 unfolding postOutcome
 returns-3 c =
-    let a = c .before .before .before .before .before .before .before .before .before .args in
+    let a = c .before .before .before .before .before .before .before .before .before .before .before .args in
     outcome-refused (now (a .bank)) (postStores (now (a .sheet)) (a .address) (now (a .bytes))) refl
-    (bytes-refused (lent (now (a .sheet)) (now (a .bank))) (a .address) (now (a .bytes)) (c .before .before .before .before .check .ensures) (c .before .before .enum-told .given .1)
-    (simp (ne-eqb (length (now (a .bytes))) 0 (c .before .if1 .left), eq-eqb (length (now (a .bytes)) % 2) 1 (c .if2 .taken))))
+    (address-refused (lent (now (a .sheet)) (now (a .bank))) (a .address) (now (a .bytes)) (c .before .before .before .before .before .before .check .ensures) (c .before .before .before .before .enum-told .given .1)
+    (sym (c .before .before .before .empty-or-odd .ensures) ∙ c .before .before .if1 .left)
+    (refused (c .before .all-read-only .ensures) (c .if2 .taken)))
 
-all-read-only-requires : tie.Need-all-read-only-requires
-all-read-only-requires c κs = search needs
+store-posted-requires : tie.Need-store-posted-requires
+store-posted-requires c κs =
+    let a = c .before .before .before .before .before .before .before .before .before .before .before .before .args in
+    let n = length (now (a .bytes)) in
+    let some = some-posted (now (a .bytes)) (sym (c .before .before .before .before .empty-or-odd .ensures) ∙ c .before .before .before .if1 .left) in
+    read-only-run (now (a .sheet)) (λ i. c .before .before .before .before .before .before .before .before .before .before .before .shared-slice-known .given i .fits) (a .address) (n / 2) some
+    (passed (c .before .before .all-read-only .ensures) (c .before .if2 .left))
 
 same-length-4 : tie.Need-same-length-4
 same-length-4 c = search needs
@@ -107,32 +128,12 @@ same-length-4 c = search needs
 returns-4 : tie.Need-returns-4
 unfolding postOutcome
 returns-4 c =
-    let a = c .before .before .before .before .before .before .before .before .before .before .before .args in
-    outcome-refused (now (a .bank)) (postStores (now (a .sheet)) (a .address) (now (a .bytes))) refl
-    (address-refused (lent (now (a .sheet)) (now (a .bank))) (a .address) (now (a .bytes)) (c .before .before .before .before .before .before .check .ensures) (c .before .before .before .before .enum-told .given .1)
-    (simp (ne-eqb (length (now (a .bytes))) 0 (c .before .before .before .if1 .left), ne-eqb (length (now (a .bytes)) % 2) 1 (c .before .before .if2 .left)))
-    (refused (c .before .all-read-only .ensures) (c .if3 .taken)))
-
-store-posted-requires : tie.Need-store-posted-requires
-store-posted-requires c κs =
-    let a = c .before .before .before .before .before .before .before .before .before .before .before .before .args in
-    let n = length (now (a .bytes)) in
-    let some : _<_ 0 (n / 2) = omega (arith, c .before .before .before .before .if1 .left, c .before .before .before .if2 .left) in
-    read-only-run (now (a .sheet)) (λ i. c .before .before .before .before .before .before .before .before .before .before .before .shared-slice-known .given i .fits) (a .address) (n / 2) some
-    (passed (c .before .before .all-read-only .ensures) (c .before .if3 .left))
-
-same-length-5 : tie.Need-same-length-5
-same-length-5 c = search needs
-
-returns-5 : tie.Need-returns-5
-unfolding postOutcome
-returns-5 c =
     let a = c .before .before .before .before .before .before .before .before .before .before .before .before .before .before .before .args in
     let d = c .before .before .before .before in
     outcome-done (now (a .bank)) (postStores (now (a .sheet)) (a .address) (now (a .bytes)))
     (post-passes (lent (now (a .sheet)) (now (a .bank))) (a .address) (now (a .bytes)) (d .before .before .before .before .before .before .check .ensures) (d .before .before .before .before .enum-told .given .1)
-    (simp (ne-eqb (length (now (a .bytes))) 0 (d .before .before .before .if1 .left), ne-eqb (length (now (a .bytes)) % 2) 1 (d .before .before .if2 .left)))
-    (passed (d .before .all-read-only .ensures) (d .if3 .left)))
+    (sym (d .before .before .before .empty-or-odd .ensures) ∙ d .before .before .if1 .left)
+    (passed (d .before .all-read-only .ensures) (d .if2 .left)))
     (c .before .before .store-posted .ensures)
 
 pub post-spec : {M : Type 1} → statement M
@@ -144,13 +145,12 @@ post-spec =
     enum-told-2
     same-length
     returns
+    empty-or-odd-requires
     same-length-2
     returns-2
+    all-read-only-requires
     same-length-3
     returns-3
-    all-read-only-requires
-    same-length-4
-    returns-4
     store-posted-requires
-    same-length-5
-    returns-5)
+    same-length-4
+    returns-4)

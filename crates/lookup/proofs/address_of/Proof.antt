@@ -7,12 +7,12 @@ use native.Mathlib.Omega.{arith}
 use denote.Ref.{now}
 use borrow.Author.Needs.{needs}
 use Rattle.sheet_rules.specs.declared.Area.{Area}
-use Rattle.sheet_rules.specs.Rows.{areas, areaAt, areaCount, areasFrom}
+use Rattle.sheet_rules.specs.Rows.{areas, areaAt, areaCount}
 use mathlib.Core.Bool.{true}
 use Rattle.sheet_rules.specs.Rules.{placeInArea}
 use Rattle.sheet_rules.specs.Lookup.{addressOf}
 use Rattle.lists.proofs.Walks.{rows-all}
-use Rattle.sheet_rules.proofs.Rows.{areas-rows}
+use Rattle.sheet_rules.proofs.Rows.{areasFrom, areas-rows}
 use Rattle.lookup.proofs.Addresses.{place-from, address-on, address-end}
 use Rattle.lookup.proofs.address_of.Statement.{statement}
 use Rattle.lookup.proofs.address_of.Tie as tie

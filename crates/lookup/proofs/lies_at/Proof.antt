@@ -9,11 +9,11 @@ use denote.Ref.{now}
 use borrow.Author.Needs.{needs}
 use borrow.Author.Tests.{leb-true}
 use Rattle.sheet_rules.specs.declared.Area.{Area}
-use Rattle.sheet_rules.specs.Rows.{areas, areaAt, areaCount, areasFrom}
+use Rattle.sheet_rules.specs.Rows.{areas, areaAt, areaCount}
 use Rattle.sheet_rules.specs.Lookup.{liesIn}
 use Rattle.lists.proofs.Tests.{first-of, second-of}
 use Rattle.lists.proofs.Walks.{rows-all}
-use Rattle.sheet_rules.proofs.Rows.{areas-rows, lies-on, lies-end}
+use Rattle.sheet_rules.proofs.Rows.{areasFrom, areas-rows, lies-on, lies-end}
 use Rattle.lookup.proofs.lies_at.Statement.{statement}
 use Rattle.lookup.proofs.lies_at.Tie as tie
 

@@ -10,12 +10,12 @@ use Prim.Native.Nat.{ℕ, _+_, _-_, _≤_}
 use denote.Ref.{now}
 use borrow.Author.Needs.{needs}
 use Rattle.sheet_rules.specs.declared.Area.{Area}
-use Rattle.sheet_rules.specs.Rows.{areas, areaAt, areaCount, areasFrom}
+use Rattle.sheet_rules.specs.Rows.{areas, areaAt, areaCount}
 use Rattle.sheet_rules.specs.Rules.{inArea}
 use Rattle.sheet_rules.specs.Lookup.{liesIn, placeIn}
 use Rattle.sheet_rules.specs.Runs.{reach}
 use Rattle.lists.proofs.Walks.{rows-all}
-use Rattle.sheet_rules.proofs.Rows.{areas-rows, place-on, lies-end, reach-on, reach-end}
+use Rattle.sheet_rules.proofs.Rows.{areasFrom, areas-rows, place-on, lies-end, reach-on, reach-end}
 use Rattle.sheet_rules.proofs.Addresses.{in-low, in-high}
 use Rattle.lookup.proofs.reached.Statement.{statement}
 use Rattle.lookup.proofs.reached.Tie as tie

@@ -6,19 +6,17 @@ use Prim.Native.Nat.{ℕ, _-_, _*_, _≤_}
 use native.Mathlib.Omega.{arith}
 use lib.Dec.{eqb}
 use denote.Ref.{now}
-use Rattle.sheet_rules.specs.Rows.{areaAt, areaCount, bankWords, functions, clearAddress, areasFrom}
+use Rattle.sheet_rules.specs.Rows.{areaAt, areaCount, bankWords, functions, clearAddress}
 use Rattle.sheet_rules.specs.Rules.{allowed, bitOf05, areasSound}
 use Rattle.lists.proofs.Tests.{refused, passed}
 use Rattle.lists.proofs.Walks.{rows-all}
-use Rattle.sheet_rules.proofs.Rows.{areas-rows}
+use Rattle.sheet_rules.proofs.Rows.{areasFrom, areas-rows}
 use Rattle.sheet.proofs.Areas.{walk, walk-on, walk-next, walk-end, walk-sound, word-broken, allowed-word, kept-word}
 use Rattle.sheet_rules.specs.declared.Header.{Header}
 use borrow.Author.Needs.{needs}
 use Prim.Native.Nat.{_<_}
 use Rattle.sheet.proofs.area_rows.areas_sound.Statement.{statement}
 use Rattle.sheet.proofs.area_rows.areas_sound.Tie as tie
-use Rattle.sheet.proofs.area_rows.sums_05.Reads as sums-05-reads
-use Rattle.sheet.proofs.area_rows.word_sound_without_05.Reads as word-sound-without-05-reads
 
 abbrev Inv-loop : tie.InvT-loop
 Inv-loop sheet header count clear allowed lowest₀ places₀ k₀ lowest places k =
@@ -31,15 +29,15 @@ abbrev μ-loop : tie.MeasureT-loop
 sums-05-requires : tie.Need-sums-05-requires Inv-loop μ-loop
 sums-05-requires c κs = search needs
 
-word-sound-without-05-requires : tie.Need-word-sound-without-05-requires Inv-loop μ-loop
-word-sound-without-05-requires c κs = search needs
+clear-sound-without-05-requires : tie.Need-clear-sound-without-05-requires Inv-loop μ-loop
+clear-sound-without-05-requires c κs = search needs
 
 returns : tie.Need-returns Inv-loop μ-loop
 returns c =
     let s = now (c .before .before .before .before .args .sheet) in
     let pre = c .before .before .before .before .pre in
     sym (word-broken s (kept-word s (ap (λ (h : Header). h .functions) pre) (c .before .before .sums-05 .ensures) (ap (λ (h : Header). h .clear) pre)
-    ∙ refused (c .before .word-sound-without-05 .ensures) (c .if1 .taken)))
+    ∙ refused (c .before .clear-sound-without-05 .ensures) (c .if1 .taken)))
 
 loop-holds : tie.Need-loop-holds Inv-loop μ-loop
 loop-holds c =
@@ -53,7 +51,7 @@ loop-holds c =
           (allowed-word s functions-word (c .before .before .sums-05 .ensures)) clear-word
           ∙ ap (walk (allowed s bitOf05) (clearAddress s) (bankWords s) 0 0) (rows-all (areaAt s) (areaCount s) ∙ areas-rows s)
           ∙ walk-sound s (kept-word s functions-word (c .before .before .sums-05 .ensures) clear-word
-          ∙ passed (c .before .word-sound-without-05 .ensures) (c .if1 .left)),
+          ∙ passed (c .before .clear-sound-without-05 .ensures) (c .if1 .left)),
     )
 
 area-row-requires : tie.Need-area-row-requires Inv-loop μ-loop
@@ -138,7 +136,7 @@ areas-sound-spec =
     Inv-loop
     μ-loop
     sums-05-requires
-    word-sound-without-05-requires
+    clear-sound-without-05-requires
     returns
     loop-holds
     area-row-requires

@@ -75,8 +75,8 @@ returns-4 c =
 item-row-requires : tie.Need-item-row-requires Inv-loop μ-loop
 item-row-requires c κs = search needs
 
-row-sound-requires : tie.Need-row-sound-requires Inv-loop μ-loop
-row-sound-requires c κs = search needs
+item-sound-requires : tie.Need-item-sound-requires Inv-loop μ-loop
+item-sound-requires c κs = search needs
 
 returns-5 : tie.Need-returns-5 Inv-loop μ-loop
 returns-5 c =
@@ -86,7 +86,7 @@ returns-5 c =
     let row = c .before .before .item-row in
     let item-says = row .ensures ∙ ap (λ (n : ℕ). itemRow s n (loop .k)) (loop .inv .0) in
     sym (refused-itself s (loop .k) (loop .cover) (at .result) (at .ensures) (loop .address) (loop .rate) (row .result) item-says (omega (arith, loop .inv .1))
-    (refused (c .before .row-sound .ensures) (c .if5 .taken)))
+    (refused (c .before .item-sound .ensures) (c .if5 .taken)))
     ∙ loop .inv .4
 
 covers-requires : tie.Need-covers-requires Inv-loop μ-loop
@@ -102,7 +102,7 @@ returns-6 c =
     let row = c .before .before .before .before .item-row in
     let item-says = row .ensures ∙ ap (λ (n : ℕ). itemRow s n (loop .k)) (loop .inv .0) in
     sym (refused-place s (loop .k) (loop .cover) (at .result) (at .ensures) (loop .address) (loop .rate) (row .result) item-says (omega (arith, loop .inv .1))
-    (passed (c .before .before .before .row-sound .ensures) (c .before .before .if5 .left)) (refused (c .before .covers .ensures) (c .if6 .taken)))
+    (passed (c .before .before .before .item-sound .ensures) (c .before .before .if5 .left)) (refused (c .before .covers .ensures) (c .if6 .taken)))
     ∙ loop .inv .4
 
 size-of-requires : tie.Need-size-of-requires Inv-loop μ-loop
@@ -147,7 +147,7 @@ loop-again c =
                 (second-of (eqb (item .place) (at .result .next)) (leb (at .result .next + sizeOf item) (at .result .end)) fits),
           )),
       sym (passed-on s (loop .k) (loop .cover) (at .result) (at .ensures) (loop .address) (loop .rate) item item-says
-          (omega (arith, loop .inv .1)) (passed (c .before .before .before .before .before .before .before .row-sound .ensures) (c .before .before .before .before .before .before .if5 .left)) fits (size .ensures)
+          (omega (arith, loop .inv .1)) (passed (c .before .before .before .before .before .before .before .item-sound .ensures) (c .before .before .before .before .before .before .if5 .left)) fits (size .ensures)
           (c .before .address-found .ensures ∙ ap (λ (h : Header). loop .address || addressItem (h .address) item) header)
           (c .rate-found .ensures ∙ ap (λ (h : Header). loop .rate || rateItem (h .rate) item) header))
           ∙ loop .inv .4,
@@ -166,7 +166,7 @@ items-and-settings-sound-spec =
     returns-3
     returns-4
     item-row-requires
-    row-sound-requires
+    item-sound-requires
     returns-5
     covers-requires
     returns-6

@@ -1,0 +1,147 @@
+// One area row or item row by itself, wherever it was read: the rules that need no other row, and whether an address lies in an area.
+ghost use mathlib.Core.Path.{_≡_};
+ghost use mathlib.Core.Bool.{not, cond, _&&_, _||_};
+ghost use lib.Dec.{leb, eqb};
+ghost use Rattle.sheet_rules.specs.Rules.{readable, accessRule, firstLastRule, inArea, lengthOf, isPair, kindRule, boundsRule, lowHighRule, settingAt, addressItem, rateItem};
+use sheet_rules::Area;
+use sheet_rules::Item;
+
+// Whether an address lies in an area.
+pub fn in_area(address: u32, area: Area) -> bool
+    ensures { λ r. ⌜ r ≡ inArea address area ⌝ }
+{
+    if address < area.first as u32 {
+        return false;
+    }
+    address <= area.last as u32
+}
+
+// How many addresses an area has; none where first is above last.
+pub fn length_of(area: Area) -> u32
+    ensures { λ r. ⌜ r ≡ lengthOf area ⌝ }
+{
+    if area.last < area.first {
+        return 0;
+    }
+    area.last as u32 + 1 - area.first as u32
+}
+
+// Rule S21.
+fn known_access(access: u16) -> bool
+    ensures { λ r. ⌜ r ≡ readable access ⌝ }
+{
+    if access == 1 {
+        return true;
+    }
+    access == 3
+}
+
+// One area behind others: `lowest` is one past the last address so far, `places` the sum of the lengths so far. Rules S21 to S24.
+pub fn area_sound(area: Area, lowest: u32, places: u32) -> bool
+    ensures { λ r. ⌜ r ≡ (accessRule area && firstLastRule area && leb lowest (area .first) && eqb (area .place) places) ⌝ }
+{
+    if !known_access(area.access) {
+        return false;
+    }
+    if area.last < area.first {
+        return false;
+    }
+    if (area.first as u32) < lowest {
+        return false;
+    }
+    area.place as u32 == places
+}
+
+// Rule S26, for one area.
+pub fn clear_outside(allowed: bool, clear: u16, area: Area) -> bool
+    ensures { λ r. ⌜ r ≡ not (allowed && inArea clear area) ⌝ }
+{
+    if allowed {
+        return !in_area(clear as u32, area);
+    }
+    true
+}
+
+// Rule S42.
+fn bounds_sound(item: Item) -> bool
+    ensures { λ r. ⌜ r ≡ boundsRule item ⌝ }
+{
+    if item.kind == 2 {
+        return true;
+    }
+    if item.low >= 0x10000 {
+        return false;
+    }
+    item.high < 0x10000
+}
+
+// The rules of an item by itself: rules S41, S42 and S44.
+pub fn item_sound(item: Item) -> bool
+    ensures { λ r. ⌜ r ≡ (kindRule item && boundsRule item && lowHighRule item) ⌝ }
+{
+    if item.kind > 2 {
+        return false;
+    }
+    if !bounds_sound(item) {
+        return false;
+    }
+    range::not_above(item.kind, item.low, item.high)
+}
+
+// How many places an item has: its first place, and the next one for a pair. Rule S45.
+pub fn size_of(item: Item) -> u32
+    ensures { λ r. ⌜ r ≡ cond (isPair item) 2 1 ⌝ }
+{
+    if item.kind == 2 {
+        return 2;
+    }
+    1
+}
+
+// Rules S61 and S62, of an item and a place.
+fn setting_at(item: Item, place: u16) -> bool
+    ensures { λ r. ⌜ r ≡ settingAt place item ⌝ }
+{
+    if item.kind != 0 {
+        return false;
+    }
+    if item.place != place {
+        return false;
+    }
+    range::in_range(item.kind, item.low, item.high, 1)
+}
+
+// Whether the address's item is found: before, or here. Rule S63. The place is tested first: it is the one of few items.
+pub fn address_found(before: bool, item: Item, place: u16) -> bool
+    ensures { λ r. ⌜ r ≡ (before || addressItem place item) ⌝ }
+{
+    if item.place != place {
+        return before;
+    }
+    if !setting_at(item, place) {
+        return before;
+    }
+    if item.high > 0xFF {
+        return before;
+    }
+    true
+}
+
+// Whether the rate's item is found: before, or here. Rule S64.
+pub fn rate_found(before: bool, item: Item, place: u16) -> bool
+    ensures { λ r. ⌜ r ≡ (before || rateItem place item) ⌝ }
+{
+    if item.place != place {
+        return before;
+    }
+    if !setting_at(item, place) {
+        return before;
+    }
+    if item.low != 0 {
+        return before;
+    }
+    if item.high != 1 {
+        return before;
+    }
+    true
+}
