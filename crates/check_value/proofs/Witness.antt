@@ -2,14 +2,14 @@
 use mathlib.Core.Path.{_≡_, refl}
 use mathlib.Core.Logic.{_⊎_, inl, inr}
 use mathlib.Core.Bool.{Bool, true, false, _&&_, _||_}
-use mathlib.Core.List.{List, [], _∷_, map}
+use mathlib.Core.List.{List, [], _∷_, _++_, map}
 use Prim.Native.Nat.{ℕ, _+_, _≤_}
 use lib.Dec.{T, leb, ltb, eqb, leb→le, ltb→lt, eqb→eq}
 use lib.Ieee.Fits.{and-l, and-r}
 use lib.ListN.{length, getD}
 use lib.Pow.{areBytes}
 use Rattle.check_value.specs.Check.{valueOf}
-use Rattle.check_value.specs.Frame.{passes}
+use Rattle.check_value.specs.Frame.{passes, sealed}
 use Rattle.check_value.specs.Damage.{fewBits, runBits, changed, allWithin, WithinOneRun, Damaged}
 
 -- ---- a test for damage
@@ -118,3 +118,17 @@ all-tested sent (received ∷ rest) t = (
 pub received-damaged : AllDamaged frameSent framesReceived
 unfolding isDamaged
 received-damaged = all-tested frameSent framesReceived tt
+
+-- ---- a reply is sealed so: rule R6
+
+-- six bytes of a longer buffer, with room for just their check, and without
+pub sealed-so : (sealed (0x01 ∷ 0x03 ∷ 0x01 ∷ 0x01 ∷ 0x00 ∷ 0x02 ∷ 0xA5 ∷ 0xA5 ∷ 0xA5 ∷ []) 6
+    ∷ sealed (0x01 ∷ 0x03 ∷ 0x01 ∷ 0x01 ∷ 0x00 ∷ 0x02 ∷ 0xA5 ∷ 0xA5 ∷ []) 6
+    ∷ sealed (0x01 ∷ 0x03 ∷ 0x01 ∷ 0x01 ∷ 0x00 ∷ 0x02 ∷ 0xA5 ∷ []) 6
+    ∷ [])
+    ≡ (frameSent ++ (0xA5 ∷ []))
+    ∷ frameSent
+    ∷ (0x01 ∷ 0x03 ∷ 0x01 ∷ 0x01 ∷ 0x00 ∷ 0x02 ∷ 0xA5 ∷ [])
+    ∷ []
+unfolding sealed valueOf
+sealed-so = refl
