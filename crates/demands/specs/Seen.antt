@@ -10,7 +10,7 @@ use Rattle.bank_rules.specs.Calls.{Lent}
 use Rattle.plain.specs.Left.{Left}
 use Rattle.cedarskein.specs.Door.{Handed}
 
--- rule D30, none of the refusals 2 to 5 applies: sheet and bank are sound, the bank fits, and the buffer has 100 bytes
+-- rule D30, none of the refusals 2 to 5 applies: sheet and bank are sound, the bank fits, and the buffer has 100 bytes or more
 pub record Accepted (given : Lent) (buffer : List ℕ) : Type 0 where
   pub sheetSound : sound (given .sheet) ≡ true
   pub bankFits : fits (given .sheet) (given .bank) ≡ true

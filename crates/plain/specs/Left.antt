@@ -80,7 +80,8 @@ pub record LetThrough (given : Lent) (frame : List ℕ) : Type 0 where
   pub addressed : RightAddress (given .sheet) frame
   pub writes : (byte frame 1 ≡ 0x06) ⊎ (byte frame 1 ≡ 0x10)
 
--- rules K5 to K7, the k-th word sent is stored at a place: the write goes there, and the place stands in front of every item that would be out of range
+-- rules K5 to K7, the k-th word sent is stored at a place: the write goes there, and the place stands in front of every item that it touches and would leave
+-- out of range
 pub record Stored (given : Lent) (frame : List ℕ) (k place : ℕ) : Type 0 where
   pub through : LetThrough given frame
   pub goes : Goes (given .sheet) frame k place
