@@ -30,7 +30,7 @@ use denote.Slice.{MutSlice, ShrSlice, Room, finally}
 use denote.Lend.{lends-slice, lends-shr-slice, lends-ref, Held, slice-back, ref-back}
 use denote.Triple.Walked.{says}
 use native.Mathlib.Omega.{arith}
-use Rattle.runs.specs.Runs.{Lent, toRead, toWrite, toCount, Arg, passes, lends, pointerTo, LentFits, Fit, Last, Lasts, lentAfter, after, lentLies, Lie}
+use Rattle.runs.specs.Runs.{Borrowed, toRead, toWrite, toCount, Arg, passes, lends, pointerTo, BorrowedFits, Fit, Last, Lasts, borrowedAfter, after, borrowedLies, Lie}
 
 -- ---- the kit's types of what is handed over: a lifetime and a name for each that is lent
 
@@ -40,30 +40,30 @@ Loan = ℕ × GName
 abbrev pub Loans : List Arg → Type 0
 Loans [] = Unit {0}
 Loans (passes w n ∷ args) = Loans args
-Loans (lends lent ∷ args) = Loan × Loans args
+Loans (lends borrowed ∷ args) = Loan × Loans args
 
 abbrev pub lifetimes : List Arg → ℕ
 lifetimes [] = 0
 lifetimes (passes w n ∷ args) = lifetimes args
-lifetimes (lends lent ∷ args) = suc (lifetimes args)
+lifetimes (lends borrowed ∷ args) = suc (lifetimes args)
 
 abbrev pub lifetimesOf : (args : List Arg) → Loans args → Lfts (lifetimes args)
 lifetimesOf [] loans = tt
 lifetimesOf (passes w n ∷ args) loans = lifetimesOf args loans
-lifetimesOf (lends lent ∷ args) loans = (loans .0 .0 ∷ [], lifetimesOf args (loans .1))
+lifetimesOf (lends borrowed ∷ args) loans = (loans .0 .0 ∷ [], lifetimesOf args (loans .1))
 
 abbrev pub sharesOf : (args : List Arg) → Shares (lifetimes args)
 sharesOf [] = tt
 sharesOf (passes w n ∷ args) = sharesOf args
-sharesOf (lends lent ∷ args) = (fullShare, sharesOf args)
+sharesOf (lends borrowed ∷ args) = (fullShare, sharesOf args)
 
 -- the number of a reference's lifetime, and the loan
-abbrev rowOf : ℕ → Lent → Loan → RattleType
+abbrev rowOf : ℕ → Borrowed → Loan → RattleType
 rowOf j (toRead at bytes) loan = ShrSlice (named j) (loan .0 ∷ []) u8
 rowOf j (toWrite at bytes) loan = MutSlice (named j) (loan .0 ∷ []) u8
 rowOf j (toCount at n) loan = MutRef (named j) (loan .0 ∷ []) u32
 
-abbrev refOf : (j : ℕ) (lent : Lent) (loan : Loan) → rowOf j lent loan .Denot
+abbrev refOf : (j : ℕ) (borrowed : Borrowed) (loan : Loan) → rowOf j borrowed loan .Denot
 refOf j (toRead at bytes) loan = record { ptr = at; name = loan .1; now = bytes }
 refOf j (toWrite at bytes) loan = record { ptr = at; name = loan .1; now = bytes }
 refOf j (toCount at n) loan = record { ptr = at; name = loan .1; now = n }
@@ -71,25 +71,25 @@ refOf j (toCount at n) loan = record { ptr = at; name = loan .1; now = n }
 abbrev pub rowsOf : ℕ → (args : List Arg) → Loans args → List RattleType
 rowsOf j [] loans = []
 rowsOf j (passes w n ∷ args) loans = UInt w ∷ rowsOf j args loans
-rowsOf j (lends lent ∷ args) loans = rowOf j lent (loans .0) ∷ rowsOf (suc j) args (loans .1)
+rowsOf j (lends borrowed ∷ args) loans = rowOf j borrowed (loans .0) ∷ rowsOf (suc j) args (loans .1)
 
 abbrev pub argsOf : (j : ℕ) (args : List Arg) (loans : Loans args) → Denots (rowsOf j args loans)
 argsOf j [] loans = tt
 argsOf j (passes w n ∷ args) loans = (n, argsOf j args loans)
-argsOf j (lends lent ∷ args) loans = (refOf j lent (loans .0), argsOf (suc j) args (loans .1))
+argsOf j (lends borrowed ∷ args) loans = (refOf j borrowed (loans .0), argsOf (suc j) args (loans .1))
 
 abbrev pub valssOf : (j : ℕ) (args : List Arg) (loans : Loans args) → Valss (rowsOf j args loans)
 valssOf j [] loans = tt
 valssOf j (passes w n ∷ args) loans = (vint w n ∷ [], valssOf j args loans)
-valssOf j (lends lent ∷ args) loans = (pointerTo lent ∷ [], valssOf (suc j) args (loans .1))
+valssOf j (lends borrowed ∷ args) loans = (pointerTo borrowed ∷ [], valssOf (suc j) args (loans .1))
 
 -- what the lender keeps, and what the call says of what it leaves
-abbrev keptOf : Lent → Loan → Fml
+abbrev keptOf : Borrowed → Loan → Fml
 keptOf (toRead at bytes) loan = arr-parts (shares u8) (length bytes) .part fullShare bytes (at .0) (at .1)
 keptOf (toWrite at bytes) loan = Held u8 (length bytes) (at .0) (at .1) (loan .1)
 keptOf (toCount at n) loan = Body (mem u32) (at .0) (at .1) (loan .1)
 
-abbrev leftOf : (lent : Lent) → Loan → Last lent → Fml
+abbrev leftOf : (borrowed : Borrowed) → Loan → Last borrowed → Fml
 leftOf (toRead at bytes) loan last = ftrue
 leftOf (toWrite at bytes) loan last = fsep (finally u8 (loan .1) last) (feq ℕ (length last) (length bytes))
 leftOf (toCount at n) loan last = fres (loan .1) (u32 .coded .code last)
@@ -97,7 +97,7 @@ leftOf (toCount at n) loan last = fres (loan .1) (u32 .coded .code last)
 abbrev pub leftsOf : (args : List Arg) → Loans args → Lasts args → Fml
 leftsOf [] loans lasts = ftrue
 leftsOf (passes w n ∷ args) loans lasts = fsep ftrue (leftsOf args loans (lasts .1))
-leftsOf (lends lent ∷ args) loans lasts = fsep (leftOf lent (loans .0) (lasts .0)) (leftsOf args (loans .1) (lasts .1))
+leftsOf (lends borrowed ∷ args) loans lasts = fsep (leftOf borrowed (loans .0) (lasts .0)) (leftsOf args (loans .1) (lasts .1))
 
 -- bytes that fit have room
 room : (n : ℕ) → n < 2 ^ 63 → Room u8 n
@@ -133,16 +133,16 @@ module _ {M : Type 1} (𝓤 : URA M) (H : Heap 𝓤) (A : Atoms 𝓤) (W : Given
   abbrev Token : Loan → SProp 𝓤
   Token loan = ⟦ flft (loan .0 ∷ []) fullShare ⟧
 
-  abbrev Own : ℕ → Lent → Loan → SProp 𝓤
-  Own j lent loan = ⟦ rowOf j lent loan .own (refOf j lent loan) (pointerTo lent ∷ []) ⟧
+  abbrev Own : ℕ → Borrowed → Loan → SProp 𝓤
+  Own j borrowed loan = ⟦ rowOf j borrowed loan .own (refOf j borrowed loan) (pointerTo borrowed ∷ []) ⟧
 
-  abbrev Aside : Lent → Loan → SProp 𝓤
-  Aside lent loan = ⟦ flent (loan .0 ∷ []) (keptOf lent loan) ⟧
+  abbrev Aside : Borrowed → Loan → SProp 𝓤
+  Aside borrowed loan = ⟦ flent (loan .0 ∷ []) (keptOf borrowed loan) ⟧
 
-  abbrev Made : ℕ → Lent → Loan → SProp 𝓤
-  Made j lent loan = Token loan ∗ Own j lent loan ∗ Aside lent loan
+  abbrev Made : ℕ → Borrowed → Loan → SProp 𝓤
+  Made j borrowed loan = Token loan ∗ Own j borrowed loan ∗ Aside borrowed loan
 
-  makes : (j : ℕ) (lent : Lent) → LentFits lent → ent 𝓤 (lentLies 𝓤 H lent) (H .⇛ (ex 𝓤 (Made j lent)))
+  makes : (j : ℕ) (borrowed : Borrowed) → BorrowedFits borrowed → ent 𝓤 (borrowedLies 𝓤 H borrowed) (H .⇛ (ex 𝓤 (Made j borrowed)))
   makes j (toRead at ys) fits =
       qed W (raw (run 𝓤 H fullShare w8 (at .0) (at .1) ys) ∷ []) ∵ updating ! $ use1 W (‵ (parts (mem u8) (shares u8) fullShare ys (at .0) (at .1))) (in-parts (at .0) (at .1) ys) $
       feqI ! ℕ (length ys) (length ys) refl $ fjoin ! $ lft-new ! tt (λ α. move ! (1 ∷ []) $
@@ -157,7 +157,7 @@ module _ {M : Type 1} (𝓤 : URA M) (H : Heap 𝓤) (A : Atoms 𝓤) (W : Given
       use1 W (later (some (λ (δ : GName). raw (Own j (toCount at n) (α, δ)) ⊛ raw (Aside (toCount at n) (α, δ))))) (lends-ref 𝓤 H A W u32 (named j) (α ∷ []) n (at .0) (at .1)) $
       await ! tt $ pick ! (λ δ. split ! $ at-once ! $ show ! (Made j (toCount at n)) (α, δ) $ move ! (2 ∷ 0 ∷ 1 ∷ []) $ done !))
 
-  backs : (lent : Lent) (loan : Loan) (last : Last lent) → ent 𝓤 (Token loan ∗ Aside lent loan ∗ ⟦ leftOf lent loan last ⟧) (H .⇛ (lentLies 𝓤 H (lentAfter lent last)))
+  backs : (borrowed : Borrowed) (loan : Loan) (last : Last borrowed) → ent 𝓤 (Token loan ∗ Aside borrowed loan ∗ ⟦ leftOf borrowed loan last ⟧) (H .⇛ (borrowedLies 𝓤 H (borrowedAfter borrowed last)))
   backs (toRead at ys) loan last =
       qed W (‵ (flft (loan .0 ∷ []) fullShare) ∷ ‵ (flent (loan .0 ∷ []) (keptOf (toRead at ys) loan)) ∷ ‵ ftrue ∷ []) ∵ updating ! $ lft-end ! tt $ lent-back ! tt $ fsplit ! $
       at-once ! $ keep ! (1 ∷ []) $ by ! (out-parts (at .0) (at .1) ys)
@@ -181,7 +181,7 @@ module _ {M : Type 1} (𝓤 : URA M) (H : Heap 𝓤) (A : Atoms 𝓤) (W : Given
   abbrev pub Asides : (args : List Arg) → Loans args → SProp 𝓤
   Asides [] loans = emp 𝓤
   Asides (passes w n ∷ args) loans = Asides args loans
-  Asides (lends lent ∷ args) loans = Aside lent (loans .0) ∗ Asides args (loans .1)
+  Asides (lends borrowed ∷ args) loans = Aside borrowed (loans .0) ∗ Asides args (loans .1)
 
   numbered : (w : Width) (n : ℕ) → n < 2 ^ bits w → (P Q R : SProp 𝓤) → ent 𝓤 ((P ∗ Q) ∗ R) ((P ∗ (⟦ UInt w .own n (vint w n ∷ []) ⟧ ∗ Q)) ∗ R)
   numbered w n fits P Q R =
@@ -197,20 +197,20 @@ module _ {M : Type 1} (𝓤 : URA M) (H : Heap 𝓤) (A : Atoms 𝓤) (W : Given
   backs-all [] loans lasts = qed W (raw (emp 𝓤) ∷ raw (emp 𝓤) ∷ raw (emp 𝓤) ∷ []) ∵ updating ! $ at-once ! $ keep ! (0 ∷ []) $ done !
   backs-all (passes w n ∷ args) loans lasts =
       qed W (raw (Tokens args loans) ∷ raw (Asides args loans) ∷ ‵ (fsep ftrue (leftsOf args loans (lasts .1))) ∷ []) ∵ move ! (2 ∷ []) $ fsplit ! $ keep ! (2 ∷ 3 ∷ 1 ∷ []) $ by ! (backs-all args loans (lasts .1))
-  backs-all (lends lent ∷ args) loans lasts =
-      qed W ((raw (Token (loans .0)) ⊛ raw (Tokens args (loans .1))) ∷ (raw (Aside lent (loans .0)) ⊛ raw (Asides args (loans .1))) ∷ ‵ (fsep (leftOf lent (loans .0) (lasts .0)) (leftsOf args (loans .1) (lasts .1))) ∷ []) ∵
+  backs-all (lends borrowed ∷ args) loans lasts =
+      qed W ((raw (Token (loans .0)) ⊛ raw (Tokens args (loans .1))) ∷ (raw (Aside borrowed (loans .0)) ⊛ raw (Asides args (loans .1))) ∷ ‵ (fsep (leftOf borrowed (loans .0) (lasts .0)) (leftsOf args (loans .1) (lasts .1))) ∷ []) ∵
       updating ! $ split ! $ move ! (2 ∷ []) $ split ! $ move ! (4 ∷ []) $ fsplit ! $
       -- [its last; the others'; its part; the others'; its token; the others']
-      move ! (4 ∷ 2 ∷ 0 ∷ []) $ use3 W (later (raw (lentLies 𝓤 H (lentAfter lent (lasts .0))))) (backs lent (loans .0) (lasts .0)) $ await ! tt $
+      move ! (4 ∷ 2 ∷ 0 ∷ []) $ use3 W (later (raw (borrowedLies 𝓤 H (borrowedAfter borrowed (lasts .0))))) (backs borrowed (loans .0) (lasts .0)) $ await ! tt $
       move ! (3 ∷ 2 ∷ 1 ∷ []) $ use3 W (later (raw (Lie 𝓤 H (after args (lasts .1))))) (backs-all args (loans .1) (lasts .1)) $ await ! tt $ at-once ! $ move ! (1 ∷ 0 ∷ []) $ done !
 
   module _ (𝓜 : Model 𝓤 H) (σ : Memory) where
-    lends-one : (j : ℕ) (lent : Lent) → LentFits lent → (L F : SProp 𝓤) → Satisfies 𝓤 H 𝓜 σ ((lentLies 𝓤 H lent ∗ L) ∗ F)
-        → ∥ ((loan : Loan) × Satisfies 𝓤 H 𝓜 σ (L ∗ (Made j lent loan ∗ F))) ∥₁
-    lends-one j lent fits L F s =
-        ∥∥₁-map (sat-ex∗ 𝓤 H 𝓜 σ (Made j lent) (L ∗ F) (sat-⇛ 𝓤 H 𝓜 σ (ex 𝓤 (Made j lent)) (L ∗ F)
-        (sat-weaken 𝓤 H 𝓜 σ (via 𝓤 (lentLies 𝓤 H lent ∗ (L ∗ F)) (assoc∗ 𝓤 (lentLies 𝓤 H lent) L F) (monoL 𝓤 (L ∗ F) (makes j lent fits))) s)))
-        (λ t. (t .0, sat-weaken 𝓤 H 𝓜 σ (turned (Made j lent (t .0)) L F) (t .1)))
+    lends-one : (j : ℕ) (borrowed : Borrowed) → BorrowedFits borrowed → (L F : SProp 𝓤) → Satisfies 𝓤 H 𝓜 σ ((borrowedLies 𝓤 H borrowed ∗ L) ∗ F)
+        → ∥ ((loan : Loan) × Satisfies 𝓤 H 𝓜 σ (L ∗ (Made j borrowed loan ∗ F))) ∥₁
+    lends-one j borrowed fits L F s =
+        ∥∥₁-map (sat-ex∗ 𝓤 H 𝓜 σ (Made j borrowed) (L ∗ F) (sat-⇛ 𝓤 H 𝓜 σ (ex 𝓤 (Made j borrowed)) (L ∗ F)
+        (sat-weaken 𝓤 H 𝓜 σ (via 𝓤 (borrowedLies 𝓤 H borrowed ∗ (L ∗ F)) (assoc∗ 𝓤 (borrowedLies 𝓤 H borrowed) L F) (monoL 𝓤 (L ∗ F) (makes j borrowed fits))) s)))
+        (λ t. (t .0, sat-weaken 𝓤 H 𝓜 σ (turned (Made j borrowed (t .0)) L F) (t .1)))
       where
         turned : (P Q R : SProp 𝓤) → ent 𝓤 (P ∗ (Q ∗ R)) (Q ∗ (P ∗ R))
         turned P Q R = via 𝓤 ((P ∗ Q) ∗ R) (assoc′ 𝓤 P Q R) (via 𝓤 ((Q ∗ P) ∗ R) (monoL 𝓤 R (comm∗ 𝓤 P Q)) (assoc∗ 𝓤 Q P R))
@@ -220,9 +220,9 @@ module _ {M : Type 1} (𝓤 : URA M) (H : Heap 𝓤) (A : Atoms 𝓤) (W : Given
     lends-all j [] fit F s = ∣ (tt, sat-weaken 𝓤 H 𝓜 σ (via 𝓤 (emp 𝓤 ∗ (emp 𝓤 ∗ F)) (emp∗ 𝓤 (emp 𝓤 ∗ F)) (monoL 𝓤 (emp 𝓤 ∗ F) (emp∗ 𝓤 (emp 𝓤)))) s) ∣₁
     lends-all j (passes w n ∷ args) fit F s =
         ∥∥₁-map (lends-all j args (fit .1) F s) (λ t. (t .0, sat-weaken 𝓤 H 𝓜 σ (numbered w n (fit .0) (Tokens args (t .0)) (Owns j args (t .0)) (Asides args (t .0) ∗ F)) (t .1)))
-    lends-all j (lends lent ∷ args) fit F s =
-        ∥∥₁-elim (lends-one j lent (fit .0) (Lie 𝓤 H args) F s) ∥∥₁-prop (λ p.
-        ∥∥₁-map (lends-all (suc j) args (fit .1) (Made j lent (p .0) ∗ F) (p .1)) (λ t. (
+    lends-all j (lends borrowed ∷ args) fit F s =
+        ∥∥₁-elim (lends-one j borrowed (fit .0) (Lie 𝓤 H args) F s) ∥∥₁-prop (λ p.
+        ∥∥₁-map (lends-all (suc j) args (fit .1) (Made j borrowed (p .0) ∗ F) (p .1)) (λ t. (
           (p .0, t .0),
-          sat-weaken 𝓤 H 𝓜 σ (arranged (Tokens args (t .0)) (Owns (suc j) args (t .0)) (Asides args (t .0)) (Token (p .0)) (Own j lent (p .0)) (Aside lent (p .0)) F) (t .1),
+          sat-weaken 𝓤 H 𝓜 σ (arranged (Tokens args (t .0)) (Owns (suc j) args (t .0)) (Asides args (t .0)) (Token (p .0)) (Own j borrowed (p .0)) (Aside borrowed (p .0)) F) (t .1),
         )))

@@ -95,7 +95,7 @@ module _ (sheet bank frame buffer : List ℕ) where
   callAt length-at rate-at = answer-call (0, 0) (1, 0) (0, length sheet) (1, length bank) length-at rate-at sheet bank frame buffer 0 0
 
   -- a memory, and the run from it
-  pub record Answered : Type 1 where
+  pub record AnswerReturned : Type 1 where
     pub memory : Memory
     pub length-at : Place
     pub rate-at : Place
@@ -123,7 +123,7 @@ module _ (sheet bank frame buffer : List ℕ) where
       move ! (2 ∷ 4 ∷ 3 ∷ 5 ∷ 7 ∷ 6 ∷ 0 ∷ 1 ∷ []) $ group ! 7 $ done !
 
   pub some-answer : AllFit w8 sheet → AllFit w8 bank → AllFit w8 frame → AllFit w8 buffer
-      → length sheet < 2 ^ 63 → length bank < 2 ^ 63 → length frame < 2 ^ 63 → length buffer < 2 ^ 63 → ∥ Answered ∥₁
+      → length sheet < 2 ^ 63 → length bank < 2 ^ 63 → length frame < 2 ^ 63 → length buffer < 2 ^ 63 → ∥ AnswerReturned ∥₁
   some-answer sheet-fits bank-fits frame-fits buffer-fits s b f u =
       let σ : Memory = startMem (sheet ++ frame) (bank ++ buffer) in
       let P : SProp Closed.𝓤 = bytes 0 0 (sheet ++ frame) ⁎ bytes 1 0 (bank ++ buffer) in
