@@ -303,10 +303,10 @@ def whole_tree(target):
         subprocess.run(["cp", "-a", os.path.join(ROOT, part), target], check=True)
 
 
-def digest_of(folder):
-    """A digest of the sources in a copy."""
+def digest_of(folder, *patterns):
+    """A digest of the files in a folder that have one of some patterns."""
     digest = hashlib.sha256()
-    for path in sorted(glob.glob(os.path.join(folder, "crates", "**", "*"), recursive=True) + [os.path.join(folder, "crates.txt")]):
+    for path in sorted(path for pattern in patterns for path in glob.glob(os.path.join(folder, pattern), recursive=True)):
         if os.path.isfile(path):
             digest.update(path[len(folder):].encode() + open(path, "rb").read())
     return digest.hexdigest()
@@ -322,7 +322,7 @@ class Copy:
         """Makes the copy anew where the sources are others, and has it checked."""
         mark, warm, fresh = (os.path.join(self.path, name) for name in ("digest", "warm", "fresh"))
         self.make(fresh)
-        self.digest = digest_of(fresh)
+        self.digest = digest_of(fresh, "crates/**/*", "crates.txt")
         if os.path.exists(mark) and read(mark) == self.digest:
             return
         print(f"checking the copy '{self.kind}' with nothing changed", flush=True)
@@ -405,17 +405,18 @@ class Room:
     def kept(self, slip):
         return os.path.join(self.results, slip.name + ".json")
 
-    def of(self, slip):
-        """What a result is of: the change, and the sources of the copies that it was tried in."""
+    def of(self, slip, what, by):
+        """What a verdict is of: the change and the sources of the copies that it was tried in. A table's stands with the definitions and that table."""
+        if what == TABLE:
+            return [repr(slip.changes), digest_of(ROOT, "crates/*/specs/*.antt", *(refuser.split(":")[0] for refuser in by))]
         return [repr(slip.changes)] + [copy.digest for copy in self.copies_for(slip)]
 
     def found_before(self, slip):
-        """What an earlier run found of a slip, where that was of the same change in the same sources; a table's verdict stands with the tables."""
+        """What an earlier run found of a slip, where that still stands."""
         if not os.path.exists(self.kept(slip)):
             return None
         found = json.loads(read(self.kept(slip)))
-        known = len(found["of"]) if found["what"] != TABLE else 2
-        return found if found["of"][:known] == self.of(slip)[:known] else None
+        return found if found["of"] == self.of(slip, found["what"], found["by"]) else None
 
     def tried(self, slip, worker):
         began = time.time()
@@ -423,7 +424,7 @@ class Room:
             what, by, said = checked(copy, slip, worker, self.cited)
             if what != NOTHING:
                 break
-        found = {"of": self.of(slip), "what": what, "by": by, "seconds": round(time.time() - began, 1)}
+        found = {"of": self.of(slip, what, by), "what": what, "by": by, "seconds": round(time.time() - began, 1)}
         write(self.kept(slip), json.dumps(found))
         return found, said
 

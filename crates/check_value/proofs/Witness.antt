@@ -10,7 +10,7 @@ use lib.ListN.{length, getD}
 use lib.Pow.{areBytes}
 use Rattle.check_value.specs.Check.{valueOf}
 use Rattle.check_value.specs.Frame.{passes, sealed}
-use Rattle.check_value.specs.Damage.{fewBits, runBits, changed, allWithin, WithinOneRun, Damaged}
+use Rattle.check_value.specs.Damage.{fewBits, runBits, lowBits, wire, changed, allWithin, WithinOneRun, Damaged}
 
 -- ---- a test for damage
 
@@ -118,6 +118,24 @@ all-tested sent (received ∷ rest) t = (
 pub received-damaged : AllDamaged frameSent framesReceived
 unfolding isDamaged
 received-damaged = all-tested frameSent framesReceived tt
+
+-- .. and what is none: nothing changed, four bits far apart, four in a run of seventeen, and a byte lost
+pub others-not-damaged : map (isDamaged frameSent)
+    (frameSent
+    ∷ (0x00 ∷ 0x03 ∷ 0x11 ∷ 0x01 ∷ 0x00 ∷ 0x03 ∷ 0x94 ∷ 0xB7 ∷ [])
+    ∷ (0x01 ∷ 0x73 ∷ 0x01 ∷ 0x11 ∷ 0x00 ∷ 0x02 ∷ 0x94 ∷ 0x37 ∷ [])
+    ∷ (0x01 ∷ 0x01 ∷ 0x01 ∷ 0x01 ∷ 0x00 ∷ 0x02 ∷ 0x94 ∷ [])
+    ∷ [])
+    ≡ false ∷ false ∷ false ∷ false ∷ []
+unfolding isDamaged
+others-not-damaged = refl
+
+-- the bits of a byte in sending order: rule C7
+pub bits-sent : wire (0x01 ∷ 0xB0 ∷ [])
+    ≡ true ∷ false ∷ false ∷ false ∷ false ∷ false ∷ false ∷ false
+    ∷ false ∷ false ∷ false ∷ false ∷ true ∷ true ∷ false ∷ true ∷ []
+unfolding wire lowBits
+bits-sent = refl
 
 -- ---- a reply is sealed so: rule R6
 
