@@ -6,10 +6,12 @@ use mathlib.Core.List.{List, [], _∷_, _++_, map}
 use Prim.Native.Nat.{ℕ, _+_, _≤_}
 use lib.Dec.{T, leb, ltb, eqb, leb→le, ltb→lt, eqb→eq}
 use lib.Ieee.Fits.{and-l, and-r}
+use lib.Count.{ones, onesIn}
 use lib.ListN.{length, getD}
 use lib.Pow.{areBytes}
 use Rattle.check_value.specs.Check.{valueOf}
 use Rattle.check_value.specs.Frame.{passes, sealed}
+use Rattle.check_value.specs.Ones.{onesOf}
 use Rattle.check_value.specs.Damage.{fewBits, runBits, lowBits, wire, changed, allWithin, WithinOneRun, Damaged}
 
 -- ---- a test for damage
@@ -137,16 +139,23 @@ pub bits-sent : wire (0x01 ∷ 0xB0 ∷ [])
 unfolding wire lowBits
 bits-sent = refl
 
+-- how many bits are ones: rule C8
+pub ones-sent : onesOf (0x01 ∷ 0x03 ∷ 0x00 ∷ 0x07 ∷ []) ≡ 6
+unfolding onesOf ones onesIn
+ones-sent = refl
+
 -- ---- a reply is sealed so: rule R6
 
--- six bytes of a longer buffer, with room for just their check, and without
+-- six bytes of a longer buffer, with room for just their check, and without; and seven others
 pub sealed-so : (sealed (0x01 ∷ 0x03 ∷ 0x01 ∷ 0x01 ∷ 0x00 ∷ 0x02 ∷ 0xA5 ∷ 0xA5 ∷ 0xA5 ∷ []) 6
     ∷ sealed (0x01 ∷ 0x03 ∷ 0x01 ∷ 0x01 ∷ 0x00 ∷ 0x02 ∷ 0xA5 ∷ 0xA5 ∷ []) 6
     ∷ sealed (0x01 ∷ 0x03 ∷ 0x01 ∷ 0x01 ∷ 0x00 ∷ 0x02 ∷ 0xA5 ∷ []) 6
+    ∷ sealed (0x01 ∷ 0x03 ∷ 0x04 ∷ 0x00 ∷ 0x01 ∷ 0x00 ∷ 0x00 ∷ 0xA5 ∷ 0xA5 ∷ []) 7
     ∷ [])
     ≡ (frameSent ++ (0xA5 ∷ []))
     ∷ frameSent
     ∷ (0x01 ∷ 0x03 ∷ 0x01 ∷ 0x01 ∷ 0x00 ∷ 0x02 ∷ 0xA5 ∷ [])
+    ∷ (0x01 ∷ 0x03 ∷ 0x04 ∷ 0x00 ∷ 0x01 ∷ 0x00 ∷ 0x00 ∷ 0xAB ∷ 0xF3 ∷ [])
     ∷ []
 unfolding sealed valueOf
 sealed-so = refl
