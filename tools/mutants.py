@@ -461,7 +461,7 @@ def summary(results):
     counts = collections.OrderedDict()
     for slip, found in results:
         row = counts.setdefault((slip.sort, slip.crate), collections.Counter())
-        row["changes nothing" if slip.same and found["what"] == NOTHING else found["what"]] += 1
+        row["changes nothing" if slip.same and found["what"] not in (TABLE, THEOREM) else found["what"]] += 1
     columns.append("changes nothing")
     lines = ["| sort | crate | slips | " + " | ".join(columns) + " |", "|---|---|---:|" + "---:|" * len(columns)]
     for (sort, crate), row in counts.items():

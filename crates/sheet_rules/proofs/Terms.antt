@@ -9,6 +9,7 @@ use Rattle.sheet_rules.specs.declared.Area.{Area}
 use Rattle.sheet_rules.specs.declared.Item.{Item}
 use Rattle.sheet_rules.specs.declared.Purpose.{Purpose}
 use Rattle.sheet_rules.specs.declared.Purpose.the-variants.{Read, Write}
+use Rattle.sheet_rules.specs.Rows.{itemEnd}
 use Rattle.sheet_rules.specs.Rules.{readable, writable}
 use Rattle.sheet_rules.specs.Lookup.{holds}
 use Rattle.sheet_rules.specs.Runs.{reach}
@@ -92,3 +93,7 @@ runs =
 pub runs-reach : each reaches runs ≡ true
 unfolding runs each reach
 runs-reach = refl
+
+-- where an item row ends, in bytes, behind so many areas and items: rule L8's sheet has 68 bytes, and the longest 856
+pub row-ends : (itemEnd 1 0 ∷ itemEnd 1 2 ∷ itemEnd 8 63 ∷ []) ≡ 44 ∷ 68 ∷ 856 ∷ []
+row-ends = refl
