@@ -43,8 +43,8 @@ RECORD = os.path.join(ROOT, "docs", "SLIPS.txt")
 LINE_FEED = "↵"
 LONGEST_CHECK = 600
 
-# the crates that hold definitions, without their functions
-BARE = "lists refusals words check_value range sheet_rules makers bank_rules frame meter_rules plain listing".split()
+# the crates that hold definitions, without their functions, in an order in which they can be checked; the quick tables first
+BARE = "lists refusals words check_value range sheet_rules makers listing bank_rules frame meter_rules plain".split()
 # the statements that are typed in specs/
 STATED = ["plain"]
 # the files that compute a statement from the definitions, and stand on nothing else of proofs/
@@ -54,8 +54,9 @@ TABLES = {
     "sheet_rules": ["Terms", "Sides", "SheetLimits"],
     "makers": ["Sheets"],
     "bank_rules": ["BankLimits"],
+    "frame": ["Rooms"],
     "meter_rules": ["CaseSet", "FrameLimits"],
-    "listing": ["Example", "Makers"],
+    "listing": ["Example", "Texts", "Makers"],
 }
 
 # what refuses a slip
@@ -97,10 +98,10 @@ def crate_of(path):
 
 
 def from_here_up(names, edited):
-    """Those of some crates that are edited or stand on one that is, in the order of crates.txt."""
+    """Those of some crates that are edited or stand on one that is, in the order given."""
     def reaches(crate):
         return crate in edited or any(reaches(below) for below in CRATES[crate])
-    return [crate for crate in CRATES if crate in names and reaches(crate)]
+    return [crate for crate in names if reaches(crate)]
 
 
 # ---- slips found by pattern
@@ -281,7 +282,7 @@ def bare_tree(target, tables_alone):
     """A copy of the crates of definitions without their functions; what is left out with a crate that is not there is left out too."""
     shutil.rmtree(target, ignore_errors=True)
     rows = []
-    for crate in [c for c in CRATES if c in BARE]:
+    for crate in BARE:
         rows.append(f"{crate}: {' '.join(b for b in CRATES[crate] if b in BARE)}")
         here, there = os.path.join(ROOT, "crates", crate), os.path.join(target, "crates", crate)
         shutil.copytree(os.path.join(here, "specs"), os.path.join(there, "specs"))
@@ -400,7 +401,10 @@ class Room:
         self.definition = [self.tables] if tables_alone else [self.tables, self.statements]
 
     def copies_for(self, slip):
-        return {"definition": self.definition, "statement": [self.statements], "code": [self.whole]}[slip.sort]
+        """Where a slip is tried. One that changes nothing may break a proof, which tells nothing: it is held to the tables."""
+        if slip.sort == "definition":
+            return self.definition[:1] if slip.same else self.definition
+        return [self.statements] if slip.sort == "statement" else [self.whole]
 
     def kept(self, slip):
         return os.path.join(self.results, slip.name + ".json")

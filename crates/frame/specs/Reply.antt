@@ -44,12 +44,9 @@ errorReply frame code = station frame ∷ topBitSet (function frame) ∷ code �
 unfoldable pub withCheck : List ℕ → List ℕ
 withCheck bytes = bytes ++ (valueOf bytes % 256 ∷ valueOf bytes / 256 ∷ [])
 
--- how many bytes an error and an echo have with their check
+-- how many bytes an error has with its check
 abbrev pub errorLength : ℕ
 errorLength = 5
-
-abbrev pub echoLength : ℕ
-echoLength = 8
 
 -- ---- in the answer buffer
 

@@ -4,4 +4,5 @@ pub mod Signs
 pub mod Fits
 pub mod Example
 pub mod Makers
+pub mod Texts
 pub mod Determined

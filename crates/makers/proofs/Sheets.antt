@@ -13,7 +13,7 @@ use Rattle.sheet_rules.specs.Rules.{sound, headerSound, areasSound, itemsSound,
 use Rattle.lists.specs.Lists.{each, some, upFrom, samePlaces}
 use Rattle.sheet_rules.specs.Lookup.{addressOf}
 use Rattle.makers.specs.Maps.{Row, Map, ux, aswe, bore40, bore50, bore80}
-use Rattle.makers.specs.Sheets.{areasOf, itemsOf, sheetOf}
+use Rattle.makers.specs.Sheets.{areasOf, itemsOf, itemWords, sheetOf}
 
 -- the meters that have a map
 pub data Meter : Type 0 where
@@ -96,3 +96,13 @@ says aswe-80 = refl
 pub sheet-sound : (meter : Meter) → sound (sheetOf (mapOf meter)) ≡ true
 unfolding saidBy meant
 sheet-sound meter = ap (λ (said : Said). said .sound) (says meter)
+
+-- the words of an item's row, each bound upper word first: the makers' bounds are low, these are not
+abbrev bounded : ℕ → ℕ → Item
+bounded low high = record { kind = 2; place = 7; low = low; high = high }
+
+pub item-words : itemWords (bounded 0x00020001 0x0001FFFF ∷ bounded 0x0001FFFF 0x00020001 ∷ [])
+    ≡ 2 ∷ 7 ∷ 0x0002 ∷ 0x0001 ∷ 0x0001 ∷ 0xFFFF
+    ∷ 2 ∷ 7 ∷ 0x0001 ∷ 0xFFFF ∷ 0x0002 ∷ 0x0001 ∷ []
+unfolding itemWords
+item-words = refl
