@@ -97,6 +97,26 @@ pub sheet-sound : (meter : Meter) → sound (sheetOf (mapOf meter)) ≡ true
 unfolding saidBy meant
 sheet-sound meter = ap (λ (said : Said). said .sound) (says meter)
 
+-- the areas of each sheet, typed as the makers have their registers: rules M10 to M25
+abbrev area : ℕ → ℕ → ℕ → ℕ → Area
+area first last place access = record { first = first; last = last; place = place; access = access }
+
+abbrev pub asweAreas : List Area
+asweAreas = area 0x00FF 0x0109 0 3 ∷ area 0x010D 0x0113 11 3 ∷ area 0x0115 0x0116 18 3 ∷ area 0x0123 0x0124 20 3 ∷ area 0x01FF 0x020E 22 1 ∷ []
+
+abbrev pub areasPrinted : Meter → List Area
+areasPrinted ux15-25 = area 0x0100 0x0116 0 3 ∷ area 0x0200 0x020A 23 1 ∷ []
+areasPrinted aswe-40 = asweAreas
+areasPrinted aswe-50 = asweAreas
+areasPrinted aswe-80 = asweAreas
+
+pub areas-printed : (meter : Meter) → areas (sheetOf (mapOf meter)) ≡ areasPrinted meter
+unfolding areasOf itemsOf sheetOf areas wordAt upFrom
+areas-printed ux15-25 = refl
+areas-printed aswe-40 = refl
+areas-printed aswe-50 = refl
+areas-printed aswe-80 = refl
+
 -- the words of an item's row, each bound upper word first: the makers' bounds are low, these are not
 abbrev bounded : ℕ → ℕ → Item
 bounded low high = record { kind = 2; place = 7; low = low; high = high }
