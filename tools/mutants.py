@@ -365,6 +365,10 @@ def refusal(said, tables, cited):
     """(what refuses, its names) by what a check said."""
     errors = [match.groups() for match in map(ERROR.search, said.split("\n")) if match]
     first = [e for e in errors if "was not admitted" not in e[4]]
+    # a function whose proof the kit finds by itself has no file of proofs/
+    unproved = re.findall(r"^fn ([\w:]+): no proof: ", said, re.M)
+    if unproved and all(e[1] == "proofs" for e in first):
+        return FUNCTION, unproved[:2]
     if not first or any(e[1] != "proofs" for e in first):
         return DEFINITION, [first[0][4].strip()[:120]] if first else [said[-200:]]
     named = [(f"crates/{crate}/proofs/{file}.antt", name or "", crate, file) for crate, _, file, name, _ in first]

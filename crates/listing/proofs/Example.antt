@@ -2,6 +2,7 @@
 use Prim.Native.Nat.{ℕ}
 use mathlib.Core.Path.{_≡_, refl}
 use mathlib.Core.List.{List, [], _∷_}
+use lib.ListN.{take}
 use Rattle.words.specs.Words.{wordAt}
 use Rattle.range.specs.Range.{numberOf, notAbove, inRange}
 use Rattle.sheet_rules.specs.Rows.{areas, items}
@@ -25,3 +26,8 @@ input =
 pub example : listing input ≡ ascii "areas 1 items 3 bank 3\n0000 u 1 247\n0001 u 0 1\n0002 s -10 60\n"
 unfolding listing ascii decimal decimalWithin signedDecimal summaryText itemText itemTexts addressOf sound areas items wordAt numberOf notAbove inRange headerSound areasSound itemsSound settingsSound each some samePlaces itemPlaces writablePlaces placesFollow areasAscend lengthsSum
 example = refl
+
+-- rule L6: for want of its last byte it is refused
+pub refused : listing (take 67 input) ≡ ascii "sheet refused\n"
+unfolding listing ascii decimal decimalWithin signedDecimal summaryText itemText itemTexts addressOf sound areas items wordAt numberOf notAbove inRange headerSound areasSound itemsSound settingsSound each some samePlaces itemPlaces writablePlaces placesFollow areasAscend lengthsSum
+refused = refl

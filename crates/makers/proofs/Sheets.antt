@@ -117,6 +117,16 @@ areas-printed aswe-40 = refl
 areas-printed aswe-50 = refl
 areas-printed aswe-80 = refl
 
+-- .. and the sum of the functions that each allows: all four, and all but 05; the clear address, and 0 where there is none
+pub functions-printed : (functions (sheetOf ux) ∷ functions (sheetOf (aswe bore40)) ∷ functions (sheetOf (aswe bore50)) ∷ functions (sheetOf (aswe bore80)) ∷ [])
+    ≡ 15 ∷ 13 ∷ 13 ∷ 13 ∷ []
+unfolding sheetOf wordAt
+functions-printed = refl
+
+pub clears-printed : (clearAddress (sheetOf ux) ∷ clearAddress (sheetOf (aswe bore40)) ∷ []) ≡ 0x0300 ∷ 0x0000 ∷ []
+unfolding sheetOf wordAt
+clears-printed = refl
+
 -- the words of an item's row, each bound upper word first: the makers' bounds are low, these are not
 abbrev bounded : ℕ → ℕ → Item
 bounded low high = record { kind = 2; place = 7; low = low; high = high }
