@@ -4,7 +4,7 @@
   python3 tools/mutants.py [--sort SORT] [--only CRATE] [--jobs N] [--room DIR] [--anew]   tries slips
   python3 tools/mutants.py --list ..      shows them, and tries none
   python3 tools/mutants.py --one NAME     tries one, and shows what was said of it
-  python3 tools/mutants.py --record       writes what was found of every slip into docs/SLIPS.txt
+  python3 tools/mutants.py --record       writes what was found of every slip into docs/SLIPS.txt, and tries none
 
 Three sorts:
 
@@ -60,7 +60,8 @@ TABLES = {
 }
 
 # what refuses a slip
-TABLE, THEOREM, LEMMA, FUNCTION, DEFINITION, NOTHING = "table", "theorem", "lemma", "function's proof", "does not hold together", "nothing"
+TABLE, THEOREM, LEMMA, FUNCTION, DEFINITION, NOTHING, NOT_TRIED = \
+    "table", "theorem", "lemma", "function's proof", "does not hold together", "nothing", "not tried"
 
 # `old` is a text that stands in the file once; where a line is given it is a whole line
 Change = collections.namedtuple("Change", "file line old new")
@@ -334,6 +335,11 @@ class Copy:
             sys.exit(f"the copy '{self.kind}' is refused with nothing changed:\n{said[-3000:]}")
         write(mark, self.digest)
 
+    def recall(self):
+        """Which sources the copy was made of."""
+        mark = os.path.join(self.path, "digest")
+        self.digest = read(mark) if os.path.exists(mark) else None
+
     def changed(self, slip, worker):
         """The copy with a slip made, and what is wrong with the slip, if anything."""
         work = os.path.join(self.path, f"work-{worker}")
@@ -414,10 +420,14 @@ class Room:
         return os.path.join(self.results, slip.name + ".json")
 
     def of(self, slip, what, by):
-        """What a verdict is of: the change and the sources of the copies that it was tried in. A table's stands with the definitions and that table."""
-        if what == TABLE:
-            return [repr(slip.changes), digest_of(ROOT, "crates/*/specs/*.antt", *(refuser.split(":")[0] for refuser in by))]
-        return [repr(slip.changes)] + [copy.digest for copy in self.copies_for(slip)]
+        """What a verdict is of: the change, and the sources that it stands with. A table's stands with the definitions and that table, another refusal with
+        the definitions and the crate that refuses; that nothing refuses stands with all that was tried."""
+        if what == NOTHING:
+            return [repr(slip.changes)] + [copy.digest for copy in self.copies_for(slip)]
+        files = [refuser.split(":")[0] for refuser in by if refuser.startswith("crates/")]
+        if what != TABLE:
+            files = [f"crates/{crate_of(change.file)}/**/*" for change in slip.changes] + [f"crates/{crate_of(file)}/**/*" for file in files]
+        return [repr(slip.changes), digest_of(ROOT, "crates/*/specs/*.antt", *dict.fromkeys(files))]
 
     def found_before(self, slip):
         """What an earlier run found of a slip, where that still stands."""
@@ -435,6 +445,9 @@ class Room:
         found = {"of": self.of(slip, what, by), "what": what, "by": by, "seconds": round(time.time() - began, 1)}
         write(self.kept(slip), json.dumps(found))
         return found, said
+
+
+UNTRIED = {"what": NOT_TRIED, "by": []}
 
 
 def line_of(slip, found):
@@ -465,12 +478,13 @@ def try_all(room, slips, jobs):
 
 def summary(results):
     """How many slips of each sort and crate were refused by what."""
-    columns = [TABLE, THEOREM, LEMMA, FUNCTION, DEFINITION, NOTHING]
+    columns = [TABLE, THEOREM, LEMMA, FUNCTION, DEFINITION, NOTHING, NOT_TRIED]
     counts = collections.OrderedDict()
     for slip, found in results:
         row = counts.setdefault((slip.sort, slip.crate), collections.Counter())
-        row["changes nothing" if slip.same and found["what"] not in (TABLE, THEOREM) else found["what"]] += 1
+        row["changes nothing" if slip.same and found["what"] in (LEMMA, NOTHING) else found["what"]] += 1
     columns.append("changes nothing")
+    columns = [column for column in columns if any(row[column] for row in counts.values())]
     lines = ["| sort | crate | slips | " + " | ".join(columns) + " |", "|---|---|---:|" + "---:|" * len(columns)]
     for (sort, crate), row in counts.items():
         lines.append(f"| {sort} | {crate} | {sum(row.values())} | " + " | ".join(str(row[c] or "") for c in columns) + " |")
@@ -516,15 +530,17 @@ def main():
             if os.path.exists(room.kept(slip)):
                 os.remove(room.kept(slip))
     for copy in dict.fromkeys(copy for slip in slips for copy in room.copies_for(slip)):
-        copy.fill()
+        copy.recall() if options.record else copy.fill()
     if options.one:
         found, said = room.tried(slips[0], 0)
         print(said)
         print(line_of(slips[0], found))
         return
-    results = try_all(room, slips, options.jobs)
     if options.record:
+        results = [(slip, room.found_before(slip) or UNTRIED) for slip in slips]
         record(results)
+    else:
+        results = try_all(room, slips, options.jobs)
     print()
     print(summary(results))
 
