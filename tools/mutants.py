@@ -6,11 +6,11 @@
   python3 tools/mutants.py --one NAME     tries one, and shows what was said of it
   python3 tools/mutants.py --record       writes what was found of every slip into docs/SLIPS.txt, and tries none
 
-Three sorts:
+Three sorts (left out are specs/ of meter and sheet, which only private promises cite, and of runs, whose statements are about the model machine):
 
   definition  a slip of a definition, the code untouched. Found by pattern: each number of specs/ one higher and one lower (those of the
               makers' maps one higher), each comparison, each `and`, `or` and `not` for another; and the hand-written ones of tools/mutants.txt, which change an order, an arm or a field.
-  statement   the same of the statements that are typed in specs/ themselves (crate plain).
+  statement   the same of the statements that are typed in specs/ themselves (crate plain), each number one higher.
   code        a slip of the code, from tools/mutants.txt.
 
 A definition's slip says nothing where the proof of a function refuses it: the function was not changed. So it is tried in two copies that
@@ -107,7 +107,7 @@ def from_here_up(names, edited):
 
 # ---- slips found by pattern
 
-HEAD = re.compile(r"^\s*(?:abbrev |unfoldable )?(?:pub )?(?:record |data )?([^\W\d][\w'-]*) (?:\(.*\) )?:(?: |$)")
+HEAD = re.compile(r"^(?:abbrev |unfoldable )?(?:pub )?(?:record |data )?([^\W\d][\w'-]*) (?:\(.*\) )?:(?: |$)")
 FIELD = re.compile(r"^  pub [^\W\d][\w'-]* :")
 SKIPPED = re.compile(r"^(use |pub mod|unfolding|\s*--|\s*unfolding )")
 NUMBER = re.compile(r"(?<![\w.'«-])(0x[0-9A-Fa-f]+|\d+)(?![\w'»])")
