@@ -1,8 +1,8 @@
 /* Cedarskein: the registers of a Modbus gas flowmeter, for its C firmware.
  *
  * A sheet says which registers a meter has. A bank holds their words. The functions check both, make a bank fresh,
- * post readings, set the alarm mark and answer frames. They call nothing, keep nothing between calls and use no heap:
- * all that a call works on is lent to it, as a pointer and a number of bytes.
+ * post readings, set the alarm mark, answer frames and tell why a frame gets silence or an error. They call nothing, keep
+ * nothing between calls and use no heap: all that a call works on is lent to it, as a pointer and a number of bytes.
  *
  * docs/RULES.md has the rules that the functions are proved against, by number.
  *
@@ -31,9 +31,9 @@
  *   The proofs hold for any bytes in the buffers, and for calls that keep to this:
  *
  *   - each pointer is valid for the number of bytes given with it; it may be null only where that number is 0;
- *   - the pointers length and rate are valid and aligned; byte buffers may start at any address;
- *   - what a call writes (bank, out, *length, *rate) overlaps nothing else that the call is lent: a frame is not answered
- *     in its own buffer;
+ *   - the pointers length, rate, reason and address are valid and aligned; byte buffers may start at any address;
+ *   - what a call writes (bank, out, *length, *rate, *reason, *address) overlaps nothing else that the call is lent: a
+ *     frame is not answered in its own buffer;
  *   - while a call runs nobody else writes what it is lent, or reads what it writes: one bank is not used by two tasks,
  *     or a task and an interrupt, at once. Calls on different banks may run at once, on one sheet too.
  *
@@ -78,9 +78,9 @@ extern "C" {
 #endif
 
 #define CEDARSKEIN_VERSION_MAJOR 1
-#define CEDARSKEIN_VERSION_MINOR 1
+#define CEDARSKEIN_VERSION_MINOR 2
 #define CEDARSKEIN_VERSION_PATCH 0
-#define CEDARSKEIN_VERSION "1.1.0"
+#define CEDARSKEIN_VERSION "1.2.0"
 
 #define CEDARSKEIN_LONGEST_FRAME 100 /* bytes, its check included; a longer frame gets silence */
 #define CEDARSKEIN_LEAST_OUT 100     /* bytes that out must have at least, for the longest reply */
@@ -111,6 +111,22 @@ enum cedarskein_number {
     CEDARSKEIN_NOT_READ_ONLY = 6,
     /* The posted bytes are none or odd, or the mark is neither 0 nor 1. Mend the call. */
     CEDARSKEIN_BAD_INPUT = 7
+};
+
+/* Why a frame gets silence or an error: the first that holds, in this order. */
+enum cedarskein_reason {
+    CEDARSKEIN_NO_REASON = 0,     /* a reply without error goes out */
+    CEDARSKEIN_TOO_SHORT = 1,     /* under 4 bytes: silence */
+    CEDARSKEIN_TOO_LONG = 2,      /* over 100 bytes: silence */
+    CEDARSKEIN_CHECK = 3,         /* the last two bytes are not the check of those in front: silence */
+    CEDARSKEIN_STATION = 4,       /* the frame is for another station: silence */
+    CEDARSKEIN_FUNCTION = 5,      /* the sheet does not allow the function: error 01 */
+    CEDARSKEIN_BODY_LENGTH = 6,   /* the frame has not the length of its function: silence */
+    CEDARSKEIN_COUNT = 7,         /* no register, or 10 with a byte count that is not twice its count: error 03;
+                                   * a read of more than 47: error 02 */
+    CEDARSKEIN_ADDRESS = 8,       /* an address is not open to the function: error 02 */
+    CEDARSKEIN_CLEAR_VALUE = 9,   /* a clear with another value than 0: error 03 */
+    CEDARSKEIN_ITEM = 10          /* an item would be out of its range: error 03 */
 };
 
 /* The check value as a running state: the state before any byte. Touches no memory. */
@@ -155,6 +171,16 @@ uint32_t cedarskein_set_mark(const uint8_t *sheet, size_t sheet_n, uint8_t *bank
  * The sheet and the frame are only read. */
 uint32_t cedarskein_answer(const uint8_t *sheet, size_t sheet_n, uint8_t *bank, size_t bank_n, const uint8_t *frame,
                            size_t frame_n, uint8_t *out, size_t out_n, uint32_t *length, uint32_t *rate);
+
+/* Tells why cedarskein_answer gives silence or an error to a frame, with the bank as it is before the frame. Gives back 0,
+ * else the first of 2, 3 and 4. With 0, *reason is a number of enum cedarskein_reason, and *address is
+ *   for CEDARSKEIN_ADDRESS: the lowest address of the frame's run that is in no area, not open to its function, or above
+ *      FFFF (it can be 10000 hexadecimal); for a clear elsewhere than at the clear address, the frame's own;
+ *   for CEDARSKEIN_ITEM: the first address of the first bad item, also where the frame writes only its lower half;
+ *   for every other reason: 0.
+ * *reason and *address are written by every call, zeros with a refusal. The sheet, the bank and the frame are only read. */
+uint32_t cedarskein_why(const uint8_t *sheet, size_t sheet_n, const uint8_t *bank, size_t bank_n, const uint8_t *frame,
+                        size_t frame_n, uint32_t *reason, uint32_t *address);
 
 #ifdef __cplusplus
 }
