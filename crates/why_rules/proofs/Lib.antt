@@ -1,1 +1,4 @@
 pub mod ReasonCases
+pub mod Order
+pub mod Parts
+pub mod FirstAddress
