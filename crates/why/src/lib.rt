@@ -57,7 +57,9 @@ fn told_of(judged: Judged, sheet: &[u8], frame: &[u8]) -> Reason
         Judged::BadItem { first: _, stop } => Reason::Item {
             address: lookup::address_of(sheet, (stop % 0x10000) as u16),
         },
-        _ => Reason::None,
+        Judged::GoodRead { first: _, many: _ } => Reason::None,
+        Judged::GoodClear => Reason::None,
+        Judged::GoodWrite { first: _, many: _ } => Reason::None,
     }
 }
 

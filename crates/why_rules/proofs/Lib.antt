@@ -2,3 +2,4 @@ pub mod ReasonCases
 pub mod Order
 pub mod Parts
 pub mod FirstAddress
+pub mod FirstItem

@@ -6,16 +6,16 @@ use Rattle.why.proofs.unpassed.Statement.{statement}
 use Rattle.why.proofs.unpassed.Tie as tie
 
 returns : tie.Need-returns
-returns c = simp (lt-ltb (length (now (c .before .before .args .frame))) 4 (c .if1 .taken))
+returns c = simp (lt-ltb (length (now (c .before .args .frame))) 4 (c .if1 .taken))
 
 returns-2 : tie.Need-returns-2
 returns-2 c =
-    let size = length (now (c .before .before .before .args .frame)) in
+    let size = length (now (c .before .before .args .frame)) in
     simp (le-ltb size 4 (c .before .if1 .left), lt-ltb 100 size (c .if2 .taken))
 
 returns-3 : tie.Need-returns-3
 returns-3 c =
-    let size = length (now (c .before .before .before .args .frame)) in
+    let size = length (now (c .before .before .args .frame)) in
     simp (le-ltb size 4 (c .before .if1 .left), le-ltb 100 size (c .if2 .left))
 
 pub unpassed-spec : {M : Type 1} → statement M

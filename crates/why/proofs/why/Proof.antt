@@ -1,42 +1,44 @@
+-- `why::why` meets its contract: what the judgement refuses, and what is told of where it stops. Assumes nothing.
+use Prim.Native.Nat.{ℕ}
+use mathlib.Core.Path.{_≡_, _∙_, sym, ap}
+use mathlib.Core.List.{List}
+use denote.Ref.{now}
 use borrow.Author.Needs.{needs}
+use Rattle.bank_rules.specs.Calls.{Lent, lent}
+use Rattle.meter_rules.specs.declared.Judgement.{Judgement}
+use Rattle.why_rules.specs.declared.Explained.the-variants.{Because}
+use Rattle.why_rules.specs.Reasons.{explanation}
+use Rattle.why.proofs.Telling.{explainedOf, explained}
 use Rattle.why.proofs.why.Statement.{statement}
 use Rattle.why.proofs.why.Tie as tie
-use Rattle.why.proofs.why.Reads as reads
-use Rattle.why.proofs.why.Lts as lts
-use Rattle.meter.proofs.judge.Reads as judge-reads
-use Rattle.why.proofs.told_of.Reads as told-of-reads
 
--- src/lib.rt:68:11
-judge-requires : tie.Need-judge-requires
-judge-requires c κs = search needs
+-- the frame was judged
+module _ (c : tie.After-judge) where
+  abbrev start : tie.Start
+  start = c .before .before .before .before
 
--- src/lib.rt:69:28
-enum-known-refusal : tie.Need-enum-known-refusal
-enum-known-refusal c = search needs
+  abbrev given : Lent
+  given = lent (now (start .args .sheet)) (now (start .args .bank))
 
--- src/lib.rt:70:26
-enum-known-judged : tie.Need-enum-known-judged
-enum-known-judged c = search needs
+  abbrev frame : List ℕ
+  frame = now (start .args .frame)
 
--- src/lib.rt:70:56
-told-of-requires : tie.Need-told-of-requires
-told-of-requires c κs = search needs
+  by : {judgement : Judgement} → c .judge .result ≡ judgement → explainedOf judgement (given .sheet) frame ≡ explanation given frame
+  by is = ap (λ (j : Judgement). explainedOf j (given .sheet) frame) (sym is ∙ c .judge .ensures) ∙ explained given frame
 
--- src/lib.rt:65:1
 returns : tie.Need-returns
-returns c = ?
+returns c = by (c .before .before .before) (c .before .refusal .given .1)
 
--- src/lib.rt:65:1
 returns-2 : tie.Need-returns-2
-returns-2 c = ?
+returns-2 c = ap Because (c .told-of .ensures) ∙ by (c .before .before .before .before) (c .before .before .judged .given .1)
 
 pub why-spec : {M : Type 1} → statement M
 why-spec =
     tie.close
     (tie.spec
-    judge-requires
-    enum-known-refusal
-    enum-known-judged
-    told-of-requires
+    (λ c κs. search needs)
+    (λ c. search needs)
+    (λ c. search needs)
+    (λ c κs. search needs)
     returns
     returns-2)
