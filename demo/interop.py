@@ -140,6 +140,7 @@ def steps_of_writing(master, meter):
         (".. FFFB is read still", lambda: master.read(0x0100, 1), "FFFB"),
         *refused(meter, "0101 = 0005, too high", lambda: master.write(0x0101, 0x0005), "error 3",
                  "error 03 at 9600: the item at 0101, Pulse constant, would be 5; it takes 0 to 4 (1, 10, 100, 1000, 10000 L/pulse)" + UNCHANGED),
+        (".. and which value it has still", meter.last_line, "0101 Pulse constant: 5 was not stored, it is still 10000 L/pulse"),
         (".. 0004 is read still", lambda: master.read(0x0101, 1), "0004"),
         *refused(meter, "0200, which is read only", lambda: master.write(0x0200, 0x0001), "error 2",
                  "error 02 at 9600: 0200, Flow, can only be read" + UNCHANGED),

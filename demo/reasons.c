@@ -25,6 +25,13 @@ static void print_address(const struct meter *meter, unsigned address)
         printf(", %s", row.name);
 }
 
+/* The same at the front of a sentence: a name is set off on both sides. */
+static void begin_with_address(const struct meter *meter, unsigned address)
+{
+    print_address(meter, address);
+    printf(register_at(meter, address).name ? ", " : " ");
+}
+
 static void print_bytes(size_t n)
 {
     printf("the frame has %zu byte%s", n, n == 1 ? "" : "s");
@@ -107,11 +114,11 @@ static void tell_closed(const struct reason *reason)
     const struct meter *meter = reason->meter;
     unsigned address = reason->address;
     if (lies_in_area(meter, address)) {
-        print_address(meter, address);
-        printf(", can only be read");
+        begin_with_address(meter, address);
+        printf("can only be read");
     } else if (allows_function(meter, CLEAR) && address == clear_address(meter)) {
-        print_address(meter, address);
-        printf(", takes a clear, function %02X, and nothing else", CLEAR);
+        begin_with_address(meter, address);
+        printf("takes a clear, function %02X, and nothing else", CLEAR);
     } else if (address > LAST_ADDRESS) {
         printf("there is no address above %04X", LAST_ADDRESS);
     } else {
@@ -198,8 +205,8 @@ static void tell_item(const struct reason *reason)
     struct register_row row = register_at(meter, reason->address);
     struct meter sent = with_all_stored(meter, reason->frame);
     printf("the item at ");
-    print_address(meter, reason->address);
-    printf(row.name ? ", would be " : " would be ");
+    begin_with_address(meter, reason->address);
+    printf("would be ");
     print_bad_value(&row, &item, item_value(&sent, &item));
     tell_other_half(reason, &item);
     printf("; it takes ");
@@ -215,11 +222,11 @@ static void print_run(const struct meter *meter, struct run run)
         printf("%04X to %04X, %s", run.start, last, row.name);
         return;
     }
-    print_address(meter, run.start);
     if (run.count > 1) {
-        printf(row.name ? ", to " : " to ");
-        print_address(meter, last);
+        begin_with_address(meter, run.start);
+        printf("to ");
     }
+    print_address(meter, last);
 }
 
 /* No reason: what the frame does. */

@@ -4,7 +4,8 @@ import re
 import subprocess
 
 ROOT = os.path.dirname(os.path.dirname(os.path.abspath(__file__)))
-AREA_AT_THE_END = (0xFFFD, 0xFFFF, 0, 3)
+AT_THE_END = (0xFFFD, 0xFFFF, 0, 3)
+WITH_READINGS = (0x0010, 0x0012, 0, 3, 0x0020, 0x0021, 3, 1)
 ANY_THREE_ITEMS = (0, 0, 0, 1, 0, 0xF7, 0, 1, 0, 0, 0, 1, 1, 2, 0, 0xFFF6, 0, 0x3C)
 
 
@@ -27,9 +28,11 @@ def sealed(text):
     return (data + check_of(data)).hex(" ").upper()
 
 
-def sheet_of(functions, area):
-    """A sheet that is no maker's: one area of three words, which are station, rate and a signed word."""
-    return bytes_of((1, 1, 12, 3, 16, 3, functions, 34, 0, 1, 0x0300 if functions & 2 else 0, 0, *area, *ANY_THREE_ITEMS))
+def sheet_of(functions, areas):
+    """A sheet that is no maker's: areas with a station, a rate and a signed word at places 0 to 2, and a clear at 0300."""
+    items, places = 12 + len(areas), areas[-2] + areas[-3] + 1 - areas[-4]
+    header = (1, len(areas) // 4, 12, 3, items, places, functions, items + len(ANY_THREE_ITEMS), 0, 1, 0x0300 if functions & 2 else 0, 0)
+    return bytes_of((*header, *areas, *ANY_THREE_ITEMS))
 
 
 def kept(bank):
@@ -132,7 +135,7 @@ REASONS = [
      "Silence: the frame is for station 1; this meter is station 7"),
     ("function 04", lambda why: why.frame("01 04 01 00 00 01"), "Error 01: the frame has function 04; this meter takes 03, 05, 06, 10"),
     ("a clear at AS-WE", lambda why: why.frame("01 05 03 00 00 00", "aswe_40"), "Error 01: the frame has function 05; this meter takes 03, 06, 10"),
-    ("a meter that takes no function", lambda why: why.frame("01 03 FF FD 00 01", why.file("sheet", sheet_of(0, AREA_AT_THE_END))),
+    ("a meter that takes no function", lambda why: why.frame("01 03 FF FD 00 01", why.file("sheet", sheet_of(0, AT_THE_END))),
      "Error 01: the frame has function 03; this meter takes none"),
     ("06 of 9 bytes", lambda why: why.frame("01 06 01 01 00 01 00"), "Silence: the frame has 9 bytes; with function 06 it has 8"),
     ("10 of 8 bytes", lambda why: why.frame("01 10 01 01 00 01"), "Silence: the frame has 8 bytes; with function 10 it has 9 or more"),
@@ -152,7 +155,7 @@ REASONS = [
     ("a read of the clear address", lambda why: why.frame("01 03 03 00 00 01"),
      "Error 02: 0300, Volume alarm clear, takes a clear, function 05, and nothing else"),
     ("a clear elsewhere", lambda why: why.frame("01 05 03 01 00 01"), "Error 02: a clear goes to 0300, Volume alarm clear; this one is for 0301"),
-    ("a read past FFFF", lambda why: why.frame("01 03 FF FE 00 03", why.file("sheet", sheet_of(15, AREA_AT_THE_END))),
+    ("a read past FFFF", lambda why: why.frame("01 03 FF FE 00 03", why.file("sheet", sheet_of(15, AT_THE_END))),
      "Error 02: there is no address above FFFF; the frame is for 3 registers from FFFE on"),
     ("a clear with a value", lambda why: why.frame("01 05 03 00 FF 00"), "Error 03: the clear has the value FF00; it takes 0000 alone"),
     ("half of a pair, P4", lambda why: why.frame("01 06 01 03 00 01", a0104=0x9876),
@@ -174,9 +177,18 @@ REASONS = [
     ("steps of five", lambda why: why.frame("01 06 01 13 01 21", "aswe_40"),
      "Error 03: the item at 0113, History interval, would be 289 (1445 min); it takes 1 to 288 (5 to 1440 min)"),
     ("a number without a unit", lambda why: why.frame("01 06 01 0E 00 F8"), "Error 03: the item at 010E, Station, would be 248; it takes 1 to 247"),
-    ("a meter of no maker", lambda why: why.frame("01 06 FF FF FF F5", why.file("sheet", sheet_of(15, AREA_AT_THE_END))),
+    ("a meter of no maker", lambda why: why.frame("01 06 FF FF FF F5", why.file("sheet", sheet_of(15, AT_THE_END))),
      "Error 03: the item at FFFF would be -11; it takes -10 to 60"),
-    ("a meter of no maker replies", lambda why: why.frame("01 03 FF FD 00 03", why.file("sheet", sheet_of(15, AREA_AT_THE_END))),
+    ("a meter of no maker, a write past an area",
+     lambda why: why.frame("01 10 00 12 00 02 04 00 00 00 00", why.file("sheet", sheet_of(15, WITH_READINGS))),
+     "Error 02: this meter has no register at 0013; the frame is for 2 registers from 0012 on"),
+    ("a meter of no maker, a write of a reading", lambda why: why.frame("01 06 00 20 00 00", why.file("sheet", sheet_of(15, WITH_READINGS))),
+     "Error 02: 0020 can only be read"),
+    ("a meter of no maker, a read of the clear address", lambda why: why.frame("01 03 03 00 00 01", why.file("sheet", sheet_of(15, WITH_READINGS))),
+     "Error 02: 0300 takes a clear, function 05, and nothing else"),
+    ("a meter of no maker, a clear elsewhere", lambda why: why.frame("01 05 03 01 00 00", why.file("sheet", sheet_of(15, WITH_READINGS))),
+     "Error 02: a clear goes to 0300; this one is for 0301"),
+    ("a meter of no maker replies", lambda why: why.frame("01 03 FF FD 00 03", why.file("sheet", sheet_of(15, AT_THE_END))),
      "A reply goes out: the frame reads FFFD to FFFF"),
 ]
 
@@ -199,7 +211,7 @@ BANKS = [
     ("a bank that is not there", lambda why: why.run("ux15_25", "-b", why.folder + "/none", "-f", "01"),
      "status 2: the bank none: No such file or directory"),
     ("a folder for a bank", lambda why: why.run("ux15_25", "-b", why.folder + "/.", "-f", "01"), "status 2: the bank .: Is a directory"),
-    ("a sheet that is not sound", lambda why: why.run(why.file("sheet", sheet_of(16, AREA_AT_THE_END)), "-f", "01"),
+    ("a sheet that is not sound", lambda why: why.run(why.file("sheet", sheet_of(16, AT_THE_END)), "-f", "01"),
      "status 2: sheet: no sheet: it breaks a rule of document 01"),
     ("a file that is longer than any sheet", lambda why: why.run(why.file("sheet", bytes(857)), "-f", "01"),
      "status 2: sheet: no sheet: it is longer than any"),
