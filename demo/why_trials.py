@@ -152,6 +152,7 @@ REASONS = [
     ("a read that runs too far", lambda why: why.frame("01 03 01 00 00 18"),
      "Error 02: this meter has no register at 0117; the frame is for 24 registers from 0100 on"),
     ("a write of a reading", lambda why: why.frame("01 06 02 00 00 00"), "Error 02: 0200, Flow, can only be read"),
+    ("a write of the last reading", lambda why: why.frame("01 06 02 0A 00 00"), "Error 02: 020A, Error bits, can only be read"),
     ("a read of the clear address", lambda why: why.frame("01 03 03 00 00 01"),
      "Error 02: 0300, Volume alarm clear, takes a clear, function 05, and nothing else"),
     ("a clear elsewhere", lambda why: why.frame("01 05 03 01 00 01"), "Error 02: a clear goes to 0300, Volume alarm clear; this one is for 0301"),
