@@ -1,13 +1,15 @@
 # Cedarskein: `make test` is the whole verdict. `make` alone says what there is.
 KIT := rattle-kit-5b logic 064da1ca440f63e7
-# For `make meter`: its sheet, by the name of a file or the short name of one in sheets/; another name for its line; the file that keeps its bank.
+# For `make meter` and `make why`: the sheet, by the name of a file or the short name of one in sheets/, of which the beginning is enough; the file of
+# the bank. For `make meter` another name for its line. For `make why` a frame in hex.
 SHEET := ux15_25
 LINK :=
 BANK :=
+FRAME :=
 # For `make install` and `make uninstall`, as they are used elsewhere.
 PREFIX := /usr/local
 DESTDIR :=
-export SHEET LINK BANK PREFIX DESTDIR
+export SHEET LINK BANK FRAME PREFIX DESTDIR
 include host/toolchain.mk
 
 # The names that were given on the command line. Make lets one pass that nobody uses, or that is empty, and the user wonders: so a target that takes
@@ -18,7 +20,7 @@ UNKNOWN = $(strip $(filter-out $(ALWAYS) $(1),$(GIVEN)))
 EMPTY = $(strip $(foreach name,$(filter-out $(2),$(filter $(1),$(GIVEN))),$(if $(strip $($(name))),,$(name))))
 takes = $(if $(UNKNOWN),$(error make $@ takes no $(UNKNOWN). It takes: $(1)))$(if $(EMPTY),$(error empty: $(EMPTY). Give each a name, or leave it out))
 
-.PHONY: help test kit claims layout registers registers-check built host compare coverage demo demo-check meter interop install uninstall bench bench-record
+.PHONY: help test kit claims layout registers registers-check built host compare coverage demo demo-check meter why interop install uninstall bench bench-record
 # Two runs of rt in one target/ would be in each other's way.
 .NOTPARALLEL:
 
@@ -26,6 +28,8 @@ help:
 	@echo "make demo      a new limit comes back with error 03: what is in the meter now, and why"
 	@echo "make test      the whole verdict: what docs/CLAIMS.md cites, the archive in C programs, then the gate: every proof, must-fail edit and program"
 	@echo "make meter     a simulated meter on a pseudo-terminal; SHEET=NAME is its sheet, LINK=NAME another name for its line, BANK=FILE keeps its bank"
+	@echo "make why       why a meter is silent or answers with an error; FRAME=\"01 06 ..\" is a frame in hex, without it each line of standard input is one;"
+	@echo "               SHEET=NAME is the meter's sheet, BANK=FILE its bank, else a fresh one: every frame is judged with it as it is, and none changes it"
 	@echo "make interop   two Modbus masters, mbpoll and pymodbus's client, at the simulated meter"
 	@echo "make registers the makers' registers by name: docs/REGISTERS.md, sheets/registers.csv, constants of C, from the sheets and tools/registers.txt"
 	@echo "make host      the archive in C programs, alone"
@@ -73,6 +77,12 @@ demo demo-check interop: kit
 meter: kit
 	@$(call takes,SHEET LINK BANK)$(MAKE) -s -C demo meter-built
 	@exec demo/meter.sh $(RUN) target/demo/meter
+
+# Standard input is the capture's, so nothing else may read it, and standard output has the sentences alone. As for `make install`, the archive that is
+# there serves.
+why:
+	@$(call takes,SHEET BANK FRAME)$(MAKE) -s -C demo why-built </dev/null >&2
+	@exec demo/why.sh $(RUN) target/demo/why
 
 # What is installed is the archive that is there, built anew only where a crate is newer: so `sudo make install` has nothing to prove.
 install:

@@ -100,3 +100,64 @@ void close_bank(struct bank_file *bank)
     keep_bank_readings(bank);
     close(bank->file);
 }
+
+/* A file as it was read. It has room for one byte more than any bank's file, so that a longer one shows. */
+struct image {
+    uint8_t bytes[2 * (CEDARSKEIN_LONGEST_BANK + CHECK_SIZE) + 1];
+    size_t n;
+};
+
+static int load_image(void *memory, size_t at, uint8_t *bytes, size_t n)
+{
+    memcpy(bytes, ((const struct image *)memory)->bytes + at, n);
+    return 0;
+}
+
+/* A spoiled copy is the meter's to write anew. */
+static int leave_image(void *memory, size_t at, const uint8_t *bytes, size_t n)
+{
+    (void)memory, (void)at, (void)bytes, (void)n;
+    return -1;
+}
+
+static int no_bank(const char *path, const char *why)
+{
+    fprintf(stderr, "the bank %s: %s\n", path, why);
+    return -1;
+}
+
+static int read_image(struct image *image, const char *path)
+{
+    FILE *file = fopen(path, "rb");
+    if (!file)
+        return no_bank(path, strerror(errno));
+    image->n = fread(image->bytes, 1, sizeof image->bytes, file);
+    int why = ferror(file) ? errno : 0;
+    fclose(file);
+    if (why != 0)
+        return no_bank(path, strerror(why));
+    return image->n < sizeof image->bytes ? 0 : no_bank(path, "it is longer than any bank");
+}
+
+static int take_image(struct meter *meter, struct image *image, const char *path)
+{
+    struct kept_bank kept = { meter->sheet, meter->sheet_n, meter->bank, meter->bank_n, { load_image, leave_image, image } };
+    if (image->n == kept_size(meter->bank_n))
+        return restore_bank(&kept) != NO_GOOD_COPY ? 0 : no_bank(path, "neither copy in it is a good bank of this sheet");
+    if (cedarskein_bank_check(meter->sheet, meter->sheet_n, image->bytes, image->n) != CEDARSKEIN_DONE)
+        return no_bank(path, "it is not sound: an item is out of its range, or the mark is neither 0 nor 1");
+    memcpy(meter->bank, image->bytes, meter->bank_n);
+    return 0;
+}
+
+int read_bank(struct meter *meter, const char *path)
+{
+    struct image image;
+    if (read_image(&image, path) != 0)
+        return -1;
+    if (image.n == meter->bank_n || image.n == kept_size(meter->bank_n))
+        return take_image(meter, &image, path);
+    fprintf(stderr, "the bank %s: it has %zu bytes; a bank of this sheet has %zu, and a file that make meter keeps has %zu\n", path, image.n,
+            meter->bank_n, kept_size(meter->bank_n));
+    return -1;
+}

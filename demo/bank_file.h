@@ -23,4 +23,8 @@ int keep_bank_readings(const struct bank_file *bank);
 /* Keeps the readings too, and closes the file. */
 void close_bank(struct bank_file *bank);
 
+/* Puts the bank of a file into the meter: a bank's own bytes, or a file that a meter keeps, also one at work. The file is only read. Hands back -1
+   where it has no good bank of the meter's sheet, and says why. */
+int read_bank(struct meter *meter, const char *path);
+
 #endif

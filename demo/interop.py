@@ -20,6 +20,7 @@ import time
 from masters import Mbpoll, Pymodbus, damaged, send_raw, with_check
 
 README = os.path.join(os.path.dirname(os.path.abspath(__file__)), "..", "README.md")
+FRAME_COLUMNS = 38
 
 
 class Meter:
@@ -62,6 +63,11 @@ class Meter:
     def last_line(self):
         return " ".join(self.lines()[-1].split())
 
+    def told(self):
+        """What the screen says became of the last frame, behind what it says the frame was."""
+        frames = [line for line in self.lines() if line.startswith("station ")] or [""]
+        return frames[-1][FRAME_COLUMNS:].strip()
+
     def switch_off(self):
         """Ctrl-C: how the meter ended, and whether its link is gone."""
         self.process.send_signal(signal.SIGINT)
@@ -97,19 +103,30 @@ def at_rate(master, rate, deed):
     return deed()
 
 
+def refused(meter, text, deed, expected, told):
+    """A frame that gets an error or silence, and why, as the meter's screen has it."""
+    return [(text, deed, expected), (".. the meter's screen tells why", meter.told, told)]
+
+
 FRESH = "FFF6 0000 0000 0000 0000 0000 0000 0000 0000 0001 0000 0000 0000 0001 0001" + 8 * " 0000"
+UNCHANGED = "; nothing changed"
+LIMIT = "it takes 0 to 99999 (0.0 to 9999.9 m3/h)"
 
 
-def steps_of_reading(master):
+def steps_of_reading(master, meter):
     return [
         ("the 23 registers of a fresh bank", lambda: master.read(0x0100, 23), FRESH),
-        ("24 registers, one more than there are", lambda: master.read(0x0100, 24), "error 2"),
+        *refused(meter, "24 registers, one more than there are", lambda: master.read(0x0100, 24), "error 2",
+                 "error 02 at 9600: this meter has no register at 0117; the frame is for 24 registers from 0100 on" + UNCHANGED),
+        *refused(meter, "48 registers, one more than a reply can have", lambda: master.read(0x0100, 48), "error 2",
+                 "error 02 at 9600: the frame reads 48 registers; a read is of 1 to 47" + UNCHANGED),
         ("the read-only run, 0200 to 020A", lambda: judge_readings(master.read(0x0200, 11)), "readings"),
-        ("function 04, which is not allowed", lambda: master.read_input(0x0100, 1), "error 1"),
+        *refused(meter, "function 04, which is not allowed", lambda: master.read_input(0x0100, 1), "error 1",
+                 "error 01 at 9600: the frame has function 04; this meter takes 03, 05, 06, 10" + UNCHANGED),
     ]
 
 
-def steps_of_writing(master):
+def steps_of_writing(master, meter):
     return [
         ("0101 = 0004", lambda: master.write(0x0101, 0x0004), "done"),
         (".. is read", lambda: master.read(0x0101, 1), "0004"),
@@ -117,36 +134,47 @@ def steps_of_writing(master):
         (".. are read", lambda: master.read(0x010F, 2), "0001 1388"),
         ("0100 = FFFB, minus five degrees", lambda: master.write(0x0100, 0xFFFB), "done"),
         (".. is read", lambda: master.read(0x0100, 1), "FFFB"),
-        ("0100 = FFF5, minus eleven, too low", lambda: master.write(0x0100, 0xFFF5), "error 3"),
+        *refused(meter, "0100 = FFF5, minus eleven, too low", lambda: master.write(0x0100, 0xFFF5), "error 3",
+                 "error 03 at 9600: the item at 0100, Reference temperature, would be -11 degC; it takes -10 to 60 degC" + UNCHANGED),
         ("0100 = 003D, 61, too high", lambda: master.write(0x0100, 0x003D), "error 3"),
         (".. FFFB is read still", lambda: master.read(0x0100, 1), "FFFB"),
-        ("0101 = 0005, too high", lambda: master.write(0x0101, 0x0005), "error 3"),
+        *refused(meter, "0101 = 0005, too high", lambda: master.write(0x0101, 0x0005), "error 3",
+                 "error 03 at 9600: the item at 0101, Pulse constant, would be 5; it takes 0 to 4 (1, 10, 100, 1000, 10000 L/pulse)" + UNCHANGED),
+        (".. and which value it has still", meter.last_line, "0101 Pulse constant: 5 was not stored, it is still 10000 L/pulse"),
         (".. 0004 is read still", lambda: master.read(0x0101, 1), "0004"),
-        ("0200, which is read only", lambda: master.write(0x0200, 0x0001), "error 2"),
-        ("0116 and 0117, which is in no area", lambda: master.write(0x0116, 0x0001, 0x0001), "error 2"),
+        *refused(meter, "0200, which is read only", lambda: master.write(0x0200, 0x0001), "error 2",
+                 "error 02 at 9600: 0200, Flow, can only be read" + UNCHANGED),
+        *refused(meter, "0116 and 0117, which is in no area", lambda: master.write(0x0116, 0x0001, 0x0001), "error 2",
+                 "error 02 at 9600: this meter has no register at 0117; the frame is for 2 registers from 0116 on" + UNCHANGED),
     ]
 
 
-def steps_of_pairs(master):
+def steps_of_pairs(master, meter):
     return [
         ("0103 = 0000 9876, a pair", lambda: master.write(0x0103, 0x0000, 0x9876), "done"),
-        ("0103 = 0001, its upper half: 00019876 is too high", lambda: master.write(0x0103, 0x0001), "error 3"),
+        *refused(meter, "0103 = 0001, its upper half: 00019876 is too high", lambda: master.write(0x0103, 0x0001), "error 3",
+                 "error 03 at 9600: the item at 0103, Alarm upper limit, would be 104566 (10456.6 m3/h), with 9876 still at 0104; "
+                 + LIMIT + UNCHANGED),
         (".. 0000 9876 is read still", lambda: master.read(0x0103, 2), "0000 9876"),
         ("0104 = 1388, its lower half", lambda: master.write(0x0104, 0x1388), "done"),
         ("0103 = 0001, its upper half: 00011388 is good", lambda: master.write(0x0103, 0x0001), "done"),
         (".. 0001 1388 is read", lambda: master.read(0x0103, 2), "0001 1388"),
-        ("0103 = 0001 86A0, too high", lambda: master.write(0x0103, 0x0001, 0x86A0), "error 3"),
+        *refused(meter, "0103 = 0001 86A0, too high", lambda: master.write(0x0103, 0x0001, 0x86A0), "error 3",
+                 f"error 03 at 9600: the item at 0103, Alarm upper limit, would be 100000 (10000.0 m3/h); {LIMIT}{UNCHANGED}"),
         (".. 0001 1388 is read still", lambda: master.read(0x0103, 2), "0001 1388"),
         ("0103 = 0001 869F, the highest", lambda: master.write(0x0103, 0x0001, 0x869F), "done"),
-        ("0101 = 0003 0002 0000, the second is bad", lambda: master.write(0x0101, 0x0003, 0x0002, 0x0000), "error 3"),
+        *refused(meter, "0101 = 0003 0002 0000, the second is bad", lambda: master.write(0x0101, 0x0003, 0x0002, 0x0000), "error 3",
+                 "error 03 at 9600: the item at 0102, Alarm contact, would be 2; it takes 0 to 1 (normally open, normally closed)"),
         (".. the first is stored, no more", lambda: master.read(0x0101, 4), "0003 0000 0001 869F"),
     ]
 
 
 def steps_of_clearing(master, meter):
     return [
-        ("the alarm clear with value FF00", lambda: master.clear(0x0300, 1), "error 3"),
-        ("the alarm clear at 0301", lambda: master.clear(0x0301, 0), "error 2"),
+        *refused(meter, "the alarm clear with value FF00", lambda: master.clear(0x0300, 1), "error 3",
+                 "error 03 at 9600: the clear has the value FF00; it takes 0000 alone" + UNCHANGED),
+        *refused(meter, "the alarm clear at 0301", lambda: master.clear(0x0301, 0), "error 2",
+                 "error 02 at 9600: a clear goes to 0300, Volume alarm clear; this one is for 0301" + UNCHANGED),
         ("the alarm clear", lambda: master.clear(0x0300, 0), "done"),
         (".. the meter's screen tells of it", meter.last_line,
          "station 1 05 clear 0300 value 0000 reply of 8 bytes at 9600; the alarm mark was 1, is 0"),
@@ -158,26 +186,34 @@ def steps_of_raw_frames(master, meter):
         return master.read(0x0101, 2)
 
     return [
-        ("raw: function 83", lambda: send_raw(meter.link, with_check("01 83 01 01 00 02")), with_check("01 83 01").hex(" ").upper()),
+        *refused(meter, "raw: function 83", lambda: send_raw(meter.link, with_check("01 83 01 01 00 02")), with_check("01 83 01").hex(" ").upper(),
+                 "error 01 at 9600: the frame has function 83; this meter takes 03, 05, 06, 10" + UNCHANGED),
         (".. the next read is as ever", read, "0003 0000"),
-        ("raw: 06 with a byte too many", lambda: send_raw(meter.link, with_check("01 06 01 01 00 01 00")), "silence"),
+        *refused(meter, "raw: 06 with a byte too many", lambda: send_raw(meter.link, with_check("01 06 01 01 00 01 00")), "silence",
+                 "silence: the frame has 9 bytes; with function 06 it has 8"),
         (".. the next read is as ever", read, "0003 0000"),
-        ("raw: 06 with one bit turned", lambda: send_raw(meter.link, damaged("01 06 01 01 00 01")), "silence"),
-        ("raw: 06 for station 2", lambda: send_raw(meter.link, with_check("02 06 01 01 00 01")), "silence"),
-        ("raw: 101 bytes", lambda: send_raw(meter.link, with_check("01 10" + 97 * " 00")), "silence"),
+        *refused(meter, "raw: 06 with one bit turned", lambda: send_raw(meter.link, damaged("01 06 01 01 00 01")), "silence",
+                 "silence: the check does not agree: the frame ends in 18 36, its other bytes give 15 F6"),
+        *refused(meter, "raw: 06 for station 2", lambda: send_raw(meter.link, with_check("02 06 01 01 00 01")), "silence",
+                 "silence: the frame is for station 2; this meter is station 1"),
+        *refused(meter, "raw: 3 bytes", lambda: send_raw(meter.link, b"\1\3\1"), "silence", "silence: the frame has 3 bytes; the shortest has 4"),
+        *refused(meter, "raw: 101 bytes", lambda: send_raw(meter.link, with_check("01 10" + 97 * " 00")), "silence",
+                 "silence: the frame has over 100 bytes; the longest has 100"),
         (".. the next read is as ever", read, "0003 0000"),
     ]
 
 
-def steps_of_station_and_rate(master):
+def steps_of_station_and_rate(master, meter):
     def read():
         return master.read(0x010D, 2)
 
     return [
         ("010E = 0002, the station", lambda: master.write(0x010E, 0x0002), "done"),
-        (".. it no longer answers at 1", read, "silence"),
+        *refused(meter, ".. it no longer answers at 1", read, "silence", "silence: the frame is for station 1; this meter is station 2"),
         (".. it answers at 2", lambda: at_station(master, 2, read), "0001 0002"),
-        ("010E = 0003 0002, the second is bad: error from station 2", lambda: master.write(0x010E, 0x0003, 0x0002), "error 3"),
+        *refused(meter, "010E = 0003 0002, the second is bad: error from station 2", lambda: master.write(0x010E, 0x0003, 0x0002), "error 3",
+                 "error 03 at 9600: the item at 010F, Flow conversion, would be 2; it takes 0 to 1 (none, normal or standard); "
+                 "from now on station 3"),
         (".. it answers at 3", lambda: at_station(master, 3, read), "0001 0003"),
         ("010D = 0000, the rate: reply at 9600", lambda: master.write(0x010D, 0x0000), "done"),
         (".. it no longer hears 9600", read, "silence"),
@@ -253,8 +289,8 @@ def play(name, steps):
 
 def steps_of_master(master, meter):
     return [
-        *steps_of_reading(master), *steps_of_writing(master), *steps_of_pairs(master), *steps_of_clearing(master, meter),
-        *steps_of_raw_frames(master, meter), *steps_of_station_and_rate(master),
+        *steps_of_reading(master, meter), *steps_of_writing(master, meter), *steps_of_pairs(master, meter), *steps_of_clearing(master, meter),
+        *steps_of_raw_frames(master, meter), *steps_of_station_and_rate(master, meter),
     ]
 
 

@@ -3,11 +3,13 @@
 
 #include <errno.h>
 #include <stdio.h>
-#include <stdlib.h>
 #include <string.h>
 
-/* Words of the sheet's header, and the words of the header and of an area row, by document 01. */
-enum { AREAS = 1, BANK_WORDS = 5, PLACE_OF_STATION = 8, PLACE_OF_RATE = 9, HEADER = 12, AREA_ROW = 4 };
+#include "frame.h"
+
+/* Words of the sheet's header, and the words of the header, of an area row and of an item row, by document 01. */
+enum { AREAS = 1, ITEMS = 3, ITEM_ROWS = 4, BANK_WORDS = 5, FUNCTIONS = 6, PLACE_OF_STATION = 8, PLACE_OF_RATE = 9, CLEAR_ADDRESS = 10 };
+enum { HEADER = 12, AREA_ROW = 4, ITEM_ROW = 6 };
 
 unsigned word_at(const uint8_t *bytes, size_t number)
 {
@@ -20,35 +22,38 @@ void store_word(uint8_t *bytes, size_t number, unsigned word)
     bytes[2 * number + 1] = (uint8_t)word;
 }
 
-static void give_up(const char *path, const char *why)
+static int refuse(const char *path, const char *why)
 {
     fprintf(stderr, "%s: %s\n", path, why);
-    exit(1);
+    return -1;
 }
 
-static void read_sheet(struct meter *meter, const char *path)
+static int read_sheet(struct meter *meter, const char *path)
 {
     FILE *file = fopen(path, "rb");
     if (!file)
-        give_up(path, strerror(errno));
+        return refuse(path, strerror(errno));
     /* One byte more than a sheet can have is asked for, so that a longer file shows. */
     meter->sheet_n = fread(meter->sheet, 1, sizeof meter->sheet, file);
     int why = ferror(file) ? errno : 0;
     fclose(file);
     if (why != 0)
-        give_up(path, strerror(why));
+        return refuse(path, strerror(why));
     if (meter->sheet_n > CEDARSKEIN_LONGEST_SHEET)
-        give_up(path, "no sheet: it is longer than any");
+        return refuse(path, "no sheet: it is longer than any");
+    return 0;
 }
 
-void load_meter(struct meter *meter, const char *path)
+int load_meter(struct meter *meter, const char *path)
 {
-    read_sheet(meter, path);
+    if (read_sheet(meter, path) != 0)
+        return -1;
     if (cedarskein_sheet_check(meter->sheet, meter->sheet_n) != CEDARSKEIN_DONE)
-        give_up(path, "no sheet: it breaks a rule of document 01");
+        return refuse(path, "no sheet: it breaks a rule of document 01");
     meter->bank_n = 2 * bank_word_count(meter) + 2;
     if (cedarskein_bank_fresh(meter->sheet, meter->sheet_n, meter->bank, meter->bank_n) != CEDARSKEIN_DONE)
-        give_up(path, "the bank has not 2B + 2 bytes");
+        return refuse(path, "the bank has not 2B + 2 bytes");
+    return 0;
 }
 
 unsigned area_count(const struct meter *meter)
@@ -63,12 +68,47 @@ struct area area_at(const struct meter *meter, unsigned number)
     return area;
 }
 
+int lies_in_area(const struct meter *meter, unsigned address)
+{
+    for (unsigned number = 0; number < area_count(meter); number++)
+        if (area_at(meter, number).first <= address && address <= area_at(meter, number).last)
+            return 1;
+    return 0;
+}
+
 unsigned place_of(const struct meter *meter, unsigned address)
 {
     unsigned number = 0;
     while (number + 1 < area_count(meter) && area_at(meter, number + 1).first <= address)
         number++;
     return area_at(meter, number).place + address - area_at(meter, number).first;
+}
+
+struct item item_from(const struct meter *meter, unsigned place)
+{
+    const uint8_t *row = meter->sheet + 2 * word_at(meter->sheet, ITEM_ROWS);
+    const uint8_t *last = row + 2 * ITEM_ROW * (word_at(meter->sheet, ITEMS) - 1);
+    while (row < last && word_at(row, 1) < place)
+        row += 2 * ITEM_ROW;
+    struct item item = { word_at(row, 0), word_at(row, 1), word_at(row, 2) << 16 | word_at(row, 3), word_at(row, 4) << 16 | word_at(row, 5) };
+    return item;
+}
+
+uint32_t item_value(const struct meter *meter, const struct item *item)
+{
+    uint32_t first = word_at(meter->bank, item->place);
+    return item->kind == PAIR_ITEM ? first << 16 | word_at(meter->bank, item->place + 1) : first;
+}
+
+int allows_function(const struct meter *meter, uint8_t function)
+{
+    static const uint8_t bits[] = { [READ] = 1, [CLEAR] = 2, [WRITE] = 4, [WRITE_SEVERAL] = 8 };
+    return function < sizeof bits && (word_at(meter->sheet, FUNCTIONS) & bits[function]) != 0;
+}
+
+unsigned clear_address(const struct meter *meter)
+{
+    return word_at(meter->sheet, CLEAR_ADDRESS);
 }
 
 unsigned bank_word_count(const struct meter *meter)

@@ -21,8 +21,17 @@ struct area {
 /* The accesses of document 01. */
 enum { READ_ONLY_AREA = 1, READ_AND_WRITE_AREA = 3 };
 
-/* A meter with the sheet of a file and a fresh bank. Says what is wrong with the file, and ends the program, if there is none to be had. */
-void load_meter(struct meter *meter, const char *path);
+/* An item row of the sheet. The bounds are as the words hold them, a signed one too. */
+struct item {
+    unsigned kind, place;
+    uint32_t low, high;
+};
+
+/* The kinds of document 01. */
+enum { WORD_ITEM = 0, SIGNED_ITEM = 1, PAIR_ITEM = 2 };
+
+/* Makes a meter with the sheet of a file and a fresh bank. Hands back -1 where there is none to be had, and says what is wrong with the file. */
+int load_meter(struct meter *meter, const char *path);
 
 /* The word with a given number, upper byte first. */
 unsigned word_at(const uint8_t *bytes, size_t number);
@@ -31,8 +40,17 @@ void store_word(uint8_t *bytes, size_t number, unsigned word);
 unsigned area_count(const struct meter *meter);
 struct area area_at(const struct meter *meter, unsigned number);
 
-/* The place of an address that lies in an area. */
+/* Whether an address lies in an area, and its place if it does. */
+int lies_in_area(const struct meter *meter, unsigned address);
 unsigned place_of(const struct meter *meter, unsigned address);
+
+/* The item that begins at a place, and its value in the bank, as its words hold it. */
+struct item item_from(const struct meter *meter, unsigned place);
+uint32_t item_value(const struct meter *meter, const struct item *item);
+
+/* Whether the sheet allows a function, and the address of a clear where it allows 05. */
+int allows_function(const struct meter *meter, uint8_t function);
+unsigned clear_address(const struct meter *meter);
 
 /* The bank's words; behind the last of them is the mark. */
 unsigned bank_word_count(const struct meter *meter);

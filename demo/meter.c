@@ -76,7 +76,7 @@ static void answer_frame(struct simulation *simulation, const uint8_t *frame, si
         struct exchange exchange = { frame, n, reply, length, rate };
         reply_to_frame(simulation, &before, &exchange);
     } else if (number == CEDARSKEIN_SILENCE) {
-        tell_silence(frame, n, station_of(meter));
+        tell_silence(&before, frame, n);
     } else {
         printf("number %u: the meter is out of order\n", (unsigned)number);
     }
@@ -148,7 +148,8 @@ static void take_line_down(struct simulation *simulation, const struct names *na
 static int switch_on(struct simulation *simulation, const struct names *names)
 {
     struct meter *meter = &simulation->meter;
-    load_meter(meter, names->sheet);
+    if (load_meter(meter, names->sheet) != 0)
+        return -1;
     cedarskein_set_mark(meter->sheet, meter->sheet_n, meter->bank, meter->bank_n, 1);
     open_line(&simulation->line);
     if ((!names->link || make_link(simulation->line.name, names->link) == 0)

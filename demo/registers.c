@@ -98,10 +98,13 @@ static void print_unit(const struct register_row *row)
         printf(" %s", row->unit);
 }
 
+/* Where values are words, a number that no word stands for is in no unit either. */
 void print_value(const struct register_row *row, uint64_t raw)
 {
+    const char *word;
     print_bare(row, raw);
-    print_unit(row);
+    if (!row->values || find_word(row, raw, &word) > 0)
+        print_unit(row);
 }
 
 /* A number as the words hold it, a negative one too. */

@@ -4,6 +4,8 @@
 #include <string.h>
 
 #include "cedarskein_registers.h"
+#include "hex.h"
+#include "reasons.h"
 #include "registers.h"
 
 static struct meter meter;
@@ -44,16 +46,10 @@ static void tell_bytes(const char *arrow, const uint8_t *bytes, size_t n)
     printf("\n");
 }
 
-/* A frame as the bytes of a line of hex. */
 static size_t from_hex(uint8_t *frame, const char *hex)
 {
-    size_t n = 0;
-    char *rest;
-    for (unsigned long byte = strtoul(hex, &rest, 16); rest != hex; byte = strtoul(hex, &rest, 16)) {
-        frame[n++] = (uint8_t)byte;
-        hex = rest;
-    }
-    return n;
+    struct hex_fault fault;
+    return (size_t)bytes_of_hex(hex, strlen(hex), frame, &fault);
 }
 
 static size_t add_check(uint8_t *frame, size_t n)
@@ -64,10 +60,23 @@ static size_t add_check(uint8_t *frame, size_t n)
     return n + 2;
 }
 
+/* Why a frame got silence or an error; a reply needs no reason. */
+static void tell_why(const struct reason *reason)
+{
+    if (reason->number == CEDARSKEIN_NO_REASON)
+        return;
+    printf("  ? ");
+    print_sentence(reason);
+}
+
+/* The reason is asked ahead of the answer, with the bank as it is before the frame. */
 static void send_frame(const uint8_t *frame, size_t n)
 {
+    struct reason reason;
     uint32_t length, rate;
     tell_bytes(">", frame, n);
+    struct meter before = meter;
+    ask_reason(&reason, &before, frame, n);
     uint32_t number = cedarskein_answer(meter.sheet, meter.sheet_n, meter.bank, meter.bank_n, frame, n, reply, sizeof reply,
                                         &length, &rate);
     if (number == CEDARSKEIN_DONE)
@@ -76,6 +85,7 @@ static void send_frame(const uint8_t *frame, size_t n)
         printf("  < silence\n");
     else
         printf("  < number %u\n", (unsigned)number);
+    tell_why(&reason);
 }
 
 static void ask(const char *hex)
@@ -116,7 +126,8 @@ static void tell_meter(void)
     tell_listing();
     printf("\nu is a word, s a signed word, p a pair: two registers that hold one number. Then come the lowest\n"
            "and the highest value. The three limits count tenths: 99999 is 9999.9 m3/h.\n"
-           "Below, > goes to the meter and < comes back. The last two bytes are the check.\n");
+           "Below, > goes to the meter and < comes back; the last two bytes are the check. ? tells why there is\n"
+           "silence or an error, as make why does.\n");
 }
 
 static void tell_limit_before(void)
@@ -132,7 +143,7 @@ static void tell_refused_limit(void)
 {
     printf("\n2. Your new limit is 10000.0 m3/h\n");
     ask("01 10 01 03 00 02 04 00 01 86 A0");
-    printf("  Error 03: 0001 86A0 is 10000.0 m3/h, and the meter takes no more than 0001 869F, 9999.9.\n");
+    printf("  Sent was 0001 86A0, which is 100000: one more than the meter takes.\n");
     ask("01 03 01 03 00 02");
     tell_limit("In the meter is still", pair_read(0), ". A pair is one number: not even its 0001 was stored.");
 }
@@ -141,7 +152,7 @@ static void tell_half_limit(void)
 {
     printf("\n3. Half of a limit, sent alone\n");
     ask("01 06 01 03 00 01");
-    printf("  Error 03: half a pair is judged with the half in the meter, and 0001 9876 is 10456.6 m3/h.\n");
+    printf("  Half a pair is judged with the half in the meter: 0001 9876 is 104566.\n");
     ask("01 06 01 04 13 88");
     printf("  Stored: with the 0000 in the meter it makes 0000 1388, which is 500.0 m3/h.\n");
     ask("01 03 01 03 00 02");
@@ -152,7 +163,7 @@ static void tell_half_way(void)
 {
     printf("\n4. Three limits in one write, the second is bad\n");
     ask("01 10 01 03 00 06 0C 00 00 03 E8 00 01 86 A0 00 00 00 32");
-    printf("  Error 03 for 100.0, 10000.0 and 5.0 m3/h. Those ahead of the first bad one are stored, no others.\n");
+    printf("  Sent were 100.0, 10000.0 and 5.0 m3/h. Those ahead of the first bad one are stored, no others.\n");
     ask("01 03 01 03 00 06");
     tell_named_limit(CEDARSKEIN_UX_ALARM_UPPER_LIMIT, pair_read(0), ": stored, though the reply was an error.");
     tell_named_limit(CEDARSKEIN_UX_ALARM_LOWER_LIMIT, pair_read(2), ": the bad one, as it was.");
@@ -168,9 +179,9 @@ static void tell_silence(void)
     size_t n = add_check(damaged, from_hex(damaged, "01 06 01 04 13 88"));
     damaged[5] ^= 0x80;
     send_frame(damaged, n);
-    printf("  The half limit of 3, damaged on the way: one bit, 88 came in as 08. The check does not agree.\n");
+    printf("  This is the half limit of 3, damaged on the way: one bit, 88 came in as 08.\n");
     ask("02 06 01 04 13 88");
-    printf("  The same for station 2. The check agrees, but this is station 1.\n");
+    printf("  This is the same for station 2, and its check agrees.\n");
     printf("  The bank, the meter's memory, is %s it was before these two.\n",
            memcmp(before, meter.bank, meter.bank_n) == 0 ? "byte for byte what" : "NOT what");
 }
@@ -179,6 +190,7 @@ static void tell_where_next(void)
 {
     printf("\nAfter an error 03, read back: the reply does not say how much was stored.\n\n"
            "Next: make meter    a meter like this one, on a line of its own, for your own program\n"
+           "      make why      why a meter is silent or answers with an error, for a frame of yours or a capture\n"
            "      make test     the proofs that it is so for every frame and every sheet\n"
            "      docs/REGISTERS.md    each register's name, range and unit\n"
            "      docs/CLAIMS.md       what is claimed, sentence by sentence\n");

@@ -19,11 +19,11 @@ const char *bit_rate(unsigned rate);
 /* What a frame was: function, address, count or value. */
 void tell_frame(const uint8_t *frame, size_t n);
 
-/* Why a frame that document 01 meets with silence got it, by its steps 1, 2 and 4. */
-void tell_silence(const uint8_t *frame, size_t n, unsigned station);
+/* A silence, and why. */
+void tell_silence(const struct meter *before, const uint8_t *frame, size_t n);
 
-/* A reply, and the alarm mark, the station and the rate that are not as they were before the frame; then each register of the frame, with its
-   value in its unit. */
+/* A reply, with an error why, and the alarm mark, the station and the rate that are not as they were before the frame; then each register of the
+   frame, with its value in its unit. */
 void tell_answer(const struct meter *before, const struct meter *now, const struct exchange *exchange);
 
 #endif

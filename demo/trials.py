@@ -1,7 +1,8 @@
 #!/usr/bin/env python3
-"""The simulated meter's names and its end: links that are in the way, files that keep a bank, signals, and what `make meter` is told.
+"""The simulated meter's names and its end: links that are in the way, files that keep a bank, signals, and what `make meter` is told. And what
+`make why` says, which why_trials.py has.
 
-  trials.py [--run RUN] SHEET METER
+  trials.py [--run RUN] SHEET METER WHY
 
 Each trial has its expected result. One that comes out otherwise is shown with both, and the exit status is 1."""
 import argparse
@@ -13,14 +14,17 @@ import sys
 import tempfile
 import time
 
+import why_trials
+
 ROOT = os.path.dirname(os.path.dirname(os.path.abspath(__file__)))
 
 
 class Bench:
-    """A folder to try in, and how the meter is started."""
+    """A folder to try in, and how the meter and the program `why` are started."""
 
-    def __init__(self, command, sheet, folder):
-        self.command, self.sheet, self.folder = command, sheet, folder
+    def __init__(self, run, given, folder):
+        self.command, self.sheet, self.folder = [*run, os.path.abspath(given.meter)], given.sheet, folder
+        self.why = why_trials.Why([*run, os.path.abspath(given.why)], folder)
 
     def path(self, name):
         return os.path.join(self.folder, name)
@@ -147,6 +151,20 @@ def bank_in_use(bench):
         return refused_bank(bench)
 
 
+def refused_sheet(bench):
+    bench.write("sheet", b"a letter")
+    bench.sheet = bench.path("sheet")
+    return f"{bench.refused('-l', 'line')}; link left {os.path.lexists(bench.path('line'))}"
+
+
+def bank_in_use_asked(bench):
+    """Asked for the reason, the program only reads the file, and no meter is in its way."""
+    with bench.running("-b", "bank"):
+        before = bench.read("bank")
+        said = bench.why.run("ux15_25", "-b", bench.path("bank"), "-f", why_trials.sealed("02 03 01 01 00 01"))
+        return f"{said}; unchanged {bench.read('bank') == before}"
+
+
 def told_by_make(*words):
     done = subprocess.run(["make", "-s", "meter", *words], cwd=ROOT, capture_output=True, text=True, timeout=60, check=False)
     return f"status {done.returncode}: {done.stderr.strip().splitlines()[0].partition('*** ')[2] or done.stderr.splitlines()[0].strip()}"
@@ -179,8 +197,13 @@ TRIALS = [
      f"{LEFT}; unchanged True, link left False"),
     ("a bank that is in use", bank_in_use,
      f"status 1: the bank's file bank: another meter has it in use. {LEFT}; unchanged True, link left False"),
+    ("a bank that is in use, asked why", bank_in_use_asked,
+     "Silence: the frame is for station 2; this meter is station 1; unchanged True"),
+    ("a sheet that is not sound", refused_sheet, "status 1: sheet: no sheet: it breaks a rule of document 01; link left False"),
     ("a sheet that is not there", lambda _: told_by_make("SHEET=aswe 45"),
      f"status 2: there is no sheet aswe 45. SHEET= takes the name of a file, or one of: {SHORT_NAMES}"),
+    ("a sheet of three", lambda _: told_by_make("SHEET=aswe"),
+     "status 2: more than one sheet begins with aswe. SHEET= takes one of: aswe_40 aswe_50 aswe_80"),
     ("a name that is empty", lambda _: told_by_make("LINK="), "status 2: empty: LINK. Give each a name, or leave it out.  Stop."),
     ("a name that is misspelt", lambda _: told_by_make("LNK=x"), "status 2: make meter takes no LNK. It takes: SHEET LINK BANK.  Stop."),
 ]
@@ -195,24 +218,35 @@ def has_pseudo_terminals():
     return True
 
 
+def differing(trials, run, given):
+    """How many trials come out otherwise than expected; each of them is shown."""
+    count = 0
+    for text, trial, expected in trials:
+        with tempfile.TemporaryDirectory() as folder:
+            bench = Bench(run, given, folder)
+            result = trial(bench.why if trials is why_trials.TRIALS else bench)
+        if result != expected:
+            count += 1
+            print(f"DIFFERS   {text}: {result}\n          expected: {expected}", flush=True)
+    return count
+
+
 def main():
     words_given = argparse.ArgumentParser(description=__doc__, formatter_class=argparse.RawDescriptionHelpFormatter)
     words_given.add_argument("--run", default="")
     words_given.add_argument("sheet")
     words_given.add_argument("meter")
+    words_given.add_argument("why")
     given = words_given.parse_args()
+    run = given.run.split()
+    of_why = differing(why_trials.TRIALS, run, given)
+    print(f"{len(why_trials.TRIALS)} trials of make why, {of_why} came out otherwise than expected")
     if not has_pseudo_terminals():
         print("the trials of the meter are LEFT OUT: the system has no pseudo-terminal to give")
-        return 0
-    differing = 0
-    for text, trial, expected in TRIALS:
-        with tempfile.TemporaryDirectory() as folder:
-            result = trial(Bench([*given.run.split(), os.path.abspath(given.meter)], given.sheet, folder))
-        if result != expected:
-            differing += 1
-            print(f"DIFFERS   {text}: {result}\n          expected: {expected}", flush=True)
-    print(f"{len(TRIALS)} trials of the meter's names and its end, {differing} came out otherwise than expected")
-    return 1 if differing else 0
+        return 1 if of_why else 0
+    of_meter = differing(TRIALS, run, given)
+    print(f"{len(TRIALS)} trials of the meter's names and its end, {of_meter} came out otherwise than expected")
+    return 1 if of_why or of_meter else 0
 
 
 if __name__ == "__main__":

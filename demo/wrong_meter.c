@@ -25,6 +25,9 @@ int __wrap_master_sends_at(const struct line *line, unsigned rate)
     return 1;
 }
 
+/* A station and a check are the least that can be sent back. */
+enum { LEAST_SIGNED = 3 };
+
 static void sign(uint8_t *frame, size_t n, uint8_t station)
 {
     frame[0] = station;
@@ -41,7 +44,7 @@ uint32_t __wrap_cedarskein_answer(const uint8_t *sheet, size_t sheet_n, uint8_t 
     size_t station = 2 * ((size_t)sheet[16] << 8 | sheet[17]) + 1; /* the lower byte at the place that word 8 of the sheet names */
     memcpy(heard, frame, n);
     *length = *rate = 0;
-    if (ALWAYS_SILENT || n < 4)
+    if (ALWAYS_SILENT || n < LEAST_SIGNED)
         return CEDARSKEIN_SILENCE;
     sign(heard, n, bank[station]);
     if (__real_cedarskein_answer(sheet, sheet_n, bank, bank_n, heard, n, out, out_n, length, rate) != CEDARSKEIN_DONE) {

@@ -10,10 +10,12 @@ import sys
 HEADER = os.path.join(os.path.dirname(os.path.dirname(os.path.abspath(__file__))), "include", "cedarskein.h")
 COMMENT = r"/\*((?:[^*]|\*(?!/))*)\*/"
 FUNCTION = re.compile(COMMENT + r"\n(uint\d+_t (cedarskein_\w+)\([^;]*\);)")
+# the numbers of a call have their comment above them, the reasons behind them
 NUMBER = re.compile(COMMENT + r"\s+(CEDARSKEIN_\w+) = (\d+)")
+REASON = re.compile(r"(CEDARSKEIN_\w+) = (\d+),?\s+" + COMMENT)
 SIZE = re.compile(r"^#define (CEDARSKEIN_\w+) (\w+) +/\* (.*) \*/$", re.M)
-# a line that begins an entry of a list inside a comment: a dash, or the numbers that it is about
-ENTRY = re.compile(r"- |(?:\d+|the first of [\w, ]+): ")
+# a line that begins an entry of a list inside a comment: a dash, or the numbers or reasons that it is about
+ENTRY = re.compile(r"- |(?:\d+|the first of [\w, ]+|for (?:CEDARSKEIN_\w+|every other \w+)): ")
 
 
 def lines_of(comment):
@@ -75,11 +77,24 @@ def synopsis(functions):
     return out + [".fi"]
 
 
+def enum(text, name):
+    """The lines in front of an enum, and what stands in it."""
+    intro, inside = re.search(COMMENT + rf"\nenum {name} {{\n(.*?)^}};", text, re.M | re.S).groups()
+    return body(lines_of(intro)), inside
+
+
 def numbers(text):
-    out = [".SH RETURN VALUE"]
-    intro = re.search(COMMENT + r"\nenum cedarskein_number", text)
-    out += body(lines_of(intro.group(1)))
-    for comment, name, number in NUMBER.findall(text):
+    intro, inside = enum(text, "cedarskein_number")
+    out = [".SH RETURN VALUE", *intro]
+    for comment, name, number in NUMBER.findall(inside):
+        out += [".TP", f".BR {name} \" ({number})\"", *body(lines_of(comment))]
+    return out
+
+
+def reasons(text):
+    intro, inside = enum(text, "cedarskein_reason")
+    out = [".SH REASONS", *intro]
+    for name, number, comment in REASON.findall(inside):
         out += [".TP", f".BR {name} \" ({number})\"", *body(lines_of(comment))]
     return out
 
@@ -102,7 +117,7 @@ def page(text):
     out += synopsis(functions) + [".SH DESCRIPTION"] + body(first)
     for comment, _, name in functions:
         out += [".SS " + name, *body(lines_of(comment))]
-    out += numbers(text) + sizes(text)
+    out += numbers(text) + reasons(text) + sizes(text)
     for heading, lines in others:
         out += [".SH " + heading, *body(lines)]
     out += [".SH SEE ALSO", ".BR pkg-config (1),", "the headers", ".I cedarskein_sheets.h", "and", ".I cedarskein_registers.h"]

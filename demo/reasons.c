@@ -1,0 +1,278 @@
+/* Why a frame gets silence or an error, in words. */
+#include "reasons.h"
+
+#include <stdio.h>
+
+#include "frame.h"
+#include "registers.h"
+
+enum { LAST_ADDRESS = 0xFFFF };
+enum { BAD_FUNCTION = 1, BAD_ADDRESS = 2, BAD_VALUE = 3 };
+
+uint32_t ask_reason(struct reason *reason, const struct meter *before, const uint8_t *frame, size_t n)
+{
+    reason->meter = before;
+    reason->frame = frame;
+    reason->n = n;
+    return cedarskein_why(before->sheet, before->sheet_n, before->bank, before->bank_n, frame, n, &reason->number, &reason->address);
+}
+
+static void print_address(const struct meter *meter, unsigned address)
+{
+    struct register_row row = register_at(meter, address);
+    printf("%04X", address);
+    if (row.name)
+        printf(", %s", row.name);
+}
+
+/* The same at the front of a sentence: a name is set off on both sides. */
+static void begin_with_address(const struct meter *meter, unsigned address)
+{
+    print_address(meter, address);
+    printf(register_at(meter, address).name ? ", " : " ");
+}
+
+static void print_bytes(size_t n)
+{
+    printf("the frame has %zu byte%s", n, n == 1 ? "" : "s");
+}
+
+static void tell_too_short(const struct reason *reason)
+{
+    print_bytes(reason->n);
+    printf("; the shortest has %d", LEAST_FRAME);
+}
+
+/* How many there are is not said: a line need not keep more than it takes to see that they are too many. */
+static void tell_too_long(const struct reason *reason)
+{
+    (void)reason;
+    printf("the frame has over %d bytes; the longest has %d", CEDARSKEIN_LONGEST_FRAME, CEDARSKEIN_LONGEST_FRAME);
+}
+
+static void tell_check(const struct reason *reason)
+{
+    const uint8_t *end = reason->frame + reason->n - CHECK_BYTES;
+    uint16_t value = cedarskein_check_value(reason->frame, reason->n - CHECK_BYTES);
+    printf("the check does not agree: the frame ends in %02X %02X, its other bytes give %02X %02X", end[0], end[1], value & 0xFF, value >> 8);
+}
+
+static void tell_station(const struct reason *reason)
+{
+    printf("the frame is for station %u; this meter is station %u", reason->frame[STATION_BYTE], station_of(reason->meter));
+}
+
+static void tell_function(const struct reason *reason)
+{
+    static const uint8_t functions[] = { READ, CLEAR, WRITE, WRITE_SEVERAL };
+    const char *between = " ";
+    printf("the frame has function %02X; this meter takes", reason->frame[FUNCTION_BYTE]);
+    for (size_t k = 0; k < sizeof functions; k++)
+        if (allows_function(reason->meter, functions[k])) {
+            printf("%s%02X", between, functions[k]);
+            between = ", ";
+        }
+    if (*between == ' ')
+        printf(" none");
+}
+
+static void tell_body_length(const struct reason *reason)
+{
+    unsigned function = reason->frame[FUNCTION_BYTE];
+    print_bytes(reason->n);
+    if (function != WRITE_SEVERAL)
+        printf("; with function %02X it has %d", function, PLAIN_FRAME);
+    else if (reason->n < BARE_WRITE_SEVERAL)
+        printf("; with function %02X it has %d or more", function, BARE_WRITE_SEVERAL);
+    else
+        printf("; with function %02X and a byte count of %u it has %u", function, reason->frame[BYTE_COUNT_BYTE],
+               BARE_WRITE_SEVERAL + reason->frame[BYTE_COUNT_BYTE]);
+}
+
+static void tell_count(const struct reason *reason)
+{
+    unsigned count = word_at(reason->frame, COUNT_WORD);
+    if (reason->frame[FUNCTION_BYTE] == READ)
+        printf("the frame reads %u registers; a read is of 1 to %d", count, MOST_READ);
+    else if (count == 0)
+        printf("the frame writes 0 registers; a write is of 1 to %d", (CEDARSKEIN_LONGEST_FRAME - BARE_WRITE_SEVERAL) / 2);
+    else
+        printf("the frame has a byte count of %u; %u register%s %u bytes", reason->frame[BYTE_COUNT_BYTE], count, count == 1 ? " has" : "s have",
+               2 * count);
+}
+
+static void tell_clear_elsewhere(const struct reason *reason)
+{
+    printf("a clear goes to ");
+    print_address(reason->meter, clear_address(reason->meter));
+    printf("; this one is for %04X", (unsigned)reason->address);
+}
+
+/* The first address of a run that is not open to it. */
+static void tell_closed(const struct reason *reason)
+{
+    const struct meter *meter = reason->meter;
+    unsigned address = reason->address;
+    if (lies_in_area(meter, address)) {
+        begin_with_address(meter, address);
+        printf("can only be read");
+    } else if (allows_function(meter, CLEAR) && address == clear_address(meter)) {
+        begin_with_address(meter, address);
+        printf("takes a clear, function %02X, and nothing else", CLEAR);
+    } else if (address > LAST_ADDRESS) {
+        printf("there is no address above %04X", LAST_ADDRESS);
+    } else {
+        printf("this meter has no register at %04X", address);
+    }
+}
+
+static void tell_address(const struct reason *reason)
+{
+    struct run run = run_of(reason->frame);
+    if (reason->frame[FUNCTION_BYTE] == CLEAR) {
+        tell_clear_elsewhere(reason);
+        return;
+    }
+    tell_closed(reason);
+    if (run.count > 1)
+        printf("; the frame is for %u registers from %04X on", run.count, run.start);
+}
+
+static void tell_clear_value(const struct reason *reason)
+{
+    printf("the clear has the value %04X; it takes 0000 alone", word_at(reason->frame, VALUE_WORD));
+}
+
+/* A value as the words hold it, as people read it. */
+static long number_of(const struct item *item, uint32_t value)
+{
+    return item->kind == SIGNED_ITEM && value >= 0x8000 ? (long)value - 0x10000 : (long)value;
+}
+
+/* Whether a step of the register is not one of its unit, so that the number alone does not tell the value. */
+static int counts_otherwise(const struct register_row *row)
+{
+    return row->name && (row->decimals > 0 || row->step != 1);
+}
+
+static void print_unit_of(const struct register_row *row)
+{
+    if (*row->unit && !row->values)
+        printf(" %s", row->unit);
+}
+
+/* A bad value has no word of its own: where the values are words, the number is all that there is. */
+static void print_bad_value(const struct register_row *row, const struct item *item, uint32_t value)
+{
+    printf("%ld", number_of(item, value));
+    if (counts_otherwise(row)) {
+        printf(" (");
+        print_value(row, value);
+        printf(")");
+    } else {
+        print_unit_of(row);
+    }
+}
+
+static void print_item_range(const struct register_row *row, const struct item *item)
+{
+    long low = number_of(item, item->low), high = number_of(item, item->high);
+    printf("%ld to %ld", low, high);
+    if (counts_otherwise(row) || row->values) {
+        printf(" (");
+        print_range(row, low, high);
+        printf(")");
+    } else {
+        print_unit_of(row);
+    }
+}
+
+/* Half of a pair is judged with the half that is in the meter. */
+static void tell_other_half(const struct reason *reason, const struct item *item)
+{
+    struct run run = run_of(reason->frame);
+    unsigned first = reason->address, second = first + 1;
+    if (item->kind != PAIR_ITEM || (run.start <= first && second < run.start + run.count))
+        return;
+    unsigned other = run.start == second ? first : second;
+    printf(", with %04X still at %04X", word_at(reason->meter->bank, place_of(reason->meter, other)), other);
+}
+
+static void tell_item(const struct reason *reason)
+{
+    const struct meter *meter = reason->meter;
+    struct item item = item_from(meter, place_of(meter, reason->address));
+    struct register_row row = register_at(meter, reason->address);
+    struct meter sent = with_all_stored(meter, reason->frame);
+    printf("the item at ");
+    begin_with_address(meter, reason->address);
+    printf("would be ");
+    print_bad_value(&row, &item, item_value(&sent, &item));
+    tell_other_half(reason, &item);
+    printf("; it takes ");
+    print_item_range(&row, &item);
+}
+
+/* The registers of a run: the first, and the last where that is another one. */
+static void print_run(const struct meter *meter, struct run run)
+{
+    unsigned last = run.start + run.count - 1;
+    struct register_row row = register_at(meter, run.start);
+    if (run.count > 1 && row.name && last < row.address + row.words) {
+        printf("%04X to %04X, %s", run.start, last, row.name);
+        return;
+    }
+    if (run.count > 1) {
+        begin_with_address(meter, run.start);
+        printf("to ");
+    }
+    print_address(meter, last);
+}
+
+/* No reason: what the frame does. */
+static void tell_deed(const struct reason *reason)
+{
+    if (reason->frame[FUNCTION_BYTE] == CLEAR) {
+        printf("the frame clears the alarm mark");
+        return;
+    }
+    printf(reason->frame[FUNCTION_BYTE] == READ ? "the frame reads " : "the frame writes ");
+    print_run(reason->meter, run_of(reason->frame));
+}
+
+void print_reason(const struct reason *reason)
+{
+    static void (*const tellers[])(const struct reason *) = {
+        [CEDARSKEIN_NO_REASON] = tell_deed,          [CEDARSKEIN_TOO_SHORT] = tell_too_short, [CEDARSKEIN_TOO_LONG] = tell_too_long,
+        [CEDARSKEIN_CHECK] = tell_check,             [CEDARSKEIN_STATION] = tell_station,     [CEDARSKEIN_FUNCTION] = tell_function,
+        [CEDARSKEIN_BODY_LENGTH] = tell_body_length, [CEDARSKEIN_COUNT] = tell_count,         [CEDARSKEIN_ADDRESS] = tell_address,
+        [CEDARSKEIN_CLEAR_VALUE] = tell_clear_value, [CEDARSKEIN_ITEM] = tell_item,
+    };
+    tellers[reason->number](reason);
+}
+
+/* The code of the error that a reason goes with, by document 01; 0 where it goes with silence. */
+static unsigned error_of(const struct reason *reason)
+{
+    switch (reason->number) {
+    case CEDARSKEIN_FUNCTION: return BAD_FUNCTION;
+    case CEDARSKEIN_COUNT: return word_at(reason->frame, COUNT_WORD) > MOST_READ && reason->frame[FUNCTION_BYTE] == READ ? BAD_ADDRESS : BAD_VALUE;
+    case CEDARSKEIN_ADDRESS: return BAD_ADDRESS;
+    case CEDARSKEIN_CLEAR_VALUE:
+    case CEDARSKEIN_ITEM: return BAD_VALUE;
+    default: return 0;
+    }
+}
+
+void print_sentence(const struct reason *reason)
+{
+    unsigned error = error_of(reason);
+    if (reason->number == CEDARSKEIN_NO_REASON)
+        printf("A reply goes out: ");
+    else if (error == 0)
+        printf("Silence: ");
+    else
+        printf("Error %02X: ", error);
+    print_reason(reason);
+    printf("\n");
+}

@@ -1,0 +1,266 @@
+"""What `make why` says: a sentence for each reason, and of what it cannot take, one message and exit status 2. trials.py runs these."""
+import os
+import re
+import subprocess
+
+ROOT = os.path.dirname(os.path.dirname(os.path.abspath(__file__)))
+AT_THE_END = (0xFFFD, 0xFFFF, 0, 3)
+WITH_READINGS = (0x0010, 0x0012, 0, 3, 0x0020, 0x0021, 3, 1)
+ANY_THREE_ITEMS = (0, 0, 0, 1, 0, 0xF7, 0, 1, 0, 0, 0, 1, 1, 2, 0, 0xFFF6, 0, 0x3C)
+
+
+def bytes_of(words):
+    return b"".join(word.to_bytes(2, "big") for word in words)
+
+
+def check_of(data):
+    value = 0xFFFF
+    for byte in data:
+        value ^= byte
+        for _ in range(8):
+            value = value >> 1 ^ (0xA001 if value & 1 else 0)
+    return value.to_bytes(2, "little")
+
+
+def sealed(text):
+    """A frame in hex, with its check."""
+    data = bytes.fromhex(text)
+    return (data + check_of(data)).hex(" ").upper()
+
+
+def sheet_of(functions, areas):
+    """A sheet that is no maker's: areas with a station, a rate and a signed word at places 0 to 2, and a clear at 0300."""
+    items, places = 12 + len(areas), areas[-2] + areas[-3] + 1 - areas[-4]
+    header = (1, len(areas) // 4, 12, 3, items, places, functions, items + len(ANY_THREE_ITEMS), 0, 1, 0x0300 if functions & 2 else 0, 0)
+    return bytes_of((*header, *areas, *ANY_THREE_ITEMS))
+
+
+def kept(bank):
+    """The file that a meter keeps, by cedarskein.h, "A power cut"."""
+    return 2 * (bank + check_of(bank))
+
+
+class Why:
+    """The program in a folder of its own, and the banks that it is asked about."""
+
+    def __init__(self, command, folder):
+        self.command, self.folder = command, folder
+
+    def file(self, name, data):
+        path = os.path.join(self.folder, name)
+        with open(path, "wb") as file:
+            file.write(data)
+        return path
+
+    def run(self, sheet, *options, given=b""):
+        """What it prints; with an exit status, that and its message."""
+        path = sheet if "/" in sheet else os.path.join(ROOT, "sheets", sheet + ".sheet")
+        done = subprocess.run([*self.command, *options, path], input=given, capture_output=True, timeout=20, check=False)
+        return result_of(done.returncode, done.stdout.decode(), done.stderr.decode().replace(self.folder + "/", "").replace(ROOT + "/", ""))
+
+    def frame(self, text, sheet="ux15_25", **words):
+        """A frame with its check, at a fresh bank with some words of its own, as a0103=0x9876."""
+        options = ["-b", self.file("bank", ux_bank(**words))] if words else []
+        return self.run(sheet, *options, "-f", sealed(text))
+
+    def bank(self, data):
+        """A read, with a bank of these bytes."""
+        return self.run("ux15_25", "-b", self.file("bank", data), "-f", sealed("02 03 01 00 00 01"))
+
+    def capture(self, given):
+        return self.run("ux15_25", given=given.encode("latin-1"))
+
+
+def result_of(status, printed, said):
+    printed, said = printed.strip(), said.strip()
+    return printed if status == 0 and not said else f"status {status}: {said}" + (f"; printed: {printed}" if printed else "")
+
+
+def ux_bank(**words):
+    """A fresh bank of UX15/25, but for the words given by their addresses."""
+    bank = [0] * 35
+    bank[0], bank[0x09], bank[0x0D], bank[0x0E] = 0xFFF6, 1, 1, 1
+    for name, word in words.items():
+        bank[int(name[1:], 16) - 0x0100] = word
+    return bytes_of(bank)
+
+
+def outside_of_make():
+    """The environment as it is where no make runs: this one's own words are not the next one's."""
+    return {name: value for name, value in os.environ.items() if name not in ("MAKEFLAGS", "MFLAGS", "MAKELEVEL")}
+
+
+def by_make(*words, given=""):
+    done = subprocess.run(["make", "-s", "why", *words], cwd=ROOT, env=outside_of_make(), input=given, capture_output=True, text=True, timeout=60,
+                          check=False)
+    first = done.stderr.strip().splitlines()[:1]
+    return result_of(done.returncode, done.stdout, first[0].partition("*** ")[2] or first[0] if first else "")
+
+
+def shown_in_readme(why):
+    """The README's questions that come out otherwise than it shows. Of make's own line only its end is the same everywhere."""
+    with open(os.path.join(ROOT, "README.md"), encoding="utf-8") as page:
+        text = page.read().partition("## Ask why\n")[2].partition("\n## ")[0]
+    bank = why.file("pump.bank", kept(ux_bank(a0104=0x9876)))
+    shown = re.findall(r"^ +\$ (.*make why.*)\n((?: +(?!\$)\S.*\n)*)", text, re.M)
+    otherwise = []
+    for command, lines in shown:
+        done = subprocess.run(command.replace("/tmp/pump.bank", bank), shell=True, cwd=ROOT, env=outside_of_make(), capture_output=True, text=True,
+                              timeout=60, check=False)
+        printed, expected = (re.sub(r"Makefile:\d+|^ +| +$", "", said, flags=re.M).strip() for said in (done.stdout + done.stderr, lines))
+        if printed != expected:
+            otherwise.append(f"{command} prints {printed}, and not {expected}")
+    return f"{len(shown)} shown, otherwise: {otherwise}"
+
+
+PAIR = "0 to 99999 (0.0 to 9999.9 m3/h)"
+REASONS = [
+    ("a read of one register", lambda why: why.frame("01 03 01 01 00 01"), "A reply goes out: the frame reads 0101, Pulse constant"),
+    ("a read of a pair", lambda why: why.frame("01 03 01 03 00 02"), "A reply goes out: the frame reads 0103 to 0104, Alarm upper limit"),
+    ("a read of several", lambda why: why.frame("01 03 01 03 00 04"),
+     "A reply goes out: the frame reads 0103, Alarm upper limit, to 0106, Alarm lower limit"),
+    ("a write", lambda why: why.frame("01 06 01 16 00 04"), "A reply goes out: the frame writes 0116, Gas"),
+    ("a write of several", lambda why: why.frame("01 10 01 0F 00 02 04 00 01 13 88"),
+     "A reply goes out: the frame writes 010F, Flow conversion, to 0110, Gas pressure setting"),
+    ("a clear", lambda why: why.frame("01 05 03 00 00 00"), "A reply goes out: the frame clears the alarm mark"),
+    ("one byte", lambda why: why.run("ux15_25", "-f", "01"), "Silence: the frame has 1 byte; the shortest has 4"),
+    ("three bytes", lambda why: why.run("ux15_25", "-f", "01 03 01"), "Silence: the frame has 3 bytes; the shortest has 4"),
+    ("100 bytes are not too long", lambda why: why.frame("01 07" + 96 * " 00"),
+     "Error 01: the frame has function 07; this meter takes 03, 05, 06, 10"),
+    ("101 bytes", lambda why: why.frame("01 07" + 97 * " 00"), "Silence: the frame has over 100 bytes; the longest has 100"),
+    ("a check that does not agree", lambda why: why.run("ux15_25", "-f", "01 06 01 04 13 08 C4 A1"),
+     "Silence: the check does not agree: the frame ends in C4 A1, its other bytes give C5 01"),
+    ("another station", lambda why: why.frame("02 06 01 04 13 88"), "Silence: the frame is for station 2; this meter is station 1"),
+    ("another station than the bank's", lambda why: why.frame("01 06 01 04 13 88", a010E=7),
+     "Silence: the frame is for station 1; this meter is station 7"),
+    ("function 04", lambda why: why.frame("01 04 01 00 00 01"), "Error 01: the frame has function 04; this meter takes 03, 05, 06, 10"),
+    ("a clear at AS-WE", lambda why: why.frame("01 05 03 00 00 00", "aswe_40"), "Error 01: the frame has function 05; this meter takes 03, 06, 10"),
+    ("a meter that takes no function", lambda why: why.frame("01 03 FF FD 00 01", why.file("sheet", sheet_of(0, AT_THE_END))),
+     "Error 01: the frame has function 03; this meter takes none"),
+    ("06 of 9 bytes", lambda why: why.frame("01 06 01 01 00 01 00"), "Silence: the frame has 9 bytes; with function 06 it has 8"),
+    ("10 of 8 bytes", lambda why: why.frame("01 10 01 01 00 01"), "Silence: the frame has 8 bytes; with function 10 it has 9 or more"),
+    ("10 that is cut short", lambda why: why.frame("01 10 01 01 00 02 04 00 01 00"),
+     "Silence: the frame has 12 bytes; with function 10 and a byte count of 4 it has 13"),
+    ("a read of none", lambda why: why.frame("01 03 01 00 00 00"), "Error 03: the frame reads 0 registers; a read is of 1 to 47"),
+    ("a read of 48", lambda why: why.frame("01 03 01 00 00 30"), "Error 02: the frame reads 48 registers; a read is of 1 to 47"),
+    ("a write of none", lambda why: why.frame("01 10 01 00 00 00 00"), "Error 03: the frame writes 0 registers; a write is of 1 to 45"),
+    ("a byte count that does not fit", lambda why: why.frame("01 10 01 01 00 01 04 00 01 00 00"),
+     "Error 03: the frame has a byte count of 4; 1 register has 2 bytes"),
+    ("a byte count that does not fit several", lambda why: why.frame("01 10 01 01 00 81 02 00 01"),
+     "Error 03: the frame has a byte count of 2; 129 registers have 258 bytes"),
+    ("no such register", lambda why: why.frame("01 06 01 17 00 00"), "Error 02: this meter has no register at 0117"),
+    ("a read that runs too far", lambda why: why.frame("01 03 01 00 00 18"),
+     "Error 02: this meter has no register at 0117; the frame is for 24 registers from 0100 on"),
+    ("a write of a reading", lambda why: why.frame("01 06 02 00 00 00"), "Error 02: 0200, Flow, can only be read"),
+    ("a write of the last reading", lambda why: why.frame("01 06 02 0A 00 00"), "Error 02: 020A, Error bits, can only be read"),
+    ("a read of the clear address", lambda why: why.frame("01 03 03 00 00 01"),
+     "Error 02: 0300, Volume alarm clear, takes a clear, function 05, and nothing else"),
+    ("a clear elsewhere", lambda why: why.frame("01 05 03 01 00 01"), "Error 02: a clear goes to 0300, Volume alarm clear; this one is for 0301"),
+    ("a read past FFFF", lambda why: why.frame("01 03 FF FE 00 03", why.file("sheet", sheet_of(15, AT_THE_END))),
+     "Error 02: there is no address above FFFF; the frame is for 3 registers from FFFE on"),
+    ("a clear with a value", lambda why: why.frame("01 05 03 00 FF 00"), "Error 03: the clear has the value FF00; it takes 0000 alone"),
+    ("half of a pair, P4", lambda why: why.frame("01 06 01 03 00 01", a0104=0x9876),
+     f"Error 03: the item at 0103, Alarm upper limit, would be 104566 (10456.6 m3/h), with 9876 still at 0104; it takes {PAIR}"),
+    ("the lower half of a pair", lambda why: why.frame("01 06 01 04 98 76", a0103=1),
+     f"Error 03: the item at 0103, Alarm upper limit, would be 104566 (10456.6 m3/h), with 0001 still at 0103; it takes {PAIR}"),
+    ("a pair, the second of three", lambda why: why.frame("01 10 01 03 00 06 0C 00 00 03 E8 00 01 86 A0 00 00 00 32"),
+     f"Error 03: the item at 0105, Alarm lower limit, would be 100000 (10000.0 m3/h); it takes {PAIR}"),
+    ("the upper half at the end of a write", lambda why: why.frame("01 10 01 02 00 02 04 00 00 00 02", a0104=0x0001),
+     f"Error 03: the item at 0103, Alarm upper limit, would be 131073 (13107.3 m3/h), with 0001 still at 0104; it takes {PAIR}"),
+    ("the lower half at the start of a write", lambda why: why.frame("01 10 01 04 00 02 04 98 76 00 00", a0103=1),
+     f"Error 03: the item at 0103, Alarm upper limit, would be 104566 (10456.6 m3/h), with 0001 still at 0103; it takes {PAIR}"),
+    ("a value that is a word", lambda why: why.frame("01 06 01 01 00 05"),
+     "Error 03: the item at 0101, Pulse constant, would be 5; it takes 0 to 4 (1, 10, 100, 1000, 10000 L/pulse)"),
+    ("below zero", lambda why: why.frame("01 06 01 00 FF F5"),
+     "Error 03: the item at 0100, Reference temperature, would be -11 degC; it takes -10 to 60 degC"),
+    ("below zero, in tenths", lambda why: why.frame("01 06 01 23 FF 9B", "aswe_80"),
+     "Error 03: the item at 0123, Reference temperature, would be -101 (-10.1 degC); it takes -100 to 600 (-10.0 to 60.0 degC)"),
+    ("steps of five", lambda why: why.frame("01 06 01 13 01 21", "aswe_40"),
+     "Error 03: the item at 0113, History interval, would be 289 (1445 min); it takes 1 to 288 (5 to 1440 min)"),
+    ("a number without a unit", lambda why: why.frame("01 06 01 0E 00 F8"), "Error 03: the item at 010E, Station, would be 248; it takes 1 to 247"),
+    ("a meter of no maker", lambda why: why.frame("01 06 FF FF FF F5", why.file("sheet", sheet_of(15, AT_THE_END))),
+     "Error 03: the item at FFFF would be -11; it takes -10 to 60"),
+    ("a meter of no maker, a write past an area",
+     lambda why: why.frame("01 10 00 12 00 02 04 00 00 00 00", why.file("sheet", sheet_of(15, WITH_READINGS))),
+     "Error 02: this meter has no register at 0013; the frame is for 2 registers from 0012 on"),
+    ("a meter of no maker, a write of a reading", lambda why: why.frame("01 06 00 20 00 00", why.file("sheet", sheet_of(15, WITH_READINGS))),
+     "Error 02: 0020 can only be read"),
+    ("a meter of no maker, a read of the clear address", lambda why: why.frame("01 03 03 00 00 01", why.file("sheet", sheet_of(15, WITH_READINGS))),
+     "Error 02: 0300 takes a clear, function 05, and nothing else"),
+    ("a meter of no maker, a clear elsewhere", lambda why: why.frame("01 05 03 01 00 00", why.file("sheet", sheet_of(15, WITH_READINGS))),
+     "Error 02: a clear goes to 0300; this one is for 0301"),
+    ("a meter of no maker replies", lambda why: why.frame("01 03 FF FD 00 03", why.file("sheet", sheet_of(15, AT_THE_END))),
+     "A reply goes out: the frame reads FFFD to FFFF"),
+]
+
+FOR_TWO = "Silence: the frame is for station 2; this meter is station 1"
+NOT_SOUND = "it is not sound: an item is out of its range, or the mark is neither 0 nor 1"
+SIZES = "a bank of this sheet has 70, and a file that make meter keeps has 144"
+BANKS = [
+    ("a bank's own bytes", lambda why: why.bank(ux_bank()), FOR_TWO),
+    ("a bank that a meter keeps", lambda why: why.bank(kept(ux_bank())), FOR_TWO),
+    ("a first copy that is spoiled", lambda why: why.bank(b"\1" + kept(ux_bank())[1:]), FOR_TWO),
+    ("both copies spoiled", lambda why: why.bank(72 * b"\1" + kept(ux_bank())[72:-1] + b"\1"),
+     "status 2: the bank bank: neither copy in it is a good bank of this sheet"),
+    ("two copies that are not sound", lambda why: why.bank(kept(ux_bank(a0101=5))),
+     "status 2: the bank bank: neither copy in it is a good bank of this sheet"),
+    ("an item out of its range", lambda why: why.bank(ux_bank(a0101=5)), f"status 2: the bank bank: {NOT_SOUND}"),
+    ("a mark of 2", lambda why: why.bank(ux_bank()[:-1] + b"\2"), f"status 2: the bank bank: {NOT_SOUND}"),
+    ("an empty bank", lambda why: why.bank(b""), f"status 2: the bank bank: it has 0 bytes; {SIZES}"),
+    ("a bank of AS-WE", lambda why: why.bank(bytes(78)), f"status 2: the bank bank: it has 78 bytes; {SIZES}"),
+    ("a file that is longer than any bank", lambda why: why.bank(bytes(5000)), "status 2: the bank bank: it is longer than any bank"),
+    ("a bank that is not there", lambda why: why.run("ux15_25", "-b", why.folder + "/none", "-f", "01"),
+     "status 2: the bank none: No such file or directory"),
+    ("a folder for a bank", lambda why: why.run("ux15_25", "-b", why.folder + "/.", "-f", "01"), "status 2: the bank .: Is a directory"),
+    ("a sheet that is not sound", lambda why: why.run(why.file("sheet", sheet_of(16, AT_THE_END)), "-f", "01"),
+     "status 2: sheet: no sheet: it breaks a rule of document 01"),
+    ("a file that is longer than any sheet", lambda why: why.run(why.file("sheet", bytes(857)), "-f", "01"),
+     "status 2: sheet: no sheet: it is longer than any"),
+    ("a sheet that is not there", lambda why: why.run(why.folder + "/none", "-f", "01"), "status 2: none: No such file or directory"),
+    ("a bank where there is no sheet", lambda why: why.run(why.folder + "/none", "-b", why.folder + "/none", "-f", "zz"),
+     "status 2: none: No such file or directory"),
+    ("a word too many", lambda why: why.run("ux15_25", "-f", "01", "02"), "status 2: usage: why [-b BANK] [-f FRAME] SHEET"),
+]
+
+ODD = "has an odd number of digits, and a byte has two"
+NEW_STATION = sealed("01 06 01 0E 00 02")
+CAPTURE = f"""# sent to the pump house
+{sealed("02 03 01 01 00 01")}
+   {sealed("02 03 01 01 00 01").lower().replace(" ", "")}\r
+
+{NEW_STATION}   # from here on it is station 2
+[{sealed("02 03 01 01 00 01").replace(" ", "][")}]
+{" ".join(hex(byte) for byte in bytes.fromhex(sealed("02 03 01 01 00 01")))}"""
+HEX = [
+    ("a capture", lambda why: why.capture(CAPTURE),
+     f"{FOR_TWO}\n{FOR_TWO}\nA reply goes out: the frame writes 010E, Station\n{FOR_TWO}\n{FOR_TWO}"),
+    ("a capture with a bad line", lambda why: why.capture(f"# two\n{NEW_STATION}\n01 06 0G 03\n"), "status 2: standard input, line 3: 0G is not hex"),
+    ("a capture with times", lambda why: why.capture(f"12:00:01 {NEW_STATION}"), "status 2: standard input, line 1: 12:00:01 is not hex"),
+    ("a capture that is no text", lambda why: why.capture("\1\0\7\x1b[31m"), "status 2: standard input, line 1: ???? is not hex"),
+    ("a long word", lambda why: why.capture(30 * "wind"), "status 2: standard input, line 1: windwindwindwindwind.. is not hex"),
+    ("a capture without a frame", lambda why: why.capture("# nothing\n\n"), "status 2: standard input: there is no frame"),
+    ("nothing at all", lambda why: why.capture(""), "status 2: standard input: there is no frame"),
+    ("a digit that is missing", lambda why: why.run("ux15_25", "-f", "01 03 1"), f"status 2: FRAME: 1 {ODD}"),
+    ("a digit that is missing, without blanks", lambda why: why.run("ux15_25", "-f", "0103010"), f"status 2: FRAME: 0103010 {ODD}"),
+    ("0x and nothing behind", lambda why: why.run("ux15_25", "-f", "01 0x"), "status 2: FRAME: 0x is not hex"),
+    ("blanks for a frame", lambda why: why.run("ux15_25", "-f", "  "), "status 2: FRAME: there is no frame"),
+]
+
+ASWE = "aswe_40 aswe_50 aswe_80"
+MAKE = [
+    ("make why, a frame", lambda _: by_make("SHEET=ux", "FRAME=" + sealed("02 03 01 01 00 01")), FOR_TWO),
+    ("make why, a capture", lambda _: by_make(given=CAPTURE).splitlines()[2], "A reply goes out: the frame writes 010E, Station"),
+    ("make why, a bank with a blank in its name", lambda why: by_make("BANK=" + why.file("a bank", ux_bank(a010E=7)),
+     "FRAME=" + sealed("02 03 01 01 00 01")),
+     "Silence: the frame is for station 2; this meter is station 7"),
+    ("make why, not hex", lambda _: by_make("FRAME=01 zz"), "status 2: FRAME: zz is not hex"),
+    ("make why, a sheet that is not there", lambda _: by_make("SHEET=uz", "FRAME=01"),
+     f"status 2: there is no sheet uz. SHEET= takes the name of a file, or one of: {ASWE} ux15_25"),
+    ("make why, a sheet of three", lambda _: by_make("SHEET=aswe", "FRAME=01"),
+     f"status 2: more than one sheet begins with aswe. SHEET= takes one of: {ASWE}"),
+    ("make why, a frame that is empty", lambda _: by_make("FRAME="), "status 2: empty: FRAME. Give each a name, or leave it out.  Stop."),
+    ("make why, a name that is misspelt", lambda _: by_make("FRAM=01"), "status 2: make why takes no FRAM. It takes: SHEET BANK FRAME.  Stop."),
+    ("what the README shows of make why", shown_in_readme, "4 shown, otherwise: []"),
+]
+
+TRIALS = [*REASONS, *BANKS, *HEX, *MAKE]
