@@ -18,6 +18,8 @@ use Rattle.cedarskein.proofs.cedarskein_set_mark.Kinds as set-mark
 use Rattle.cedarskein.proofs.cedarskein_set_mark.Reads as set-mark-reads
 use Rattle.cedarskein.proofs.cedarskein_answer.Kinds as answer
 use Rattle.cedarskein.proofs.cedarskein_answer.Reads as answer-reads
+use Rattle.cedarskein.proofs.cedarskein_why.Kinds as why
+use Rattle.cedarskein.proofs.cedarskein_why.Reads as why-reads
 
 pub cedarskein-check-start-determined : Determined 0 check-start.ps check-start.r check-start-reads.Post
 cedarskein-check-start-determined κs a x y = read-off (λ r. (r, x .1))
@@ -46,3 +48,6 @@ cedarskein-set-mark-determined κs a x y = read-off (λ o. (o .number, (tt, (o .
 pub cedarskein-answer-determined : Determined 6 answer.ps answer.r answer-reads.Post
 cedarskein-answer-determined κs a x y p q =
     read-off (λ o. (o .number, (tt, (o .bank, (tt, (o .buffer, (o .length, (o .rate, tt)))))))) (p .0) (q .0)
+
+pub cedarskein-why-determined : Determined 5 why.ps why.r why-reads.Post
+cedarskein-why-determined κs a x y p q = read-off (λ s. (s .number, (tt, (tt, (tt, (s .reason, (s .address, tt))))))) (p .0) (q .0)

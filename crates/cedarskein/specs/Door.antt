@@ -4,6 +4,8 @@ use mathlib.Core.List.{List}
 use Rattle.refusals.specs.Answers.{answerNumber}
 use Rattle.bank_rules.specs.Calls.{BankOutcome}
 use Rattle.meter_rules.specs.Answer.{Outcome, answeredNumber, lengthIn, rateIn}
+use Rattle.why_rules.specs.declared.Explained.{Explained}
+use Rattle.why_rules.specs.Reasons.{explainedNumber, reasonIn, addressIn}
 
 -- rule N53: the number of a call on a bank, and the bank afterwards
 pub record Told : Type 0 where
@@ -31,3 +33,15 @@ abbrev pub handedOf : Outcome → Handed
 handedOf outcome =
     handed (answeredNumber (outcome .answered)) (lengthIn (outcome .answered)) (rateIn (outcome .answered)) (outcome .bank)
     (outcome .buffer)
+
+-- rules Y2 and Y3: the number of a call that asks for the reason, the reason and the address
+pub record Said : Type 0 where
+  pub number : ℕ
+  pub reason : ℕ
+  pub address : ℕ
+
+abbrev pub said : ℕ → ℕ → ℕ → Said
+said number reason address = record { number = number; reason = reason; address = address }
+
+abbrev pub saidOf : Explained → Said
+saidOf explained = said (explainedNumber explained) (reasonIn explained) (addressIn explained)

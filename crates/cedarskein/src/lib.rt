@@ -6,7 +6,8 @@ ghost use Rattle.refusals.specs.Answers.{answerNumber};
 ghost use Rattle.sheet_rules.specs.Rules.{sheetAnswer};
 ghost use Rattle.bank_rules.specs.Calls.{lent, checkAnswer, freshOutcome, postOutcome, markOutcome};
 ghost use Rattle.meter_rules.specs.Answer.{answerOutcome};
-ghost use Rattle.cedarskein.specs.Door.{told, toldOf, handed, handedOf};
+ghost use Rattle.why_rules.specs.Reasons.{explanation};
+ghost use Rattle.cedarskein.specs.Door.{told, toldOf, handed, handedOf, said, saidOf};
 
 mod numbers;
 
@@ -96,4 +97,23 @@ pub extern "C" fn cedarskein_answer(
     *length = numbers::length_of(answered);
     *rate = numbers::rate_of(answered);
     numbers::of_answered(answered)
+}
+
+// Tells why a frame gets silence or an error: 0 with the reason's number and its address, or 2, 3, 4 in this order. Reason and address are
+// written on every call, zeros with a refusal. The second promise is as above.
+#[no_mangle]
+pub extern "C" fn cedarskein_why(
+    sheet: &[u8],
+    bank: &[u8],
+    frame: &[u8],
+    reason: &mut u32,
+    address: &mut u32,
+) -> u32
+    ensures { λ r. ⌜ said r (now (reason .exit)) (now (address .exit)) ≡ saidOf (explanation (lent (now (sheet .entry)) (now (bank .entry))) (now (frame .entry))) ⌝ }
+    ensures { λ r. ⌜ Bytes (now (sheet .entry)) × Bytes (now (bank .entry)) × Bytes (now (frame .entry)) ⌝ }
+{
+    let explained = why::why(sheet, bank, frame);
+    *reason = numbers::reason_of(explained);
+    *address = numbers::address_of(explained);
+    numbers::of_explained(explained)
 }

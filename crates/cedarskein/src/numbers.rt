@@ -1,10 +1,13 @@
-// The number of each case of the library's answers: rules N0 to N7.
+// The number of each case of the library's answers: rules N0 to N7, and Y0 to Y22 for the reasons.
 ghost use mathlib.Core.Path.{_≡_};
 ghost use Rattle.refusals.specs.Answers.{refusalNumber, answerNumber};
 ghost use Rattle.meter_rules.specs.Answer.{answeredNumber, lengthIn, rateIn};
+ghost use Rattle.why_rules.specs.Reasons.{reasonNumber, reasonAddress, explainedNumber, reasonIn, addressIn};
 use meter_rules::Answered;
 use refusals::Answer;
 use refusals::Refusal;
+use why_rules::Explained;
+use why_rules::Reason;
 
 fn of_refusal(refusal: Refusal) -> u32
     ensures { λ r. ⌜ r ≡ refusalNumber refusal ⌝ }
@@ -60,5 +63,70 @@ pub(crate) fn rate_of(answered: Answered) -> u32
         Answered::Error { code: _, rate } => rate as u32,
         Answered::Silence => 0,
         Answered::Refused(_) => 0,
+    }
+}
+
+pub(crate) fn of_explained(explained: Explained) -> u32
+    ensures { λ r. ⌜ r ≡ explainedNumber explained ⌝ }
+{
+    match explained {
+        Explained::Refused(refusal) => of_refusal(refusal),
+        Explained::Because(_) => 0,
+    }
+}
+
+fn of_reason(reason: Reason) -> u32
+    ensures { λ r. ⌜ r ≡ reasonNumber reason ⌝ }
+{
+    match reason {
+        Reason::None => 0,
+        Reason::TooShort => 1,
+        Reason::TooLong => 2,
+        Reason::Check => 3,
+        Reason::Station => 4,
+        Reason::Function => 5,
+        Reason::BodyLength => 6,
+        Reason::Count => 7,
+        Reason::Address { address: _ } => 8,
+        Reason::ClearValue => 9,
+        Reason::Item { address: _ } => 10,
+    }
+}
+
+// The address that is told with a reason; 0 where there is none to tell.
+fn told_with(reason: Reason) -> u32
+    ensures { λ r. ⌜ r ≡ reasonAddress reason ⌝ }
+{
+    match reason {
+        Reason::Address { address } => address,
+        Reason::Item { address } => address,
+        Reason::None => 0,
+        Reason::TooShort => 0,
+        Reason::TooLong => 0,
+        Reason::Check => 0,
+        Reason::Station => 0,
+        Reason::Function => 0,
+        Reason::BodyLength => 0,
+        Reason::Count => 0,
+        Reason::ClearValue => 0,
+    }
+}
+
+// The number of the reason, and its address; 0 with a refusal.
+pub(crate) fn reason_of(explained: Explained) -> u32
+    ensures { λ r. ⌜ r ≡ reasonIn explained ⌝ }
+{
+    match explained {
+        Explained::Refused(_) => 0,
+        Explained::Because(reason) => of_reason(reason),
+    }
+}
+
+pub(crate) fn address_of(explained: Explained) -> u32
+    ensures { λ r. ⌜ r ≡ addressIn explained ⌝ }
+{
+    match explained {
+        Explained::Refused(_) => 0,
+        Explained::Because(reason) => told_with(reason),
     }
 }

@@ -35,7 +35,7 @@ pub record Meter : Type 0 where
   pub bank : List ℕ
 
 -- 0000 is the address 0..FF, at place 0, and 0001 the rate, at place 1; the mark is at 2. All functions are allowed, the clear address is 0300
-abbrev small : Meter
+abbrev pub small : Meter
 small =
     record {
       sheet =
@@ -48,11 +48,11 @@ small =
     }
 
 -- the same with another sum of the functions, and a clear address that goes with it
-abbrev allowing : ℕ → ℕ → Meter
+abbrev pub allowing : ℕ → ℕ → Meter
 allowing sum clear = record { sheet = changed 0 (small .sheet) (at 6 sum ∷ at 10 clear ∷ []); bank = small .bank }
 
 -- the same with 48 words more, 0100 to 012F, of access 1: they hold 0A01 to 0A30
-abbrev wide : Meter
+abbrev pub wide : Meter
 wide =
     record {
       sheet =
@@ -66,7 +66,7 @@ wide =
     }
 
 -- 0000 and 0001, 0002 to 0004, FFF9 to FFFB, FFFC with access 1, FFFD, and FFFF: 0000 to 0004 and FFF9 to FFFD are neighbours, FFFE is a gap
-abbrev full : Meter
+abbrev pub full : Meter
 full =
     record {
       sheet =
@@ -92,42 +92,42 @@ full =
     }
 
 -- the places of its bank: of 0000 and 0001, of 0002, of 0003 and 0004
-abbrev pairUpper : ℕ
+abbrev pub pairUpper : ℕ
 pairUpper = 0
 
-abbrev pairLower : ℕ
+abbrev pub pairLower : ℕ
 pairLower = 1
 
-abbrev signed : ℕ
+abbrev pub signed : ℕ
 signed = 2
 
-abbrev otherUpper : ℕ
+abbrev pub otherUpper : ℕ
 otherUpper = 3
 
-abbrev otherLower : ℕ
+abbrev pub otherLower : ℕ
 otherLower = 4
 
 -- of FFF9, FFFA and FFFB
-abbrev address : ℕ
+abbrev pub address : ℕ
 address = 5
 
-abbrev rate : ℕ
+abbrev pub rate : ℕ
 rate = 6
 
-abbrev plain : ℕ
+abbrev pub plain : ℕ
 plain = 7
 
 -- of FFFC, of FFFD, of FFFF, and of the mark
-abbrev reading : ℕ
+abbrev pub reading : ℕ
 reading = 8
 
-abbrev little : ℕ
+abbrev pub little : ℕ
 little = 9
 
-abbrev top : ℕ
+abbrev pub top : ℕ
 top = 10
 
-abbrev mark : ℕ
+abbrev pub mark : ℕ
 mark = 11
 
 -- ---- the rows

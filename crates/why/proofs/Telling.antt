@@ -1,0 +1,154 @@
+-- The reason is what is told of the judgement. Assumes nothing.
+use mathlib.Core.Path.{_≡_, refl, sym, ap, ap₂, _∙_}
+use mathlib.Core.Bool.{Bool, true, false, not, cond, _&&_, _||_, false≢true, true≢false}
+use mathlib.Core.List.{List, [], _∷_}
+use mathlib.Core.Logic.{_⊎_, inl, inr}
+use Prim.Native.Nat.{ℕ, _+_, _-_, _%_, _≤_, _<_}
+use native.Mathlib.Omega.{arith}
+use lib.Dec.{ltb, eqb}
+use borrow.Author.Tests.{eq-eqb, ne-eqb, eqb-true, eqb-false, lt-ltb, le-ltb, ltb-true, ltb-false}
+use Rattle.lists.specs.Cases.{when, firstCase}
+use Rattle.lists.proofs.Tests.{first-of, second-of}
+use Rattle.sheet_rules.specs.Rows.{areas, bankWords, clearAddress, items}
+use Rattle.sheet_rules.specs.Rules.{sound}
+use Rattle.sheet_rules.specs.Lookup.{addressOf}
+use Rattle.sheet_rules.specs.declared.Purpose.the-variants.{Read, Write}
+use Rattle.sheet_rules.specs.Runs.{allOpen, reach}
+use Rattle.sheet_rules.proofs.Sound.{header-numbers}
+use Rattle.bank_rules.specs.Calls.{Lent, checkAnswer}
+use Rattle.frame.specs.Frame.{reads, clears, writesOne, writesMany, mostRead, function, start, second, isWrite, count, run}
+use Rattle.meter_rules.specs.declared.Judged.{Judged}
+use Rattle.meter_rules.specs.declared.Judged.the-variants.{FailsCheck, OtherStation, FunctionNotAllowed, WrongLength, WrongCount, WrongAddress, WrongValue, BadItem, GoodRead, GoodClear, GoodWrite}
+use Rattle.meter_rules.specs.Steps.{failsCheck, otherStation, functionNotAllowed, wrongLength, wrongCount, wrongAddress, wrongValue, badWrite, goodFrame, judgedFrame}
+use Rattle.meter_rules.specs.Write.{firstPlace, someBad, stopPlace}
+use Rattle.meter_rules.proofs.Order.{asks-write}
+use Rattle.why_rules.specs.declared.Reason.{Reason}
+use Rattle.why_rules.specs.declared.Reason.the-variants.{None, TooShort, TooLong, Check, Station, Function, BodyLength, Count, Address, ClearValue, Item}
+use Rattle.why_rules.specs.Facts.{tooShort, tooLong, checkDiffers, readsTooMany, badCount, shutAddress, firstShut, firstBadAddress, firstBadItem}
+use Rattle.why_rules.specs.Reasons.{reasonOf, explainedBy, explanation}
+use Rattle.why_rules.proofs.Parts.{fails-check, wrong-address, which-shut, read-told, write-told, clear-told}
+use Rattle.why_rules.proofs.FirstAddress.{first-shut-reach}
+use Rattle.why_rules.proofs.FirstItem.{stop-small}
+use Rattle.refusals.specs.declared.Answer.{Answer}
+use Rattle.refusals.specs.declared.Answer.the-variants as answer
+use Rattle.bank_rules.proofs.Changes.{check-passed}
+use Rattle.meter_rules.specs.declared.Judgement.{Judgement}
+use Rattle.meter_rules.specs.declared.Judgement.the-variants as stopped
+use Rattle.meter_rules.specs.Judgement.{judgement, judgementBy}
+use Rattle.why_rules.specs.declared.Explained.{Explained}
+use Rattle.why_rules.specs.declared.Explained.the-variants.{Refused, Because}
+use Rattle.why.specs.Told.{unpassed, wronglyAddressed, toldOf}
+
+-- ---- a frame that step 6 stops, function by function
+
+module _ (sheet frame : List ℕ) where
+  pub told-clear : function frame ≡ clears → wronglyAddressed sheet frame ≡ Address (start frame)
+  told-clear e = simp (eq-eqb (function frame) clears e)
+
+  pub told-write : (function frame ≡ clears → ⊥) → (function frame ≡ reads → ⊥) → wronglyAddressed sheet frame ≡ Address (reach Write (areas sheet) (start frame))
+  told-write clear read = simp (ne-eqb (function frame) clears clear, ne-eqb (function frame) reads read)
+
+  module _ (is : function frame ≡ reads) where
+    told-read : wronglyAddressed sheet frame ≡ cond (ltb mostRead (second frame)) Count (Address (reach Read (areas sheet) (start frame)))
+    told-read =
+        ap₂ (λ (c r : Bool). cond c (Address (start frame))
+        (cond r (cond (ltb mostRead (second frame)) Count (Address (reach Read (areas sheet) (start frame)))) (Address (reach Write (areas sheet) (start frame)))))
+        (ap (λ (n : ℕ). eqb n clears) is) (ap (λ (n : ℕ). eqb n reads) is)
+
+    pub told-count : mostRead < second frame → wronglyAddressed sheet frame ≡ Count
+    told-count many =
+        told-read ∙ ap (λ (b : Bool). cond b Count (Address (reach Read (areas sheet) (start frame)))) (lt-ltb mostRead (second frame) many)
+
+    pub told-shut : second frame ≤ mostRead → wronglyAddressed sheet frame ≡ Address (reach Read (areas sheet) (start frame))
+    told-shut few =
+        told-read ∙ ap (λ (b : Bool). cond b Count (Address (reach Read (areas sheet) (start frame)))) (le-ltb mostRead (second frame) few)
+
+-- ---- by the facts
+
+module _ (given : Lent) (keeps : sound (given .sheet) ≡ true) (frame : List ℕ) where
+  -- a count is told where a read's is over 47
+  address-count : readsTooMany frame ≡ true → Count ≡ wronglyAddressed (given .sheet) frame
+  address-count many =
+      let is = eqb-true (function frame) reads (first-of (eqb (function frame) reads) (ltb mostRead (second frame)) many) in
+      sym (told-count (given .sheet) frame is (ltb-true mostRead (second frame) (second-of (eqb (function frame) reads) (ltb mostRead (second frame)) many)))
+
+  -- and an address else
+  address-shut : readsTooMany frame ≡ false → shutAddress (given .sheet) frame ≡ true
+      → Address (firstBadAddress (given .sheet) frame) ≡ wronglyAddressed (given .sheet) frame
+  address-shut few shut = go (which-shut (given .sheet) frame shut)
+    where
+      go : ((function frame ≡ reads) × (allOpen Read (given .sheet) (run frame) ≡ false))
+          ⊎ ((isWrite frame ≡ true) × (allOpen Write (given .sheet) (run frame) ≡ false))
+          ⊎ ((function frame ≡ clears) × (eqb (start frame) (clearAddress (given .sheet)) ≡ false))
+          → Address (firstBadAddress (given .sheet) frame) ≡ wronglyAddressed (given .sheet) frame
+      go (inl (is, closed)) =
+          ap Address (read-told (given .sheet) frame is ∙ first-shut-reach Read (given .sheet) keeps (start frame) (count frame) closed)
+          ∙ sym (told-shut (given .sheet) frame is (ltb-false mostRead (second frame)
+          (ap (λ (b : Bool). b && ltb mostRead (second frame)) (sym (eq-eqb (function frame) reads is)) ∙ few)))
+      go (inr (inl (is, closed))) =
+          let asks = asks-write frame is in
+          ap Address (write-told (given .sheet) frame is ∙ first-shut-reach Write (given .sheet) keeps (start frame) (count frame) closed)
+          ∙ sym (told-write (given .sheet) frame (eqb-false (function frame) clears (asks .isClear)) (eqb-false (function frame) reads (asks .isRead)))
+      go (inr (inr (is, elsewhere))) = ap Address (clear-told (given .sheet) frame is) ∙ sym (told-clear (given .sheet) frame is)
+
+  good-none : None ≡ toldOf (goodFrame (given .sheet) frame) (given .sheet) frame
+  good-none = go (eqb (function frame) reads) (eqb (function frame) clears)
+    where
+      go : (read clear : Bool)
+          → None ≡ toldOf (cond read (GoodRead (firstPlace (given .sheet) frame) (count frame))
+          (cond clear GoodClear (GoodWrite (firstPlace (given .sheet) frame) (count frame)))) (given .sheet) frame
+      go true clear = refl
+      go false true = refl
+      go false false = refl
+
+  -- the reason is told of where the frame stops
+  pub told : reasonOf given frame ≡ toldOf (judgedFrame given frame) (given .sheet) frame
+  unfolding reasonOf judgedFrame firstCase
+  told =
+      go (tooShort frame) (tooLong frame) (checkDiffers frame) (otherStation given frame) (functionNotAllowed (given .sheet) frame) (wrongLength frame)
+      (wrongCount frame) (readsTooMany frame) (shutAddress (given .sheet) frame) (wrongValue frame) (badWrite given frame) refl refl refl refl refl
+      ∙ sym (ap₂ (λ (fails wrong : Bool). toldOf
+      (firstCase (when fails FailsCheck ∷ when (otherStation given frame) OtherStation ∷ when (functionNotAllowed (given .sheet) frame) FunctionNotAllowed
+      ∷ when (wrongLength frame) WrongLength ∷ when (wrongCount frame) WrongCount ∷ when wrong WrongAddress ∷ when (wrongValue frame) WrongValue
+      ∷ when (badWrite given frame) (BadItem (firstPlace (given .sheet) frame) (stopPlace given frame)) ∷ []) (goodFrame (given .sheet) frame))
+      (given .sheet) frame) (fails-check frame) (wrong-address (given .sheet) frame))
+    where
+      go : (a b c d e f g t s v h : Bool) → tooShort frame ≡ a → tooLong frame ≡ b → readsTooMany frame ≡ t → shutAddress (given .sheet) frame ≡ s
+          → badWrite given frame ≡ h
+          → firstCase (when a TooShort ∷ when b TooLong ∷ when c Check ∷ when d Station ∷ when e Function ∷ when f BodyLength ∷ when (g || t) Count
+          ∷ when s (Address (firstBadAddress (given .sheet) frame)) ∷ when v ClearValue ∷ when h (Item (firstBadItem given frame)) ∷ []) None
+          ≡ toldOf (firstCase (when (a || b || c) FailsCheck ∷ when d OtherStation ∷ when e FunctionNotAllowed ∷ when f WrongLength ∷ when g WrongCount
+          ∷ when (t || s) WrongAddress ∷ when v WrongValue ∷ when h (BadItem (firstPlace (given .sheet) frame) (stopPlace given frame)) ∷ [])
+          (goodFrame (given .sheet) frame)) (given .sheet) frame
+      go true b c d e f g t s v h is-a is-b is-t is-s is-h = simp is-a
+      go false true c d e f g t s v h is-a is-b is-t is-s is-h = simp (is-a, is-b)
+      go false false true d e f g t s v h is-a is-b is-t is-s is-h = simp (is-a, is-b)
+      go false false false true e f g t s v h is-a is-b is-t is-s is-h = refl
+      go false false false false true f g t s v h is-a is-b is-t is-s is-h = refl
+      go false false false false false true g t s v h is-a is-b is-t is-s is-h = refl
+      go false false false false false false true t s v h is-a is-b is-t is-s is-h = refl
+      go false false false false false false false true s v h is-a is-b is-t is-s is-h = address-count is-t
+      go false false false false false false false false true v h is-a is-b is-t is-s is-h = address-shut is-t is-s
+      go false false false false false false false false false true h is-a is-b is-t is-s is-h = refl
+      go false false false false false false false false false false true is-a is-b is-t is-s is-h =
+          ap (λ (place : ℕ). Item (addressOf (areas (given .sheet)) place)) whole
+        where
+          whole : stopPlace given frame ≡ stopPlace given frame % 65536
+          whole = omega (arith, stop-small given frame (second-of (isWrite frame) (someBad given frame) is-h) keeps)
+      go false false false false false false false false false false false is-a is-b is-t is-s is-h = good-none
+
+-- ---- with what the call refuses
+
+-- what is told of a judgement
+abbrev pub explainedOf : Judgement → List ℕ → List ℕ → Explained
+explainedOf (stopped.Refused refusal) sheet frame = Refused refusal
+explainedOf (stopped.Stops judged) sheet frame = Because (toldOf judged sheet frame)
+
+pub explained : (given : Lent) (frame : List ℕ) → explainedOf (judgement given frame) (given .sheet) frame ≡ explanation given frame
+unfolding judgement explanation
+explained given frame = go (checkAnswer given) refl
+  where
+    go : (answer : Answer) → checkAnswer given ≡ answer
+        → explainedOf (judgementBy answer (judgedFrame given frame)) (given .sheet) frame ≡ explainedBy answer (reasonOf given frame)
+    go answer.Done e = ap Because (sym (told given (check-passed given e .right) frame))
+    go (answer.Refused refusal) e = refl

@@ -1,0 +1,88 @@
+-- The first bad item of a write: it is touched and would be out of its range, every touched item in front of it would be in range, and the
+-- address that is told is its own first one. Assumes nothing.
+use mathlib.Core.Path.{_≡_, refl, sym, ap, _∙_}
+use mathlib.Core.Bool.{Bool, true, false, not, _&&_, _||_, true≢false}
+use mathlib.Core.Logic.{_⊎_, inl, inr}
+use mathlib.Core.List.{List}
+use Prim.Native.Nat.{ℕ, _+_, _≤_, _<_}
+use native.Mathlib.Omega.{arith}
+use lib.Dec.{ltb, eqb}
+use borrow.Author.Tests.{le-ltb, eq-eqb}
+use Rattle.lists.specs.Lists.{some}
+use Rattle.lists.proofs.Among.{Among}
+use Rattle.sheet_rules.specs.declared.Item.{Item}
+use Rattle.sheet_rules.specs.declared.Lies.the-variants.{At}
+use Rattle.sheet_rules.specs.declared.Purpose.the-variants.{Write}
+use Rattle.sheet_rules.specs.Rows.{areas, items, bankWords}
+use Rattle.sheet_rules.specs.Rules.{isPair, readAndWrite, sound}
+use Rattle.sheet_rules.proofs.Places.{inWritable}
+use Rattle.sheet_rules.specs.Lookup.{liesIn, holds}
+use Rattle.sheet_rules.specs.Runs.{allOpen}
+use Rattle.sheet_rules.proofs.Sound.{sound-numbers}
+use Rattle.sheet_rules.proofs.Addresses.{address-lies}
+use Rattle.bank_rules.specs.Calls.{Lent}
+use Rattle.bank_rules.proofs.Changes.{Passed}
+use Rattle.bank_rules.proofs.Held.{held-writable, writable-below, writable-access}
+use Rattle.frame.specs.Frame.{count, run}
+use Rattle.meter_rules.specs.Write.{firstPlace, badItem, someBad, stopIn, stopPlace}
+use Rattle.meter_rules.proofs.Stopping.{stop-some}
+use Rattle.meter_rules.proofs.Keeping.{stop-at, front-fine}
+use Rattle.why_rules.specs.Facts.{firstBadItem}
+
+module _ (given : Lent) (frame : List ℕ) where
+  -- an item is bad in this write
+  abbrev pub isBad : Item → Bool
+  isBad item = badItem (firstPlace (given .sheet) frame) (count frame) (given .bank) frame item
+
+  -- the write stops at an item that is bad
+  pub record StopsAt : Type 0 where
+    pub item : Item
+    pub among : Among item (items (given .sheet))
+    pub bad : isBad item ≡ true
+    pub at : item .place ≡ stopPlace given frame
+
+  module _ (one : someBad given frame ≡ true) where
+    pub stops-at : StopsAt
+    unfolding stopPlace someBad
+    stops-at = go (stop-at (firstPlace (given .sheet) frame) (count frame) (given .bank) frame (items (given .sheet)))
+      where
+        end : ℕ
+        end = firstPlace (given .sheet) frame + count frame
+
+        stop : ℕ
+        stop = stopIn (firstPlace (given .sheet) frame) (count frame) (given .bank) frame (items (given .sheet))
+
+        before : ltb stop end ≡ true
+        before = stop-some (firstPlace (given .sheet) frame) (count frame) (given .bank) frame (items (given .sheet)) ∙ one
+
+        go : (stop ≡ end) ⊎ ((item : Item) × Among item (items (given .sheet)) × (isBad item ≡ true) × (item .place ≡ stop)) → StopsAt
+        go (inl e) = absurd (true≢false (sym before ∙ le-ltb stop end (omega (arith, e))))
+        go (inr (item, among, bad, at)) = record { item = item; among = among; bad = bad; at = at }
+
+    module _ (keeps : sound (given .sheet) ≡ true) where
+      held : inWritable (areas (given .sheet)) (stopPlace given frame) ≡ true
+      held =
+          let found = stops-at in
+          ap (inWritable (areas (given .sheet))) (sym (found .at))
+          ∙ held-writable (given .sheet) keeps (found .item .place) (found .among)
+          (ap (λ (b : Bool). b || (isPair (found .item) && eqb (found .item .place + 1) (found .item .place)))
+          (eq-eqb (found .item .place) (found .item .place) refl))
+
+      stop-below : stopPlace given frame < bankWords (given .sheet)
+      stop-below = writable-below (given .sheet) keeps (stopPlace given frame) held
+
+      pub stop-small : stopPlace given frame < 65536
+      stop-small = omega (arith, stop-below, sound-numbers (given .sheet) keeps)
+
+      -- rule Y21: what lies at the address that is told is the first place of that item
+      pub stop-lies : liesIn (areas (given .sheet)) (firstBadItem given frame) ≡ At (stopPlace given frame) readAndWrite
+      stop-lies =
+          let found = address-lies (given .sheet) keeps (stopPlace given frame) stop-below in
+          found .1
+          ∙ ap (At (stopPlace given frame))
+          (writable-access (given .sheet) keeps (firstBadItem given frame) (stopPlace given frame) (found .0) (found .1) held)
+
+  -- and every item in front of it is not bad
+  pub first-bad : Passed given → allOpen Write (given .sheet) (run frame) ≡ true → {item : Item} → Among item (items (given .sheet))
+      → item .place < stopPlace given frame → isBad item ≡ false
+  first-bad passed all among front = front-fine given frame passed all among front

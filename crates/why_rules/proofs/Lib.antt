@@ -1,0 +1,5 @@
+pub mod ReasonCases
+pub mod Order
+pub mod Parts
+pub mod FirstAddress
+pub mod FirstItem

@@ -1,0 +1,61 @@
+-- The facts of a frame that are reasons for silence or an error, and the addresses that are told with two of them. The facts that the
+-- judgement tests in the same words are its own: `otherStation`, `functionNotAllowed`, `wrongLength`, `wrongValue` and `badWrite`. Assumes
+-- nothing.
+use Prim.Native.Nat.{ℕ}
+use mathlib.Core.Bool.{Bool, not, cond, _&&_, _||_}
+use mathlib.Core.List.{List, [], _∷_}
+use lib.Dec.{ltb, eqb}
+use lib.ListN.{length}
+use Rattle.check_value.specs.Frame.{shortest, longest, checkAgrees}
+use Rattle.frame.specs.Frame.{reads, clears, mostRead, function, start, second, isWrite, run}
+use Rattle.sheet_rules.specs.Rows.{areas, clearAddress}
+use Rattle.sheet_rules.specs.Lookup.{liesIn, addressOf}
+use Rattle.sheet_rules.specs.declared.Purpose.{Purpose}
+use Rattle.sheet_rules.specs.declared.Purpose.the-variants.{Read, Write}
+use Rattle.sheet_rules.specs.Runs.{opens, allOpen}
+use Rattle.bank_rules.specs.Calls.{Lent}
+use Rattle.meter_rules.specs.Write.{stopPlace}
+use Rattle.meter_rules.specs.Steps.{wrongCount}
+
+-- rule Y10
+abbrev pub tooShort : List ℕ → Bool
+tooShort frame = ltb (length frame) shortest
+
+-- rule Y11
+abbrev pub tooLong : List ℕ → Bool
+tooLong frame = ltb longest (length frame)
+
+-- rule Y12
+abbrev pub checkDiffers : List ℕ → Bool
+checkDiffers frame = not (checkAgrees frame)
+
+-- rule Y16: what step 5 tests, and a read of more registers than a reply has room for
+abbrev pub readsTooMany : List ℕ → Bool
+readsTooMany frame = eqb (function frame) reads && ltb mostRead (second frame)
+
+abbrev pub badCount : List ℕ → Bool
+badCount frame = wrongCount frame || readsTooMany frame
+
+-- rule Y17: an address of the run is not open to the function; a clear elsewhere than at the clear address
+abbrev pub shutAddress : List ℕ → List ℕ → Bool
+shutAddress sheet frame =
+    (eqb (function frame) reads && not (allOpen Read sheet (run frame)))
+    || (isWrite frame && not (allOpen Write sheet (run frame)))
+    || (eqb (function frame) clears && not (eqb (start frame) (clearAddress sheet)))
+
+-- rule Y20, the first of some addresses that is not open to the purpose; 0 where each is. Nothing lies above FFFF in a sheet of bytes, so
+-- 10000 can be told.
+unfoldable pub firstShut : Purpose → List ℕ → List ℕ → ℕ
+firstShut purpose sheet [] = 0
+firstShut purpose sheet (address ∷ behind) =
+    cond (opens purpose (liesIn (areas sheet) address)) (firstShut purpose sheet behind) address
+
+-- rule Y20, the address that is told: the lowest of a run, which ascends, or the frame's own for a clear
+abbrev pub firstBadAddress : List ℕ → List ℕ → ℕ
+firstBadAddress sheet frame =
+    cond (eqb (function frame) reads) (firstShut Read sheet (run frame))
+    (cond (isWrite frame) (firstShut Write sheet (run frame)) (start frame))
+
+-- rule Y21: the first address of the first bad item, as the listing has it
+abbrev pub firstBadItem : Lent → List ℕ → ℕ
+firstBadItem given frame = addressOf (areas (given .sheet)) (stopPlace given frame)

@@ -1,0 +1,25 @@
+// Why a frame gets silence or an error: specs/ has the facts and their order, proofs/ their laws. Here are the types that they speak of; there
+// is no code.
+use refusals::Refusal;
+
+// The reason for silence or an error, in the order in which reasons are told. `address` is the first bad address of a run, or the first
+// address of the first bad item.
+pub enum Reason {
+    None,
+    TooShort,
+    TooLong,
+    Check,
+    Station,
+    Function,
+    BodyLength,
+    Count,
+    Address { address: u32 },
+    ClearValue,
+    Item { address: u32 },
+}
+
+// What a call that asks for the reason answers: refused, or the reason.
+pub enum Explained {
+    Refused(Refusal),
+    Because(Reason),
+}
