@@ -16,7 +16,8 @@ use Rattle.sheet_rules.specs.Rules.{sheetAnswer}
 use Rattle.bank_rules.specs.Calls.{Lent, lent, checkAnswer, freshOutcome, postOutcome, markOutcome}
 use Rattle.meter_rules.specs.Answer.{answerOutcome}
 use Rattle.meter_rules.proofs.Bytes.{answer-bytes}
-use Rattle.cedarskein.specs.Door.{Told, Handed, told, toldOf, handed, handedOf}
+use Rattle.why_rules.specs.Reasons.{explanation}
+use Rattle.cedarskein.specs.Door.{Told, Handed, Said, told, toldOf, handed, handedOf, said, saidOf}
 use Rattle.cedarskein.proofs.cedarskein_sheet_check.Kinds as sheet-check
 use Rattle.cedarskein.proofs.cedarskein_sheet_check.Reads as sheet-check-reads
 use Rattle.cedarskein.proofs.cedarskein_bank_check.Kinds as bank-check
@@ -29,6 +30,8 @@ use Rattle.cedarskein.proofs.cedarskein_set_mark.Kinds as set-mark
 use Rattle.cedarskein.proofs.cedarskein_set_mark.Reads as set-mark-reads
 use Rattle.cedarskein.proofs.cedarskein_answer.Kinds as answer
 use Rattle.cedarskein.proofs.cedarskein_answer.Reads as answer-reads
+use Rattle.cedarskein.proofs.cedarskein_why.Kinds as why
+use Rattle.cedarskein.proofs.cedarskein_why.Reads as why-reads
 
 -- a call of a function that its contract allows: at some lifetimes, with what was lent, its result and what was left at exit
 pub record Allowed (n : ℕ) (ps : List (PK n)) (r : RK n) (Post : Out n ps r) : Type 0 where
@@ -69,6 +72,12 @@ pub data Answers : Lent → List ℕ → List ℕ → Handed → Type 0 where
       → Answers (lent (now (call .lent .0)) (now (call .lent .1 .0))) (now (call .lent .1 .1 .0)) (now (call .lent .1 .1 .1 .0))
       (handed (call .result) (now (call .exit .1 .1 .1 .1 .0)) (now (call .exit .1 .1 .1 .1 .1 .0)) (now (call .exit .1 .0)) (now (call .exit .1 .1 .1 .0)))
 
+-- the reason: the sheet and the bank, the frame; the number, the reason and the address. Nothing else is written.
+pub data Explains : Lent → List ℕ → Said → Type 0 where
+  explains : (call : Allowed 5 why.ps why.r why-reads.Post)
+      → Explains (lent (now (call .lent .0)) (now (call .lent .1 .0))) (now (call .lent .1 .1 .0))
+      (said (call .result) (now (call .exit .1 .1 .1 .0)) (now (call .exit .1 .1 .1 .1 .0)))
+
 -- ---- what each call hands back and leaves
 
 pub checks-sheet-is : {sheet : List ℕ} {number : ℕ} → ChecksSheet sheet number → number ≡ answerNumber (sheetAnswer sheet)
@@ -95,6 +104,13 @@ answers-is (answers call) = call .post .0
 pub answers-bytes : {given : Lent} {frame buffer : List ℕ} {left : Handed} → Answers given frame buffer left
     → Bytes (given .sheet) × Bytes (given .bank) × Bytes frame × Bytes buffer × Bytes (left .bank) × Bytes (left .buffer)
 answers-bytes (answers call) = call .post .1
+
+pub explains-is : {given : Lent} {frame : List ℕ} {told : Said} → Explains given frame told → told ≡ saidOf (explanation given frame)
+explains-is (explains call) = call .post .0
+
+pub explains-bytes : {given : Lent} {frame : List ℕ} {told : Said} → Explains given frame told
+    → Bytes (given .sheet) × Bytes (given .bank) × Bytes frame
+explains-bytes (explains call) = call .post .1
 
 -- ---- demand 2, rule D20, the whole: what the contract of cedarskein_answer allows is exactly the outcome of the definition, where bytes are lent
 
@@ -133,6 +149,9 @@ set-mark-takes κs lent = tt
 
 pub answer-takes : Takes 6 answer.ps answer-reads.Pre
 answer-takes κs lent = tt
+
+pub why-takes : Takes 5 why.ps why-reads.Pre
+why-takes κs lent = tt
 
 -- .. and for any of it there is a call that the contract allows, so that no statement about calls is empty. A call with a frame says that bytes
 -- are lent, so there it is for any bytes.
@@ -210,4 +229,17 @@ some-answer given frame buffer sheet-bytes bank-bytes frame-bytes buffer-bytes =
       result = left .number;
       exit = (ref (given .sheet), (ref (left .bank), (ref frame, (ref (left .buffer), (ref (left .length), (ref (left .rate), tt))))));
       post = (refl, (sheet-bytes, bank-bytes, frame-bytes, buffer-bytes, kept .0, kept .1));
+    }
+
+pub some-why : (given : Lent) (frame : List ℕ) → Bytes (given .sheet) → Bytes (given .bank) → Bytes frame
+    → Explains given frame (saidOf (explanation given frame))
+some-why given frame sheet-bytes bank-bytes frame-bytes =
+    let told : Said = saidOf (explanation given frame) in
+    explains
+    record {
+      lifetimes = ([], ([], ([], ([], ([], tt)))));
+      lent = (ref (given .sheet), (ref (given .bank), (ref frame, (ref 0, (ref 0, tt)))));
+      result = told .number;
+      exit = (ref (given .sheet), (ref (given .bank), (ref frame, (ref (told .reason), (ref (told .address), tt)))));
+      post = (refl, (sheet-bytes, bank-bytes, frame-bytes));
     }

@@ -2,3 +2,4 @@ pub mod Calls
 pub mod Refusals
 pub mod Frames
 pub mod Witness
+pub mod Reasons

@@ -21,14 +21,15 @@ use Rattle.refusals.proofs.Answers.{numbers-in-order}
 use Rattle.sheet_rules.specs.Rules.{brokenSheet, sheetRefusals}
 use Rattle.bank_rules.specs.Stores.{Store, stored}
 use Rattle.bank_rules.specs.Bank.{emptyOrOdd, freshStores, postStores, markStores, rateOf}
-use Rattle.bank_rules.specs.Calls.{Lent, misfittingBank, unsoundBank, badMark, badAddress, freshAnswer, postAnswer, markAnswer, effectOf, bankOutcome, freshOutcome, postOutcome, markOutcome}
+use Rattle.bank_rules.specs.Calls.{Lent, misfittingBank, unsoundBank, badMark, badAddress, checkAnswer, freshAnswer, postAnswer, markAnswer, effectOf, bankOutcome, freshOutcome, postOutcome, markOutcome}
 use Rattle.bank_rules.proofs.Numbers.{check-numbers, fresh-numbers, post-numbers, mark-numbers}
 use Rattle.bank_rules.proofs.Changes.{refused-as-before}
 use Rattle.meter_rules.specs.Steps.{judgedFrame}
 use Rattle.meter_rules.specs.Answer.{Outcome, answeredNumber, smallBuffer, frameRefusals, frameCheck, unlessRefused, actedOn, answerOutcome}
 use Rattle.meter_rules.proofs.Outcomes.{outcome-cases, frame-numbers, answered-takes}
-use Rattle.cedarskein.specs.Door.{Told, Handed, told, toldOf, handed, handedOf}
-use Rattle.demands.proofs.Calls.{ChecksSheet, ChecksBank, Freshens, Posts, Marks, Answers, checks-sheet-is, checks-bank-is, freshens-is, posts-is, marks-is, answers-is}
+use Rattle.why_rules.specs.Reasons.{reasonOf, explainedBy, explanation}
+use Rattle.cedarskein.specs.Door.{Told, Handed, Said, told, toldOf, handed, handedOf, said, saidOf}
+use Rattle.demands.proofs.Calls.{ChecksSheet, ChecksBank, Freshens, Posts, Marks, Answers, Explains, checks-sheet-is, checks-bank-is, freshens-is, posts-is, marks-is, answers-is, explains-is}
 
 -- ---- the calls on a bank, and the two checks
 
@@ -151,3 +152,20 @@ module _ (given : Lent) (frame buffer : List ℕ) where
         five = exactly 5 (omega arith) (told .1 .1 .1 .0);
         nothingWritten = nothing-written;
       }
+
+-- ---- the reason for silence or an error
+
+-- each refusal's number as for the bank's check; reason and address are then 0
+pub record RefusesWhy (given : Lent) (told : Said) : Type 0 where
+  pub byNumber : ByNumber (when (brokenSheet (given .sheet)) 2 ∷ when (misfittingBank given) 3 ∷ when (unsoundBank given) 4 ∷ []) (told .number)
+  pub zeros : (told .number ≡ 0 → ⊥) → told ≡ said (told .number) 0 0
+
+pub why-refuses : (given : Lent) (frame : List ℕ) {told : Said} → Explains given frame told → RefusesWhy given told
+unfolding explanation
+why-refuses given frame call = subst (RefusesWhy given) (sym (explains-is call)) (go (checkAnswer given) (check-numbers given))
+  where
+    go : (answer : Answer)
+        → InOrder (answerNumber answer) [] (when (brokenSheet (given .sheet)) 2 ∷ when (misfittingBank given) 3 ∷ when (unsoundBank given) 4 ∷ [])
+        → RefusesWhy given (saidOf (explainedBy answer (reasonOf given frame)))
+    go Done numbers = record { byNumber = by-number _ refl numbers; zeros = λ some. absurd (some refl) }
+    go (Refused refusal) numbers = record { byNumber = by-number _ refl numbers; zeros = λ some. refl }

@@ -1,6 +1,6 @@
 -- Condition 6 in plain numbers is what step 6 tests. Assumes nothing.
 use mathlib.Core.Path.{_≡_, refl, sym, ap, ap₂, subst, _∙_}
-use mathlib.Core.Bool.{Bool, true, false, not, cond, _&&_, _||_}
+use mathlib.Core.Bool.{Bool, true, false, not, cond, _&&_, _||_, false≢true}
 use mathlib.Core.List.{List}
 use mathlib.Core.Logic.{_⊎_, inl, inr}
 use Prim.Native.Nat.{ℕ, zero, suc, _+_, _≤_, _<_}
@@ -8,16 +8,18 @@ use native.Mathlib.Omega.{arith}
 use lib.Dec.{ltb, eqb}
 use borrow.Author.Tests.{eqb-true, eq-eqb, le-ltb, ltb-false, not-false}
 use Rattle.lists.specs.Lists.{each, upFrom}
+use Rattle.lists.proofs.Among.{up-among, each-among}
 use Rattle.sheet_rules.specs.Rows.{areas, clearAddress}
 use Rattle.sheet_rules.specs.Rules.{sound}
-use Rattle.sheet_rules.specs.Lookup.{liesIn, placeIn}
+use Rattle.sheet_rules.specs.declared.Lies.{Lies}
+use Rattle.sheet_rules.specs.declared.Lies.the-variants.{At, Nowhere}
+use Rattle.sheet_rules.specs.Lookup.{liesIn}
 use Rattle.sheet_rules.proofs.Addresses.{lies-word}
 use Rattle.sheet_rules.specs.declared.Purpose.{Purpose}
 use Rattle.sheet_rules.specs.declared.Purpose.the-variants.{Read, Write}
 use Rattle.sheet_rules.specs.Runs.{permits, opens, allOpen}
 use Rattle.frame.specs.Frame.{function, start, second, isWrite, count, run}
 use Rattle.meter_rules.specs.Steps.{wrongAddress}
-use Rattle.meter_rules.proofs.Written.{each-open}
 use Rattle.plain.specs.Numbers.{Bytes, byte}
 use Rattle.plain.specs.Sheet.{LiesAt}
 use Rattle.plain.specs.Frame.{registers, address, Readable, Writable, RightAddress}
@@ -65,28 +67,40 @@ module _ (sheet : List ℕ) (keeps : sound sheet ≡ true) (bytes : Bytes sheet)
     pub lies : LiesAt sheet at place access
     pub permitted : permits purpose access ≡ true
 
-  module _ (purpose : Purpose) (frame : List ℕ) where
-    pub open-so : allOpen purpose sheet (run frame) ≡ true → (k : ℕ) → k < registers frame → Open purpose (address frame k)
-    open-so all k less =
-        let one = each-open purpose sheet keeps (start frame) (count frame) all k (omega (arith, registers-same frame)) in
-        let at = ap (liesIn (areas sheet)) (address-same frame k) ∙ one .at in
-        record {
-          small = omega (arith, lies-word sheet bytes (address frame k) (placeIn (liesIn (areas sheet) (start frame + k))) (one .access) at);
-          place = placeIn (liesIn (areas sheet) (start frame + k));
-          access = one .access;
-          lies = lies-plain sheet keeps at;
-          permitted = one .permitted;
-        }
+  module _ (purpose : Purpose) where
+    pub open-at : (at : ℕ) → opens purpose (liesIn (areas sheet) at) ≡ true → Open purpose at
+    open-at at = go (liesIn (areas sheet) at) refl
+      where
+        go : (lies : Lies) → liesIn (areas sheet) at ≡ lies → opens purpose lies ≡ true → Open purpose at
+        go (At place access) is e =
+            record {
+              small = omega (arith, lies-word sheet bytes at place access is);
+              place = place;
+              access = access;
+              lies = lies-plain sheet keeps is;
+              permitted = e;
+            }
+        go Nowhere is e = absurd (false≢true e)
 
-    pub so-open : ((k : ℕ) → k < registers frame → Open purpose (address frame k)) → allOpen purpose sheet (run frame) ≡ true
-    unfolding allOpen
-    so-open all =
-        each-up (λ at. opens purpose (liesIn (areas sheet) at)) (start frame) (count frame)
-        (λ k less. let one = all k (omega (arith, registers-same frame)) in
-        ap (λ (at : ℕ). opens purpose (liesIn (areas sheet) at)) (sym (address-same frame k))
-        ∙ ap (opens purpose) (plain-lies sheet keeps (one .lies)) ∙ one .permitted)
+    pub at-open : (at : ℕ) → Open purpose at → opens purpose (liesIn (areas sheet) at) ≡ true
+    at-open at one = ap (opens purpose) (plain-lies sheet keeps (one .lies)) ∙ one .permitted
 
-  readable-so : {at : ℕ} → Open Read at → Readable sheet at
+    module _ (frame : List ℕ) where
+      pub open-so : allOpen purpose sheet (run frame) ≡ true → (k : ℕ) → k < registers frame → Open purpose (address frame k)
+      unfolding allOpen
+      open-so all k less =
+          open-at (address frame k)
+          (ap (λ (at : ℕ). opens purpose (liesIn (areas sheet) at)) (address-same frame k)
+          ∙ each-among (λ at. opens purpose (liesIn (areas sheet) at)) (up-among (start frame) (count frame) k (omega (arith, registers-same frame))) all)
+
+      pub so-open : ((k : ℕ) → k < registers frame → Open purpose (address frame k)) → allOpen purpose sheet (run frame) ≡ true
+      unfolding allOpen
+      so-open all =
+          each-up (λ at. opens purpose (liesIn (areas sheet) at)) (start frame) (count frame)
+          (λ k less. ap (λ (at : ℕ). opens purpose (liesIn (areas sheet) at)) (sym (address-same frame k))
+          ∙ at-open (address frame k) (all k (omega (arith, registers-same frame))))
+
+  pub readable-so : {at : ℕ} → Open Read at → Readable sheet at
   readable-so one =
       record { small = one .small; place = one .place; access = one .access; lies = one .lies; permitted = go (eqb (one .access) 1) refl (one .permitted) }
     where
@@ -106,11 +120,11 @@ module _ (sheet : List ℕ) (keeps : sound sheet ≡ true) (bytes : Bytes sheet)
       go (inl e) = ap (λ (b : Bool). b || eqb (one .access) 3) (eq-eqb (one .access) 1 e)
       go (inr e) = either (eqb (one .access) 1) (eqb (one .access) 3) (eq-eqb (one .access) 3 e)
 
-  writable-so : {at : ℕ} → Open Write at → Writable sheet at
+  pub writable-so : {at : ℕ} → Open Write at → Writable sheet at
   writable-so {at} one =
       record { small = one .small; place = one .place; lies = subst (LiesAt sheet at (one .place)) (eqb-true (one .access) 3 (one .permitted)) (one .lies) }
 
-  so-writable : {at : ℕ} → Writable sheet at → Open Write at
+  pub so-writable : {at : ℕ} → Writable sheet at → Open Write at
   so-writable one = record { small = one .small; place = one .place; access = 3; lies = one .lies; permitted = refl }
 
   -- ---- the whole of step 6

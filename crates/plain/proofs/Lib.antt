@@ -12,3 +12,5 @@ pub mod Words
 pub mod Replies
 pub mod Meets
 pub mod Witness
+pub mod FirstBad
+pub mod Why

@@ -4,3 +4,4 @@ pub mod Frame
 pub mod Damage
 pub mod Registers
 pub mod Left
+pub mod Why

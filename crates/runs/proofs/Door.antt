@@ -24,9 +24,11 @@ use Rattle.cedarskein.proofs.cedarskein_post.Met as post-kept
 use Rattle.cedarskein.proofs.cedarskein_set_mark as set-mark
 use Rattle.cedarskein.proofs.cedarskein_set_mark.Met as set-mark-kept
 use Rattle.cedarskein.proofs.cedarskein_answer as answer
+use Rattle.cedarskein.proofs.cedarskein_why as why
 use Rattle.cedarskein.proofs.cedarskein_answer.Met as answer-kept
+use Rattle.cedarskein.proofs.cedarskein_why.Met as why-kept
 use Rattle.runs.specs.Runs.{Place, Call, Returns}
-use Rattle.runs.specs.Calls.{check-start-call, check-take-call, check-value-call, sheet-check-call, bank-check-call, bank-fresh-call, post-call, set-mark-call, answer-call}
+use Rattle.runs.specs.Calls.{check-start-call, check-take-call, check-value-call, sheet-check-call, bank-check-call, bank-fresh-call, post-call, set-mark-call, answer-call, why-call}
 use Rattle.runs.proofs.Lending.{lifetimesOf, sharesOf, argsOf, valssOf}
 use Rattle.runs.proofs.Returning.{returns, returns-both}
 
@@ -91,4 +93,11 @@ module _ {M : Type 1} (𝓤 : URA M) (H : Heap 𝓤) (𝓜 : Model 𝓤 H) (𝓖
     answer-returns =
         let call : Call = answer-call sheet-at bank-at frame-at buffer-at length-at rate-at sheet bank frame buffer length rate in
         returns-both 𝓤 H 𝓜 𝓖 𝓡 call answer.signature answer.spec _ _ (λ number left both. both) answer-kept.met
+        (λ loans. ((lifetimesOf (call .args) loans, sharesOf (call .args), tt, argsOf 0 (call .args) loans, valssOf 0 (call .args) loans), tt)) (refl, refl, refl)
+
+  module _ (sheet-at bank-at frame-at reason-at address-at : Place) (sheet bank frame : List ℕ) (reason address : ℕ) where
+    pub why-returns : Returns 𝓤 H 𝓜 (why-call sheet-at bank-at frame-at reason-at address-at sheet bank frame reason address)
+    why-returns =
+        let call : Call = why-call sheet-at bank-at frame-at reason-at address-at sheet bank frame reason address in
+        returns-both 𝓤 H 𝓜 𝓖 𝓡 call why.signature why.spec _ _ (λ number left both. both) why-kept.met
         (λ loans. ((lifetimesOf (call .args) loans, sharesOf (call .args), tt, argsOf 0 (call .args) loans, valssOf 0 (call .args) loans), tt)) (refl, refl, refl)

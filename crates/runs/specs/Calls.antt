@@ -9,7 +9,8 @@ use Rattle.refusals.specs.Answers.{answerNumber}
 use Rattle.sheet_rules.specs.Rules.{sheetAnswer}
 use Rattle.bank_rules.specs.Calls.{lent, checkAnswer, freshOutcome, postOutcome, markOutcome}
 use Rattle.meter_rules.specs.Answer.{answerOutcome}
-use Rattle.cedarskein.specs.Door.{told, toldOf, handed, handedOf}
+use Rattle.why_rules.specs.Reasons.{explanation}
+use Rattle.cedarskein.specs.Door.{told, toldOf, handed, handedOf, said, saidOf}
 use Rattle.cedarskein.proofs.cedarskein_check_start.Symbol as check-start-code
 use Rattle.cedarskein.proofs.cedarskein_check_take.Symbol as check-take-code
 use Rattle.cedarskein.proofs.cedarskein_check_value.Symbol as check-value-code
@@ -19,6 +20,7 @@ use Rattle.cedarskein.proofs.cedarskein_bank_fresh.Symbol as bank-fresh-code
 use Rattle.cedarskein.proofs.cedarskein_post.Symbol as post-code
 use Rattle.cedarskein.proofs.cedarskein_set_mark.Symbol as set-mark-code
 use Rattle.cedarskein.proofs.cedarskein_answer.Symbol as answer-code
+use Rattle.cedarskein.proofs.cedarskein_why.Symbol as why-code
 use Rattle.runs.specs.Runs.{Place, toRead, toWrite, toCount, passes, lends, Call}
 
 abbrev pub check-start-call : Call
@@ -100,4 +102,14 @@ module _ (sheet-at bank-at frame-at buffer-at length-at rate-at : Place) (sheet 
     width = w32;
     promise = λ number left. (handed number (left .1 .1 .1 .1 .0) (left .1 .1 .1 .1 .1 .0) (left .1 .0) (left .1 .1 .1 .0) ≡ handedOf (answerOutcome (lent sheet bank) frame buffer))
         × (Bytes sheet × Bytes bank × Bytes frame × Bytes buffer × Bytes (left .1 .0) × Bytes (left .1 .1 .1 .0));
+  }
+
+module _ (sheet-at bank-at frame-at reason-at address-at : Place) (sheet bank frame : List ℕ) (reason address : ℕ) where
+  abbrev pub why-call : Call
+  why-call = record {
+    function = why-code.routine;
+    args = lends (toRead sheet-at sheet) ∷ lends (toRead bank-at bank) ∷ lends (toRead frame-at frame) ∷ lends (toCount reason-at reason) ∷ lends (toCount address-at address) ∷ [];
+    width = w32;
+    promise = λ number left. (said number (left .1 .1 .1 .0) (left .1 .1 .1 .1 .0) ≡ saidOf (explanation (lent sheet bank) frame))
+        × (Bytes sheet × Bytes bank × Bytes frame);
   }

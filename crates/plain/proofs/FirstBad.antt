@@ -1,0 +1,306 @@
+-- The facts about a frame alone, the first bad address and the first bad item: plain numbers say what the ordered facts say. Assumes nothing.
+use mathlib.Core.Path.{_≡_, refl, sym, ap, ap₂, subst, _∙_}
+use mathlib.Core.Bool.{Bool, true, false, not, _&&_, _||_, true≢false, false≢true}
+use mathlib.Core.List.{List}
+use mathlib.Core.Logic.{_⊎_, inl, inr}
+use Prim.Native.Nat.{ℕ, _+_, _-_, _*_, _≤_, _<_}
+use native.Mathlib.Omega.{arith}
+use lib.Dec.{ltb, eqb}
+use lib.ListN.{length}
+use borrow.Author.Tests.{eqb-true, eqb-false, eq-eqb, ne-eqb, lt-ltb, le-ltb, ltb-true, ltb-false, not-true, not-false}
+use Rattle.check_value.specs.Check.{valueOf}
+use Rattle.check_value.specs.Frame.{held, covered}
+use Rattle.lists.specs.Lists.{each}
+use Rattle.lists.proofs.Tests.{first-of, second-of}
+use Rattle.lists.proofs.Among.{up-among, each-among, among-some}
+use Rattle.sheet_rules.specs.declared.Item.{Item}
+use Rattle.sheet_rules.specs.declared.Purpose.{Purpose}
+use Rattle.sheet_rules.specs.declared.Purpose.the-variants.{Read, Write}
+use Rattle.sheet_rules.specs.Rows.{areas, clearAddress}
+use Rattle.sheet_rules.specs.Rules.{sound}
+use Rattle.sheet_rules.specs.declared.Lies.the-variants.{At}
+use Rattle.sheet_rules.specs.Lookup.{liesIn, addressOf}
+use Rattle.sheet_rules.specs.Runs.{opens, allOpen}
+use Rattle.sheet_rules.proofs.Addresses.{place-address}
+use Rattle.range.specs.Range.{inRange}
+use Rattle.bank_rules.specs.Bank.{valueBy, goodBy}
+use Rattle.bank_rules.specs.Calls.{Lent}
+use Rattle.bank_rules.proofs.Changes.{Passed}
+use Rattle.frame.specs.Frame.{reads, clears, function, start, second, isWrite, count, run}
+use Rattle.meter_rules.specs.Write.{firstPlace, wouldBe, touched, badItem, someBad, stopPlace}
+use Rattle.why_rules.specs.Facts.{tooShort, tooLong, checkDiffers, readsTooMany, shutAddress, firstShut, firstBadAddress, firstBadItem}
+use Rattle.why_rules.proofs.Parts.{which-shut, read-told, write-told, clear-told}
+use Rattle.why_rules.proofs.FirstAddress.{FirstOf, first-shut, first-shut-is}
+use Rattle.why_rules.proofs.FirstItem.{StopsAt, stops-at, stop-lies, first-bad}
+use Rattle.plain.specs.Numbers.{Bytes, byte, word}
+use Rattle.plain.specs.Sheet.{ItemRow}
+use Rattle.plain.specs.Frame.{registers, address, Touches, ValueWouldBe, Within}
+use Rattle.plain.specs.Why.{CheckAgrees, ReadsTooMany, Opens, FirstBadAddress, ofRun, ofClear, FirstBadItem}
+use Rattle.plain.proofs.Rows.{word-same, lies-plain, plain-lies, item-row, row-item}
+use Rattle.plain.proofs.Conditions.{Tells, by-test}
+use Rattle.plain.proofs.Addresses.{Open, open-at, at-open, readable-so, so-readable, writable-so, so-writable, address-same, registers-same, writes, which}
+use Rattle.plain.proofs.Values.{within-so, so-within, value-so, so-value, touches-so, so-touches}
+
+-- ---- the facts about a frame alone
+
+pub short-tells : (frame : List ℕ) → Tells (tooShort frame) (4 ≤ length frame)
+short-tells frame = record { right = ltb-false (length frame) 4; wrongly = le-ltb (length frame) 4 }
+
+pub long-tells : (frame : List ℕ) → Tells (tooLong frame) (length frame ≤ 100)
+long-tells frame = record { right = ltb-false 100 (length frame); wrongly = le-ltb 100 (length frame) }
+
+pub check-tells : (frame : List ℕ) → Tells (checkDiffers frame) (CheckAgrees frame)
+check-tells frame =
+    by-test (λ e. omega (arith, eqb-true (valueOf (covered frame)) (held frame) e))
+    (λ agrees. eq-eqb (valueOf (covered frame)) (held frame) (omega (arith, agrees)))
+
+module _ (frame : List ℕ) where
+  pub many-so : readsTooMany frame ≡ true → ReadsTooMany frame
+  many-so e = (
+    eqb-true (function frame) 0x03 (first-of (eqb (function frame) 0x03) (ltb 47 (second frame)) e),
+    omega (arith, word-same frame 4, ltb-true 47 (second frame) (second-of (eqb (function frame) 0x03) (ltb 47 (second frame)) e)),
+  )
+
+  pub so-many : ReadsTooMany frame → readsTooMany frame ≡ true
+  so-many many =
+      ap₂ _&&_ (eq-eqb (function frame) 0x03 (many .0)) (lt-ltb 47 (second frame) (omega (arith, word-same frame 4, many .1)))
+
+  pub many-tells : Tells (readsTooMany frame) (ReadsTooMany frame → ⊥)
+  many-tells =
+      record {
+        right = λ e many. true≢false (sym (so-many many) ∙ e);
+        wrongly = λ few. go few (readsTooMany frame) refl;
+      }
+    where
+      go : (ReadsTooMany frame → ⊥) → (b : Bool) → readsTooMany frame ≡ b → readsTooMany frame ≡ false
+      go few true e = absurd (few (many-so e))
+      go few false e = e
+
+-- ---- the first bad address
+
+any : (a b c : Bool) → (a ≡ true) ⊎ (b ≡ true) ⊎ (c ≡ true) → (a || b || c) ≡ true
+any true b c e = refl
+any false true c e = refl
+any false false true e = refl
+any false false false (inl e) = e
+any false false false (inr (inl e)) = e
+any false false false (inr (inr e)) = e
+
+module _ (sheet frame : List ℕ) (keeps : sound sheet ≡ true) (bytes : Bytes sheet) where
+  -- what a function asks of an address is that it is open to a purpose
+  record Asks (purpose : Purpose) : Type 0 where
+    notClear : byte frame 1 ≡ 0x05 → ⊥
+    asked : (at : ℕ) → Opens sheet frame at → Open sheet keeps bytes purpose at
+    granted : (at : ℕ) → Open sheet keeps bytes purpose at → Opens sheet frame at
+
+  asks-read : byte frame 1 ≡ 0x03 → Asks Read
+  asks-read is =
+      record {
+        notClear = λ e. absurd (omega (arith, is, e));
+        asked = λ at opens. so-readable sheet keeps bytes (opens .read is);
+        granted = λ at one. record { read = λ e. readable-so sheet keeps bytes one; written = λ e. absurd (other e) };
+      }
+    where
+      other : (byte frame 1 ≡ 0x06) ⊎ (byte frame 1 ≡ 0x10) → ⊥
+      other (inl e) = omega (arith, is, e)
+      other (inr e) = omega (arith, is, e)
+
+  asks-write : (byte frame 1 ≡ 0x06) ⊎ (byte frame 1 ≡ 0x10) → Asks Write
+  asks-write is =
+      record {
+        notClear = λ e. other 0x05 (omega arith) (omega arith) is e;
+        asked = λ at opens. so-writable sheet keeps bytes (opens .written is);
+        granted = λ at one. record { read = λ e. absurd (other 0x03 (omega arith) (omega arith) is e); written = λ e. writable-so sheet keeps bytes one };
+      }
+    where
+      other : (code : ℕ) → code < 0x06 → code < 0x10 → (byte frame 1 ≡ 0x06) ⊎ (byte frame 1 ≡ 0x10) → byte frame 1 ≡ code → ⊥
+      other code p q (inl e) f = omega (arith, p, e, f)
+      other code p q (inr e) f = omega (arith, q, e, f)
+
+  of-run : (purpose : Purpose) → Asks purpose → allOpen purpose sheet (run frame) ≡ false → FirstBadAddress sheet frame (firstShut purpose sheet (run frame))
+  of-run purpose asks closed =
+      let at : ℕ = firstShut purpose sheet (run frame) in
+      let found = first-shut purpose sheet keeps (start frame) (count frame) closed in
+      let k : ℕ = at - start frame in
+      let same : address frame k ≡ at = address-same frame k ∙ omega (arith, found .low) in
+      subst (FirstBadAddress sheet frame) same
+      (ofRun (asks .notClear) k (omega (arith, found .high, found .low, registers-same frame))
+      (λ opens. true≢false (sym (at-open sheet keeps bytes purpose (address frame k) (asks .asked (address frame k) opens))
+      ∙ ap (λ (n : ℕ). open? n) same ∙ found .itself))
+      (λ j less. asks .granted (address frame j) (open-at sheet keeps bytes purpose (address frame j)
+      (ap (λ (n : ℕ). open? n) (address-same frame j) ∙ found .front j (omega (arith, less, found .low))))))
+    where
+      open? : ℕ → Bool
+      open? n = opens purpose (liesIn (areas sheet) n)
+
+  pub address-so : shutAddress sheet frame ≡ true → FirstBadAddress sheet frame (firstBadAddress sheet frame)
+  address-so shut = go (which-shut sheet frame shut)
+    where
+      go : ((function frame ≡ reads) × (allOpen Read sheet (run frame) ≡ false)) ⊎ ((isWrite frame ≡ true) × (allOpen Write sheet (run frame) ≡ false))
+          ⊎ ((function frame ≡ clears) × (eqb (start frame) (clearAddress sheet) ≡ false))
+          → FirstBadAddress sheet frame (firstBadAddress sheet frame)
+      go (inl (is, closed)) = subst (FirstBadAddress sheet frame) (sym (read-told sheet frame is)) (of-run Read (asks-read is) closed)
+      go (inr (inl (is, closed))) = subst (FirstBadAddress sheet frame) (sym (write-told sheet frame is)) (of-run Write (asks-write (which frame is)) closed)
+      go (inr (inr (is, elsewhere))) =
+          subst (FirstBadAddress sheet frame) (word-same frame 2 ∙ sym (clear-told sheet frame is))
+          (ofClear is (λ same. eqb-false (start frame) (clearAddress sheet) elsewhere (sym (word-same frame 2) ∙ same ∙ word-same sheet 20)))
+
+  -- and the other way: a first bad address is the one that is told
+  run-is : (purpose : Purpose) → Asks purpose → (k : ℕ) → k < registers frame → (Opens sheet frame (address frame k) → ⊥)
+      → ((j : ℕ) → j < k → Opens sheet frame (address frame j)) → (allOpen purpose sheet (run frame) ≡ false) × (firstShut purpose sheet (run frame) ≡ address frame k)
+  unfolding allOpen
+  run-is purpose asks k less shut front = (
+    not-each,
+    first-shut-is purpose sheet (start frame) (count frame) (address frame k) (omega (arith, address-same frame k))
+        (omega (arith, address-same frame k, less, registers-same frame))
+        (λ j before. ap open? (sym (address-same frame j)) ∙ at-open sheet keeps bytes purpose (address frame j)
+        (asks .asked (address frame j) (front j (omega (arith, before, address-same frame k)))))
+        closed,
+  )
+    where
+      open? : ℕ → Bool
+      open? n = opens purpose (liesIn (areas sheet) n)
+
+      closed : open? (address frame k) ≡ false
+      closed = go (open? (address frame k)) refl
+        where
+          go : (b : Bool) → open? (address frame k) ≡ b → open? (address frame k) ≡ false
+          go true e = absurd (shut (asks .granted (address frame k) (open-at sheet keeps bytes purpose (address frame k) e)))
+          go false e = e
+
+      not-each : each open? (run frame) ≡ false
+      not-each = go (each open? (run frame)) refl
+        where
+          go : (b : Bool) → each open? (run frame) ≡ b → each open? (run frame) ≡ false
+          go true e =
+              absurd (true≢false (sym (each-among open? (up-among (start frame) (count frame) k (omega (arith, less, registers-same frame))) e)
+              ∙ ap open? (sym (address-same frame k)) ∙ closed))
+          go false e = e
+
+  abbrev readShut : Bool
+  readShut = eqb (function frame) 0x03 && not (allOpen Read sheet (run frame))
+
+  abbrev writeShut : Bool
+  writeShut = isWrite frame && not (allOpen Write sheet (run frame))
+
+  abbrev clearShut : Bool
+  clearShut = eqb (function frame) 0x05 && not (eqb (start frame) (clearAddress sheet))
+
+  pub so-address : {at : ℕ} → FirstBadAddress sheet frame at → (shutAddress sheet frame ≡ true) × (firstBadAddress sheet frame ≡ at)
+  so-address (ofClear is elsewhere) = (
+    any readShut writeShut clearShut
+        (inr (inr (ap₂ _&&_ (eq-eqb (function frame) 0x05 is)
+        (ap not (ne-eqb (start frame) (clearAddress sheet) (λ e. elsewhere (word-same frame 2 ∙ e ∙ sym (word-same sheet 20)))))))),
+    clear-told sheet frame is ∙ sym (word-same frame 2),
+  )
+  so-address (ofRun notClear k less shut front) = go (eqb (function frame) 0x03) (isWrite frame) refl refl
+    where
+      go : (read write : Bool) → eqb (function frame) 0x03 ≡ read → isWrite frame ≡ write
+          → (shutAddress sheet frame ≡ true) × (firstBadAddress sheet frame ≡ address frame k)
+      go true write r w =
+          let is = eqb-true (function frame) 0x03 r in
+          let found = run-is Read (asks-read is) k less shut front in
+          (any readShut writeShut clearShut (inl (ap₂ _&&_ r (ap not (found .0)))), read-told sheet frame is ∙ found .1)
+      go false true r w =
+          let found = run-is Write (asks-write (which frame w)) k less shut front in
+          (any readShut writeShut clearShut (inr (inl (ap₂ _&&_ w (ap not (found .0))))), write-told sheet frame w ∙ found .1)
+      go false false r w =
+          absurd (shut record {
+            read = λ e. absurd (eqb-false (function frame) 0x03 r e);
+            written = λ e. absurd (true≢false (sym (writes frame e) ∙ w));
+          })
+
+-- ---- the first bad item
+
+module _ (given : Lent) (frame : List ℕ) (passed : Passed given) (write : isWrite frame ≡ true) (all : allOpen Write (given .sheet) (run frame) ≡ true) where
+  abbrev would : ℕ → ℕ
+  would = wouldBe (firstPlace (given .sheet) frame) (count frame) (given .bank) frame
+
+  abbrev bad : Item → Bool
+  bad item = badItem (firstPlace (given .sheet) frame) (count frame) (given .bank) frame item
+
+  -- an item that a write touches and would leave out of range is bad, and a bad item is so
+  bad-so : (item : Item) → bad item ≡ true
+      → Touches (given .sheet) frame (item .kind) (item .place) × (Within (item .kind) (item .low) (item .high) (valueBy would item) → ⊥)
+  unfolding badItem goodBy
+  bad-so item e =
+      let touch = first-of (touched (firstPlace (given .sheet) frame) (count frame) item) (not (goodBy would item)) e in
+      let unfit = not-true (goodBy would item) (second-of (touched (firstPlace (given .sheet) frame) (count frame) item) (not (goodBy would item)) e) in (
+        so-touches given frame (passed .right) all item touch,
+        λ within. false≢true (sym unfit ∙ so-within (item .kind) (item .low) (item .high) (valueBy would item) within),
+      )
+
+  fine-so : (item : Item) (value : ℕ) → bad item ≡ false → Touches (given .sheet) frame (item .kind) (item .place)
+      → ValueWouldBe given frame (item .place) value (item .kind) → Within (item .kind) (item .low) (item .high) value
+  unfolding badItem goodBy
+  fine-so item value fine touch is =
+      within-so (item .kind) (item .low) (item .high) value
+      (ap (inRange (item .kind) (item .low) (item .high)) (value-so given frame (passed .right) all item value is)
+      ∙ not-false (goodBy would item)
+      (ap (λ (b : Bool). b && not (goodBy would item)) (sym (touches-so given frame (passed .right) all item touch)) ∙ fine))
+
+  so-bad : (item : Item) (value : ℕ) → Touches (given .sheet) frame (item .kind) (item .place)
+      → ValueWouldBe given frame (item .place) value (item .kind) → (Within (item .kind) (item .low) (item .high) value → ⊥) → bad item ≡ true
+  so-bad item value touch is outside = go (bad item) refl
+    where
+      go : (b : Bool) → bad item ≡ b → bad item ≡ true
+      go true e = e
+      go false e = absurd (outside (fine-so item value e touch is))
+
+  pub item-so : someBad given frame ≡ true → FirstBadItem given frame (firstBadItem given frame)
+  item-so one =
+      let found = stops-at given frame one in
+      let item = found .item in
+      let here = bad-so item (found .bad) in
+      record {
+        writes = which frame write;
+        kind = item .kind;
+        place = item .place;
+        low = item .low;
+        high = item .high;
+        value = valueBy would item;
+        row = item-row (given .sheet) item (found .among);
+        touched = here .0;
+        itsValue = so-value given frame (passed .right) all item;
+        outside = here .1;
+        inFront = λ kind other low high value row touch is front.
+            let earlier : Item = record { kind = kind; place = other; low = low; high = high } in
+            fine-so earlier value (first-bad given frame passed all (row-item (given .sheet) row) (omega (arith, front, found .at))) touch is;
+        itsAddress = lies-plain (given .sheet) (passed .right)
+            (stop-lies given frame one (passed .right) ∙ ap (λ (n : ℕ). At n 3) (sym (found .at)));
+      }
+
+  -- and the other way
+  pub so-item : {at : ℕ} → FirstBadItem given frame at → (someBad given frame ≡ true) × (firstBadItem given frame ≡ at)
+  unfolding someBad
+  so-item {at} first = (one, ap (addressOf (areas (given .sheet))) (sym same) ∙ place-address (given .sheet) (passed .right) at (first .place) 3
+      (plain-lies (given .sheet) (passed .right) (first .itsAddress)))
+    where
+      item : Item
+      item = record { kind = first .kind; place = first .place; low = first .low; high = first .high }
+
+      its : bad item ≡ true
+      its = so-bad item (first .value) (first .touched) (first .itsValue) (first .outside)
+
+      one : someBad given frame ≡ true
+      one = among-some bad (row-item (given .sheet) (first .row)) its
+
+      found : StopsAt given frame
+      found = stops-at given frame one
+
+      -- no bad item stands in front of the stop, and the stop's own is not in front of this one
+      same : first .place ≡ stopPlace given frame
+      same = go (ltb (first .place) (stopPlace given frame)) (ltb (stopPlace given frame) (first .place)) refl refl
+        where
+          go : (front behind : Bool) → ltb (first .place) (stopPlace given frame) ≡ front → ltb (stopPlace given frame) (first .place) ≡ behind
+              → first .place ≡ stopPlace given frame
+          go true behind f b =
+              absurd (true≢false (sym its ∙ first-bad given frame passed all (row-item (given .sheet) (first .row)) (ltb-true (first .place) (stopPlace given frame) f)))
+          go false true f b =
+              let other = found .item in
+              let here = bad-so other (found .bad) in
+              absurd (here .1 (first .inFront (other .kind) (other .place) (other .low) (other .high) (valueBy would other)
+              (item-row (given .sheet) other (found .among)) (here .0) (so-value given frame (passed .right) all other)
+              (omega (arith, found .at, ltb-true (stopPlace given frame) (first .place) b))))
+          go false false f b =
+              omega (arith, ltb-false (first .place) (stopPlace given frame) f, ltb-false (stopPlace given frame) (first .place) b)

@@ -1,0 +1,392 @@
+-- The reason by the ordered facts is the reason in plain numbers: what is told is so, and nothing else is so. And what goes out follows from
+-- the reason, both ways. Assumes nothing.
+use mathlib.Core.Path.{_≡_, refl, sym, ap, ap₂, subst, _∙_}
+use mathlib.Core.Bool.{Bool, true, false, not, _&&_, _||_, or-true}
+use mathlib.Core.List.{List, [], _∷_}
+use mathlib.Core.Logic.{_↔_, _⊎_, inl, inr}
+use Prim.Native.Nat.{ℕ, _+_, _≤_, _<_}
+use native.Mathlib.Omega.{arith}
+use lib.Dec.{ltb, eqb}
+use lib.ListN.{length}
+use borrow.Author.Tests.{eqb-true, eqb-false, eq-eqb, ne-eqb, lt-ltb, ltb-true, not-true}
+use Rattle.lists.specs.Cases.{when, firstCase}
+use Rattle.lists.proofs.Tests.{first-of, second-of}
+use Rattle.sheet_rules.specs.declared.Purpose.the-variants.{Write}
+use Rattle.sheet_rules.specs.Runs.{allOpen}
+use Rattle.bank_rules.specs.Calls.{Lent}
+use Rattle.bank_rules.proofs.Changes.{Passed}
+use Rattle.frame.specs.Frame.{function, second, isWrite, run}
+use Rattle.meter_rules.specs.Steps.{otherStation, functionNotAllowed, wrongLength, wrongCount, wrongAddress, wrongValue, badWrite}
+use Rattle.meter_rules.specs.Write.{someBad}
+use Rattle.meter_rules.proofs.Order.{write-value, write-bad}
+use Rattle.meter_rules.proofs.Soundness.{open-write}
+use Rattle.why_rules.specs.declared.Reason.{Reason}
+use Rattle.why_rules.specs.declared.Reason.the-variants.{None, TooShort, TooLong, Check, Station, Function, BodyLength, Count, Address, ClearValue, Item}
+use Rattle.why_rules.specs.Facts.{tooShort, tooLong, checkDiffers, readsTooMany, badCount, shutAddress, firstBadAddress, firstBadItem}
+use Rattle.why_rules.specs.Reasons.{reasonNumber, reasonAddress, reasonOf}
+use Rattle.why_rules.proofs.Parts.{wrong-address}
+use Rattle.plain.specs.Numbers.{Bytes, byte, word}
+use Rattle.plain.specs.Frame as plain
+use Rattle.plain.specs.Frame.{Whole, RightCount, RightAddress, Fate, silence, error, good, Gets}
+use Rattle.plain.specs.Why.{ReadsTooMany, AsFunction, AsCount, FirstBadAddress, ofRun, ofClear, Why, byNone, byTooShort, byTooLong, byCheck, byStation, byFunction, byBodyLength, byCount, byAddress, byClearValue, byItem, GoesOut}
+use Rattle.plain.proofs.Rows.{word-same}
+use Rattle.plain.proofs.Conditions.{Tells, station-tells, allowed-tells, length-tells, count-tells, neither-first, neither-second, neither, where-so}
+use Rattle.plain.proofs.Addresses.{address-tells, writes, which}
+use Rattle.plain.proofs.Values.{value-tells}
+use Rattle.plain.proofs.FirstBad.{short-tells, long-tells, check-tells, many-so, so-many, many-tells, address-so, so-address, item-so, so-item}
+use Rattle.plain.proofs.Fates.{fails, unmet, one-fate}
+
+-- what goes out by the number of a reason
+data Out (frame : List ℕ) : ℕ → Fate → Type 0 where
+  afterNone : Out frame 0 good
+  afterTooShort : Out frame 1 silence
+  afterTooLong : Out frame 2 silence
+  afterCheck : Out frame 3 silence
+  afterStation : Out frame 4 silence
+  afterFunction : Out frame 5 (error 1)
+  afterBodyLength : Out frame 6 silence
+  afterTooMany : ReadsTooMany frame → Out frame 7 (error 2)
+  afterCount : (ReadsTooMany frame → ⊥) → Out frame 7 (error 3)
+  afterAddress : Out frame 8 (error 2)
+  afterClearValue : Out frame 9 (error 3)
+  afterItem : Out frame 10 (error 3)
+
+module _ (given : Lent) (frame : List ℕ) (passed : Passed given) (bytes : Bytes (given .sheet)) where
+  -- what the facts say where they do not hold
+
+  whole-so : tooShort frame ≡ false → tooLong frame ≡ false → checkDiffers frame ≡ false → Whole frame
+  whole-so a b c = record { least = short-tells frame .right a; most = long-tells frame .right b; check = check-tells frame .right c }
+
+  wrong-so : badCount frame ≡ false → shutAddress (given .sheet) frame ≡ false → wrongAddress (given .sheet) frame ≡ false
+  wrong-so few fine =
+      wrong-address (given .sheet) frame ∙ neither (neither-second (wrongCount frame) (readsTooMany frame) few) fine
+
+  right-so : badCount frame ≡ false → shutAddress (given .sheet) frame ≡ false → RightAddress (given .sheet) frame
+  right-so few fine = address-tells (given .sheet) (passed .right) bytes frame .right (wrong-so few fine)
+
+  open-so : badCount frame ≡ false → shutAddress (given .sheet) frame ≡ false → isWrite frame ≡ true → allOpen Write (given .sheet) (run frame) ≡ true
+  open-so few fine write = open-write (given .sheet) frame write (wrong-so few fine) .all
+
+  count-so : AsFunction given frame → wrongLength frame ≡ false → badCount frame ≡ false → AsCount given frame
+  count-so function long few =
+      record {
+        function = function;
+        long = length-tells frame .right long;
+        counted = count-tells frame .right (neither-first (wrongCount frame) (readsTooMany frame) few);
+        few = many-tells frame .right (neither-second (wrongCount frame) (readsTooMany frame) few);
+      }
+
+  -- ---- what is told is so
+
+  -- a reason, in plain numbers
+  abbrev Plainly : Reason → Type 0
+  Plainly reason = Why given frame (reasonNumber reason) (reasonAddress reason)
+
+  pub why-so : Why given frame (reasonNumber (reasonOf given frame)) (reasonAddress (reasonOf given frame))
+  unfolding reasonOf firstCase
+  why-so =
+      go (tooShort frame) (tooLong frame) (checkDiffers frame) (otherStation given frame) (functionNotAllowed (given .sheet) frame) (wrongLength frame)
+      (badCount frame) (shutAddress (given .sheet) frame) (wrongValue frame) (badWrite given frame) refl refl refl refl refl refl refl refl refl refl
+    where
+      as-function : tooShort frame ≡ false → tooLong frame ≡ false → checkDiffers frame ≡ false → otherStation given frame ≡ false
+          → functionNotAllowed (given .sheet) frame ≡ false → AsFunction given frame
+      as-function p q r s t =
+          record { whole = whole-so p q r; ours = station-tells given frame .right s; allowed = allowed-tells (given .sheet) frame .right t }
+
+      either : (wrong many : Bool) → wrongCount frame ≡ wrong → readsTooMany frame ≡ many → (wrong || many) ≡ true → (RightCount frame → ⊥) ⊎ ReadsTooMany frame
+      either true many w m e = inl (unmet (count-tells frame) w)
+      either false many w m e = inr (many-so frame (m ∙ e))
+
+      go : (a b c d e f g h i j : Bool) → tooShort frame ≡ a → tooLong frame ≡ b → checkDiffers frame ≡ c → otherStation given frame ≡ d
+          → functionNotAllowed (given .sheet) frame ≡ e → wrongLength frame ≡ f → badCount frame ≡ g → shutAddress (given .sheet) frame ≡ h
+          → wrongValue frame ≡ i → badWrite given frame ≡ j
+          → Plainly (firstCase (when a TooShort ∷ when b TooLong ∷ when c Check ∷ when d Station ∷ when e Function ∷ when f BodyLength ∷ when g Count
+          ∷ when h (Address (firstBadAddress (given .sheet) frame)) ∷ when i ClearValue ∷ when j (Item (firstBadItem given frame)) ∷ []) None)
+      go true b c d e f g h i j p q r s t u v w x y = byTooShort (ltb-true (length frame) 4 p)
+      go false true c d e f g h i j p q r s t u v w x y = byTooLong (ltb-true 100 (length frame) q)
+      go false false true d e f g h i j p q r s t u v w x y =
+          byCheck (short-tells frame .right p) (long-tells frame .right q) (unmet (check-tells frame) r)
+      go false false false true e f g h i j p q r s t u v w x y = byStation (whole-so p q r) (unmet (station-tells given frame) s)
+      go false false false false true f g h i j p q r s t u v w x y =
+          byFunction (whole-so p q r) (station-tells given frame .right s) (unmet (allowed-tells (given .sheet) frame) t)
+      go false false false false false true g h i j p q r s t u v w x y = byBodyLength (as-function p q r s t) (unmet (length-tells frame) u)
+      go false false false false false false true h i j p q r s t u v w x y =
+          byCount (as-function p q r s t) (length-tells frame .right u) (either (wrongCount frame) (readsTooMany frame) refl refl v)
+      go false false false false false false false true i j p q r s t u v w x y =
+          byAddress (count-so (as-function p q r s t) u v) (address-so (given .sheet) frame (passed .right) bytes w)
+      go false false false false false false false false true j p q r s t u v w x y =
+          byClearValue (count-so (as-function p q r s t) u v) (right-so v w)
+          (eqb-true (function frame) 0x05 (first-of (eqb (function frame) 0x05) (not (eqb (second frame) 0)) x))
+          (λ e. eqb-false (second frame) 0 (not-true (eqb (second frame) 0) (second-of (eqb (function frame) 0x05) (not (eqb (second frame) 0)) x))
+          (sym (word-same frame 4) ∙ e))
+      go false false false false false false false false false true p q r s t u v w x y =
+          let write = first-of (isWrite frame) (someBad given frame) y in
+          byItem (count-so (as-function p q r s t) u v) (right-so v w)
+          (item-so given frame passed write (open-so v w write) (second-of (isWrite frame) (someBad given frame) y))
+      go false false false false false false false false false false p q r s t u v w x y =
+          let asCount = count-so (as-function p q r s t) u v in
+          byNone (plain.allRight (asCount .function .whole) (asCount .function .ours) (asCount .function .allowed) (asCount .long) (asCount .counted) (right-so v w)
+          (value-tells given frame (passed .right) (open-so v w) .right (neither x y)))
+
+  -- ---- and nothing else is so
+
+  as-function-so : AsFunction given frame → (tooShort frame ≡ false) × (tooLong frame ≡ false) × (checkDiffers frame ≡ false)
+      × (otherStation given frame ≡ false) × (functionNotAllowed (given .sheet) frame ≡ false)
+  as-function-so is = (
+    short-tells frame .wrongly (is .whole .least),
+    long-tells frame .wrongly (is .whole .most),
+    check-tells frame .wrongly (is .whole .check),
+    station-tells given frame .wrongly (is .ours),
+    allowed-tells (given .sheet) frame .wrongly (is .allowed),
+  )
+
+  few-so : AsCount given frame → badCount frame ≡ false
+  few-so is = neither (count-tells frame .wrongly (is .counted)) (many-tells frame .wrongly (is .few))
+
+  fine-so : AsCount given frame → RightAddress (given .sheet) frame → shutAddress (given .sheet) frame ≡ false
+  fine-so is right =
+      neither-second (readsTooMany frame) (shutAddress (given .sheet) frame)
+      (sym (wrong-address (given .sheet) frame) ∙ address-tells (given .sheet) (passed .right) bytes frame .wrongly right)
+
+  -- the reason that plain numbers give is the one by the facts
+  reason-is : {number at : ℕ} → Why given frame number at → (reason : Reason) × (reasonOf given frame ≡ reason) × (number ≡ reasonNumber reason) × (at ≡ reasonAddress reason)
+  unfolding reasonOf firstCase
+  reason-is (byTooShort short) = (TooShort, simp (lt-ltb (length frame) 4 short), refl, refl)
+  reason-is (byTooLong long) =
+      (TooLong, simp (short-tells frame .wrongly (omega (arith, long)), lt-ltb 100 (length frame) long), refl, refl)
+  reason-is (byCheck least most differs) =
+      (Check, simp (short-tells frame .wrongly least, long-tells frame .wrongly most, fails (check-tells frame) differs), refl, refl)
+  reason-is (byStation whole other) = (
+    Station,
+    simp (
+      short-tells frame .wrongly (whole .least),
+      long-tells frame .wrongly (whole .most),
+      check-tells frame .wrongly (whole .check),
+      fails (station-tells given frame) other,
+    ),
+    refl,
+    refl,
+  )
+  reason-is (byFunction whole ours denied) = (
+    Function,
+    simp (
+      short-tells frame .wrongly (whole .least),
+      long-tells frame .wrongly (whole .most),
+      check-tells frame .wrongly (whole .check),
+      station-tells given frame .wrongly ours,
+      fails (allowed-tells (given .sheet) frame) denied,
+    ),
+    refl,
+    refl,
+  )
+  reason-is (byBodyLength is wrong) =
+      let so = as-function-so is in
+      (BodyLength, simp (so .0, so .1, so .2, so .3, so .4, fails (length-tells frame) wrong), refl, refl)
+  reason-is (byCount is long wrong) =
+      let so = as-function-so is in
+      (Count, simp (so .0, so .1, so .2, so .3, so .4, length-tells frame .wrongly long, bad wrong), refl, refl)
+    where
+      bad : (RightCount frame → ⊥) ⊎ ReadsTooMany frame → badCount frame ≡ true
+      bad (inl wrong) = ap (λ (b : Bool). b || readsTooMany frame) (fails (count-tells frame) wrong)
+      bad (inr many) = ap (λ (b : Bool). wrongCount frame || b) (so-many frame many) ∙ or-true (wrongCount frame)
+  reason-is (byAddress is first) =
+      let so = as-function-so (is .function) in
+      let shut = so-address (given .sheet) frame (passed .right) bytes first in
+      (Address (firstBadAddress (given .sheet) frame), simp (so .0, so .1, so .2, so .3, so .4, length-tells frame .wrongly (is .long), few-so is, shut .0), refl, sym (shut .1))
+  reason-is (byClearValue is right clear other) =
+      let so = as-function-so (is .function) in
+      (
+        ClearValue,
+        simp (
+          so .0,
+          so .1,
+          so .2,
+          so .3,
+          so .4,
+          length-tells frame .wrongly (is .long),
+          few-so is,
+          fine-so is right,
+          ap₂ (λ (a b : Bool). a && not b) (eq-eqb (function frame) 0x05 clear) (ne-eqb (second frame) 0 (λ e. other (word-same frame 4 ∙ e))),
+        ),
+        refl,
+        refl,
+      )
+  reason-is (byItem is right first) =
+      let so = as-function-so (is .function) in
+      let write = writes frame (first .writes) in
+      let found = so-item given frame passed write (open-so (few-so is) (fine-so is right) write) first in
+      (
+        Item (firstBadItem given frame),
+        simp (
+          so .0,
+          so .1,
+          so .2,
+          so .3,
+          so .4,
+          length-tells frame .wrongly (is .long),
+          few-so is,
+          fine-so is right,
+          write-value frame write,
+          write-bad frame write given ∙ found .0,
+        ),
+        refl,
+        sym (found .1),
+      )
+  reason-is (byNone (plain.allRight whole ours allowed long counted right values)) =
+      let is : AsCount given frame = record {
+        function = record { whole = whole; ours = ours; allowed = allowed };
+        long = long;
+        counted = counted;
+        few = λ many. omega (arith, right .atMost47 (many .0), many .1);
+      } in
+      let so = as-function-so (is .function) in
+      let few = few-so is in
+      let fine = fine-so is right in
+      let none = value-tells given frame (passed .right) (open-so few fine) .wrongly values in
+      (
+        None,
+        simp (
+          so .0,
+          so .1,
+          so .2,
+          so .3,
+          so .4,
+          length-tells frame .wrongly long,
+          few,
+          fine,
+          neither-first (wrongValue frame) (badWrite given frame) none,
+          neither-second (wrongValue frame) (badWrite given frame) none,
+        ),
+        refl,
+        refl,
+      )
+
+  pub why-is : {number at : ℕ} → Why given frame number at → (number ≡ reasonNumber (reasonOf given frame)) × (at ≡ reasonAddress (reasonOf given frame))
+  why-is why =
+      let found = reason-is why in
+      (found .2 ∙ ap reasonNumber (sym (found .1)), found .3 ∙ ap reasonAddress (sym (found .1)))
+
+  -- ---- rule Y4: what goes out
+
+  -- a read of too many has a count that is right by itself
+  many-right : ReadsTooMany frame → RightCount frame
+  many-right many =
+      record { ofRead = λ is. omega (arith, many .1); ofMany = λ is. absurd (omega (arith, many .0, is)) }
+
+  not-right : RightAddress (given .sheet) frame → {at : ℕ} → FirstBadAddress (given .sheet) frame at → ⊥
+  not-right right (ofRun notClear k less shut front) =
+      shut record { read = λ is. right .read is k less; written = λ is. right .written is k less }
+  not-right right (ofClear is elsewhere) = elsewhere (right .cleared is)
+
+  -- a frame gets what goes out by its reason
+  why-gets : {number at : ℕ} → Why given frame number at → (fate : Fate) × Gets given frame fate × Out frame number fate
+  why-gets (byNone gets) = (good, gets, afterNone)
+  why-gets (byTooShort short) = (silence, plain.notWhole (λ whole. omega (arith, whole .least, short)), afterTooShort)
+  why-gets (byTooLong long) = (silence, plain.notWhole (λ whole. omega (arith, whole .most, long)), afterTooLong)
+  why-gets (byCheck least most differs) = (silence, plain.notWhole (λ whole. differs (whole .check)), afterCheck)
+  why-gets (byStation whole other) = (silence, plain.otherStation whole other, afterStation)
+  why-gets (byFunction whole ours denied) = (error 1, plain.notAllowed whole ours denied, afterFunction)
+  why-gets (byBodyLength is wrong) = (silence, plain.wrongLength (is .whole) (is .ours) (is .allowed) wrong, afterBodyLength)
+  why-gets (byCount is long wrong) = go wrong
+    where
+      go : (RightCount frame → ⊥) ⊎ ReadsTooMany frame → (fate : Fate) × Gets given frame fate × Out frame 7 fate
+      go (inl wrong) = (error 3, plain.wrongCount (is .whole) (is .ours) (is .allowed) long wrong, afterCount (λ many. wrong (many-right many)))
+      go (inr many) = (
+        error 2,
+        plain.wrongAddress (is .whole) (is .ours) (is .allowed) long (many-right many) (λ right. omega (arith, right .atMost47 (many .0), many .1)),
+        afterTooMany many,
+      )
+  why-gets (byAddress is first) = (
+    error 2,
+    plain.wrongAddress (is .function .whole) (is .function .ours) (is .function .allowed) (is .long) (is .counted) (λ right. not-right right first),
+    afterAddress,
+  )
+  why-gets (byClearValue is right clear other) = (
+    error 3,
+    plain.wrongValue (is .function .whole) (is .function .ours) (is .function .allowed) (is .long) (is .counted) right (λ values. other (values .ofClear clear)),
+    afterClearValue,
+  )
+  why-gets (byItem is right first) = (
+    error 3,
+    plain.wrongValue (is .function .whole) (is .function .ours) (is .function .allowed) (is .long) (is .counted) right
+        (λ values. first .outside (values .ofItems (first .writes) (first .kind) (first .place) (first .low) (first .high) (first .value) (first .row) (first .touched)
+        (first .itsValue))),
+    afterItem,
+  )
+
+  -- and by one number one thing goes out
+  out-once : {number : ℕ} {one other : Fate} → Out frame number one → Out frame number other → one ≡ other
+  out-once afterNone afterNone = refl
+  out-once afterTooShort afterTooShort = refl
+  out-once afterTooLong afterTooLong = refl
+  out-once afterCheck afterCheck = refl
+  out-once afterStation afterStation = refl
+  out-once afterFunction afterFunction = refl
+  out-once afterBodyLength afterBodyLength = refl
+  out-once (afterTooMany many) (afterTooMany again) = refl
+  out-once (afterTooMany many) (afterCount few) = absurd (few many)
+  out-once (afterCount few) (afterTooMany many) = absurd (few many)
+  out-once (afterCount few) (afterCount again) = refl
+  out-once afterAddress afterAddress = refl
+  out-once afterClearValue afterClearValue = refl
+  out-once afterItem afterItem = refl
+
+  -- by what goes out, which reasons there can be
+  after-good : {number : ℕ} → Out frame number good → number ≡ 0
+  after-good afterNone = refl
+
+  after-silence : {number : ℕ} → Out frame number silence → (number ≡ 1) ⊎ (number ≡ 2) ⊎ (number ≡ 3) ⊎ (number ≡ 4) ⊎ (number ≡ 6)
+  after-silence afterTooShort = inl refl
+  after-silence afterTooLong = inr (inl refl)
+  after-silence afterCheck = inr (inr (inl refl))
+  after-silence afterStation = inr (inr (inr (inl refl)))
+  after-silence afterBodyLength = inr (inr (inr (inr refl)))
+
+  after-one : {number : ℕ} → Out frame number (error 1) → number ≡ 5
+  after-one afterFunction = refl
+
+  after-two : {number : ℕ} → Out frame number (error 2) → (number ≡ 8) ⊎ ((number ≡ 7) × ReadsTooMany frame)
+  after-two (afterTooMany many) = inr (refl, many)
+  after-two afterAddress = inl refl
+
+  after-three : {number : ℕ} → Out frame number (error 3) → ((number ≡ 7) × (ReadsTooMany frame → ⊥)) ⊎ (number ≡ 9) ⊎ (number ≡ 10)
+  after-three (afterCount few) = inl (refl, few)
+  after-three afterClearValue = inr (inl refl)
+  after-three afterItem = inr (inr refl)
+
+  module _ {number at : ℕ} (why : Why given frame number at) where
+    out : {fate : Fate} → Gets given frame fate → Out frame number fate
+    out gets =
+        let found = why-gets why in
+        subst (Out frame number) (one-fate given frame (passed .right) bytes (found .1) gets) (found .2)
+
+    gets : {fate : Fate} → {is : ℕ} → number ≡ is → Out frame is fate → Gets given frame fate
+    gets {fate} e after =
+        let found = why-gets why in
+        subst (Gets given frame) (out-once (found .2) (subst (λ (n : ℕ). Out frame n fate) (sym e) after)) (found .1)
+
+    pub goes-out : GoesOut given frame number
+    goes-out =
+        record {
+          noError = (λ g. after-good (out g), λ e. gets e afterNone);
+          silent = (λ g. after-silence (out g), quiet);
+          errorOne = (λ g. after-one (out g), λ e. gets e afterFunction);
+          errorTwo = (λ g. after-two (out g), two);
+          errorThree = (λ g. after-three (out g), three);
+        }
+      where
+        quiet : (number ≡ 1) ⊎ (number ≡ 2) ⊎ (number ≡ 3) ⊎ (number ≡ 4) ⊎ (number ≡ 6) → Gets given frame silence
+        quiet (inl e) = gets e afterTooShort
+        quiet (inr (inl e)) = gets e afterTooLong
+        quiet (inr (inr (inl e))) = gets e afterCheck
+        quiet (inr (inr (inr (inl e)))) = gets e afterStation
+        quiet (inr (inr (inr (inr e)))) = gets e afterBodyLength
+
+        two : (number ≡ 8) ⊎ ((number ≡ 7) × ReadsTooMany frame) → Gets given frame (error 2)
+        two (inl e) = gets e afterAddress
+        two (inr (e, many)) = gets e (afterTooMany many)
+
+        three : ((number ≡ 7) × (ReadsTooMany frame → ⊥)) ⊎ (number ≡ 9) ⊎ (number ≡ 10) → Gets given frame (error 3)
+        three (inl (e, few)) = gets e (afterCount few)
+        three (inr (inl e)) = gets e afterClearValue
+        three (inr (inr e)) = gets e afterItem
