@@ -478,3 +478,144 @@ uint32_t fast_answer(const uint8_t *sheet, size_t sheet_n, uint8_t *bank, size_t
     *rate = rate_before;
     return CEDARSKEIN_DONE;
 }
+
+/* ---- Why a frame gets silence or an error ---- */
+
+/* What a frame is judged with, and where the address goes that is told with the reason. */
+struct asked {
+    const uint8_t *sheet, *bank, *frame;
+    uint32_t frame_n, *address;
+};
+
+/* The first address of a run that lies in no area of the access, or the one behind the run. Where all lie in areas, the
+ * place of the first is put down. One pass over the areas, as in place_of_run. */
+static inline uint32_t first_closed(const uint8_t *sheet, uint32_t first, uint32_t count, uint32_t access, uint32_t *place)
+{
+    const uint8_t *end = area_rows_end(sheet);
+    uint32_t last = first + count - 1, from = first;
+    for (const uint8_t *row = sheet + SHEET_HEADER; row < end; row += AREA_ROW) {
+        uint32_t area_first = word(row), area_last = word(row + 2);
+        if (from > area_last)
+            continue;
+        if (from < area_first || (access != ANY_ACCESS && row[7] != access))
+            return from;
+        if (from == first)
+            *place = word(row + 4) + first - area_first;
+        if (last <= area_last)
+            return last + 1;
+        from = area_last + 1;
+    }
+    return from;
+}
+
+static inline uint32_t why_read(const struct asked *asked)
+{
+    if (asked->frame_n != 8)
+        return CEDARSKEIN_BODY_LENGTH;
+    uint32_t first = word(asked->frame + 2), count = word(asked->frame + 4), place;
+    if (count - 1 >= MOST_READ)
+        return CEDARSKEIN_COUNT;
+    uint32_t closed = first_closed(asked->sheet, first, count, ANY_ACCESS, &place);
+    if (closed == first + count)
+        return CEDARSKEIN_NO_REASON;
+    *asked->address = closed;
+    return CEDARSKEIN_ADDRESS;
+}
+
+static inline uint32_t why_clear(const struct asked *asked)
+{
+    if (asked->frame_n != 8)
+        return CEDARSKEIN_BODY_LENGTH;
+    if (word(asked->frame + 2) != word(asked->sheet + 20)) {
+        *asked->address = word(asked->frame + 2);
+        return CEDARSKEIN_ADDRESS;
+    }
+    return word(asked->frame + 4) != 0 ? CEDARSKEIN_CLEAR_VALUE : CEDARSKEIN_NO_REASON;
+}
+
+/* How many words of a write a pair takes; 0 where it would be bad. As in stored_pair, and nothing is stored. */
+static inline uint32_t judged_pair(const uint8_t *row, const uint8_t *bank, const uint8_t *values, uint32_t place, uint32_t end)
+{
+    uint32_t first = word(row + 2), low = pair(row + 4), value, size = 1;
+    const uint8_t *at = bank + 2 * first;
+    if (place != first) {
+        value = word(at) << 16 | word(values);
+    } else if (place + 1 == end) {
+        value = word(values) << 16 | word(at + 2);
+    } else {
+        value = pair(values);
+        size = 2;
+    }
+    return value - low > pair(row + 8) - low ? 0 : size;
+}
+
+/* Places follow each other as the run's addresses do, so a bad item's first address is as far from the run's as its first
+ * place is from the run's first; in front of it, where the run begins with a lower half. */
+static inline uint32_t why_write(const struct asked *asked, const uint8_t *values, uint32_t count)
+{
+    uint32_t first = word(asked->frame + 2), start = 0, size;
+    uint32_t closed = first_closed(asked->sheet, first, count, 3, &start), end = start + count;
+    if (closed != first + count) {
+        *asked->address = closed;
+        return CEDARSKEIN_ADDRESS;
+    }
+    const uint8_t *row = item_of(asked->sheet, start);
+    for (uint32_t place = start; place < end; place += size) {
+        size = row[1] == 2 ? judged_pair(row, asked->bank, values, place, end) : (uint32_t)holds(range_of(row), word(values));
+        if (size == 0) {
+            *asked->address = first + word(row + 2) - start;
+            return CEDARSKEIN_ITEM;
+        }
+        values += 2 * size;
+        row += ITEM_ROW;
+    }
+    return CEDARSKEIN_NO_REASON;
+}
+
+static inline uint32_t why_write_many(const struct asked *asked)
+{
+    if (asked->frame_n < 9 || asked->frame_n != 9u + asked->frame[6])
+        return CEDARSKEIN_BODY_LENGTH;
+    uint32_t count = word(asked->frame + 4);
+    if (count == 0 || asked->frame[6] != 2 * count)
+        return CEDARSKEIN_COUNT;
+    return why_write(asked, asked->frame + 7, count);
+}
+
+/* Of a frame that passed and is for this station. */
+static inline uint32_t why_function(const struct asked *asked)
+{
+    uint32_t functions = asked->sheet[13];
+    switch (asked->frame[1]) {
+    case 0x03: return functions & 1 ? why_read(asked) : CEDARSKEIN_FUNCTION;
+    case 0x05: return functions & 2 ? why_clear(asked) : CEDARSKEIN_FUNCTION;
+    case 0x06:
+        if (!(functions & 4))
+            return CEDARSKEIN_FUNCTION;
+        return asked->frame_n == 8 ? why_write(asked, asked->frame + 4, 1) : CEDARSKEIN_BODY_LENGTH;
+    case 0x10: return functions & 8 ? why_write_many(asked) : CEDARSKEIN_FUNCTION;
+    default: return CEDARSKEIN_FUNCTION;
+    }
+}
+
+uint32_t fast_why(const uint8_t *sheet, size_t sheet_n, const uint8_t *bank, size_t bank_n, const uint8_t *frame,
+                  size_t frame_n, uint32_t *reason, uint32_t *address)
+{
+    *reason = CEDARSKEIN_NO_REASON;
+    *address = 0;
+    uint32_t number = fast_bank_check(sheet, sheet_n, bank, bank_n);
+    if (number != CEDARSKEIN_DONE)
+        return number;
+    struct asked asked = { sheet, bank, frame, (uint32_t)frame_n, address };
+    if (frame_n < 4)
+        *reason = CEDARSKEIN_TOO_SHORT;
+    else if (frame_n > LONGEST_FRAME)
+        *reason = CEDARSKEIN_TOO_LONG;
+    else if (!passes(frame, frame_n))
+        *reason = CEDARSKEIN_CHECK;
+    else if (frame[0] != word(bank + 2 * word(sheet + 16)))
+        *reason = CEDARSKEIN_STATION;
+    else
+        *reason = why_function(&asked);
+    return CEDARSKEIN_DONE;
+}

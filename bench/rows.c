@@ -23,10 +23,17 @@ static uint32_t empty_answer(const uint8_t *sheet, size_t sheet_n, uint8_t *bank
     return 0;
 }
 
+static uint32_t empty_why(const uint8_t *sheet, size_t sheet_n, const uint8_t *bank, size_t bank_n, const uint8_t *frame,
+                          size_t frame_n, uint32_t *reason, uint32_t *address)
+{
+    (void)sheet, (void)sheet_n, (void)bank, (void)bank_n, (void)frame, (void)frame_n, (void)reason, (void)address;
+    return 0;
+}
+
 static const struct side sides[] = {
-    { "archive", cedarskein_sheet_check, cedarskein_answer },
-    { "fast", fast_sheet_check, fast_answer },
-    { "empty", empty_check, empty_answer },
+    { "archive", cedarskein_sheet_check, cedarskein_answer, cedarskein_why },
+    { "fast", fast_sheet_check, fast_answer, fast_why },
+    { "empty", empty_check, empty_answer, empty_why },
 };
 
 const struct side *side_named(const char *name)
@@ -41,6 +48,9 @@ void row_call(const struct side *side, struct row *row)
 {
     if (row->frame_n == 0)
         row->number = side->sheet_check(row->sheet, row->sheet_n);
+    else if (row->asks)
+        row->number = side->why(row->sheet, row->sheet_n, row->bank, row->bank_n, row->frame, row->frame_n, &row->reason,
+                                &row->address);
     else
         row->number = side->answer(row->sheet, row->sheet_n, row->bank, row->bank_n, row->frame, row->frame_n, row->out,
                                    OUT_ROOM, &row->length, &row->rate);
@@ -217,7 +227,9 @@ const char *const row_names[] = {
     "items_2_read", "items_8_read", "items_32_read", "items_64_read",
     "areas_1_check", "areas_2_check", "areas_4_check", "areas_8_check",
     "areas_1_read", "areas_2_read", "areas_4_read", "areas_8_read",
-    "ux_bad_check_50", "ux_bad_check_100", NULL
+    "ux_bad_check_50", "ux_bad_check_100",
+    "why_ux_bad_check_8", "why_ux_other_station", "why_ux_read_2", "why_ux_read_24", "why_ux_write_2",
+    "why_largest_read_47", "why_largest_write_45", "why_largest_last_bad", NULL
 };
 
 static void make_ux_frame(struct row *row, const char *what)
@@ -227,6 +239,8 @@ static void make_ux_frame(struct row *row, const char *what)
         short_frame(row, 1, 3, 0x0101, 2);
     else if (strcmp(what, "read_23") == 0)
         short_frame(row, 1, 3, 0x0100, 23);
+    else if (strcmp(what, "read_24") == 0)
+        short_frame(row, 1, 3, 0x0100, 24);
     else if (strcmp(what, "write") == 0)
         short_frame(row, 1, 6, 0x010F, 1);
     else if (strcmp(what, "write_2") == 0)
@@ -266,6 +280,8 @@ static int make_growth(struct row *row, const char *name)
 int row_make(struct row *row, const char *name)
 {
     memset(row, 0, sizeof *row);
+    row->asks = strncmp(name, "why_", 4) == 0;
+    name += row->asks ? 4 : 0;
     if (strncmp(name, "ux_", 3) == 0) {
         use_ux(row);
         make_ux_frame(row, name + 3);

@@ -13,12 +13,14 @@ struct side {
     uint32_t (*sheet_check)(const uint8_t *, size_t);
     uint32_t (*answer)(const uint8_t *, size_t, uint8_t *, size_t, const uint8_t *, size_t, uint8_t *, size_t, uint32_t *,
                        uint32_t *);
+    uint32_t (*why)(const uint8_t *, size_t, const uint8_t *, size_t, const uint8_t *, size_t, uint32_t *, uint32_t *);
 };
 
 struct row {
     uint8_t sheet[SHEET_ROOM], bank[BANK_ROOM], frame[FRAME_ROOM], out[OUT_ROOM];
     size_t sheet_n, bank_n, frame_n;    /* a row without a frame is the sheet check alone */
-    uint32_t number, length, rate;
+    int asks;                           /* why is called, not the answer */
+    uint32_t number, length, rate, reason, address;
 };
 
 extern const char *const row_names[];   /* ends with NULL */

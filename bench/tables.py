@@ -19,12 +19,19 @@ UX = [("ux_read_2", "UX, 03 of 2 words at 0101"), ("ux_read_23", "UX, 03 of 23 w
 LARGEST = [("largest_read_47", "largest sheet, 03 of 47 words"), ("largest_write_45", "largest sheet, 10 of 45 words"),
            ("largest_last_bad", "largest sheet, 10 of 45 words, the last item bad"),
            ("largest_sheet_check", "largest sheet, the sheet check alone")]
+WHY = [("why_ux_bad_check_8", "why, UX, a bad check, 8 bytes"), ("why_ux_other_station", "why, UX, another station's frame"),
+       ("why_ux_read_2", "why, UX, 03 of 2 words at 0101"), ("why_ux_read_24", "why, UX, 03 of 24 words at 0100, the last address bad"),
+       ("why_ux_write_2", "why, UX, 10 of 2 words at 010F"), ("why_largest_read_47", "why, largest sheet, 03 of 47 words"),
+       ("why_largest_write_45", "why, largest sheet, 10 of 45 words"),
+       ("why_largest_last_bad", "why, largest sheet, 10 of 45 words, the last item bad")]
+CALLS = UX + LARGEST + WHY
 GROWTH = [("items", "sheet check, 1 area, items: {}", "items_{}_check", (2, 8, 32, 64)),
           ("items", "03 of 2 words, 1 area, items: {}", "items_{}_read", (2, 8, 32, 64)),
           ("areas", "sheet check, 8 items, areas: {}", "areas_{}_check", (1, 2, 4, 8)),
           ("areas", "03 of 8 words, 8 items, areas: {}", "areas_{}_read", (1, 2, 4, 8)),
           ("bytes", "UX, a bad check, {} bytes", "ux_bad_check_{}", (8, 50, 100))]
-PROFILED = ["ux_read_2", "ux_write", "ux_sheet_check", "largest_write_45", "largest_sheet_check"]
+PROFILED = ["ux_read_2", "ux_write", "ux_sheet_check", "largest_write_45", "largest_sheet_check", "why_ux_read_2",
+            "why_largest_write_45"]
 SIDES = ["archive", "fast"]
 RUN = shlex.split(os.environ.get("RUN", ""))
 
@@ -35,7 +42,7 @@ def said(command):
 
 def counted(program):
     """Instructions by function, for each row and side; two emulators at a time."""
-    rows = [row for row, _ in UX + LARGEST] + [name.format(n) for _, _, name, sizes in GROWTH for n in sizes]
+    rows = [row for row, _ in CALLS] + [name.format(n) for _, _, name, sizes in GROWTH for n in sizes]
     keys = sorted({(row, side) for row in rows for side in SIDES})
     with concurrent.futures.ThreadPoolExecutor(2) as pool:
         costs = pool.map(lambda key: count.of_call_alone(program, key[1], key[0]), keys)
@@ -65,7 +72,7 @@ def call_line(program, costs, row, name):
 
 def calls_table(program, costs):
     head = ["Call", "archive", "C", "archive / C"] + ([] if RUN else ["archive, ns", "C, ns"])
-    return table(head, [call_line(program, costs, row, name) for row, name in UX + LARGEST])
+    return table(head, [call_line(program, costs, row, name) for row, name in CALLS])
 
 
 def growth_lines(costs, unit, label, name, sizes):
@@ -94,9 +101,9 @@ def sizes_table(archive, fast):
 
 
 def stack_line(program, side, name):
-    taken = {row: int(said(RUN + [program, "stack", side, row])) for row, _ in UX + LARGEST}
+    taken = {row: int(said(RUN + [program, "stack", side, row])) for row, _ in CALLS}
     most = max(taken, key=taken.get)
-    return [name, taken[most], dict(UX + LARGEST)[most]]
+    return [name, taken[most], dict(CALLS)[most]]
 
 
 def stack_table(program):
@@ -107,13 +114,13 @@ def profile_table(costs, row):
     cost = costs[row, "archive"]
     whole = total(costs, row, "archive")
     lines = [[f"`{name}`", numbers(round(n)), f"{100 * n / whole:.0f} %"] for name, n in cost.most_common() if n >= 1]
-    return table([dict(UX + LARGEST)[row], "instructions", "share"], lines)
+    return table([dict(CALLS)[row], "instructions", "share"], lines)
 
 
 def goals(costs, archive, stack):
     """Each goal, and by how much it is missed."""
     over = []
-    for row, name in UX + LARGEST:
+    for row, name in CALLS:
         whole, most = total(costs, row, "archive"), round(GOAL_RATIO * total(costs, row, "fast"))
         if whole > most:
             over.append([name, numbers(whole), numbers(most), numbers(whole - most)])

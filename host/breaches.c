@@ -14,6 +14,8 @@ uint32_t __real_cedarskein_post(const uint8_t *sheet, size_t sheet_n, uint8_t *b
 uint32_t __real_cedarskein_set_mark(const uint8_t *sheet, size_t sheet_n, uint8_t *bank, size_t bank_n, uint32_t mark);
 uint32_t __real_cedarskein_answer(const uint8_t *sheet, size_t sheet_n, uint8_t *bank, size_t bank_n, const uint8_t *frame,
                                   size_t frame_n, uint8_t *out, size_t out_n, uint32_t *length, uint32_t *rate);
+uint32_t __real_cedarskein_why(const uint8_t *sheet, size_t sheet_n, const uint8_t *bank, size_t bank_n, const uint8_t *frame,
+                               size_t frame_n, uint32_t *reason, uint32_t *address);
 
 static int breach_is(const char *name)
 {
@@ -148,5 +150,125 @@ uint32_t __wrap_cedarskein_answer(const uint8_t *sheet, size_t sheet_n, uint8_t 
         spoil_reply(out, out_n, length, rate);
     else
         spoil_refusal(bank, bank_n, out, out_n, length, rate);
+    return number;
+}
+
+static uint32_t word_of(const uint8_t *bytes)
+{
+    return (uint32_t)(256 * bytes[0] + bytes[1]);
+}
+
+/* Reasons told out of their order, or one beside the right one. */
+static void spoil_reason(const uint8_t *frame, size_t frame_n, uint32_t *reason, uint32_t *address)
+{
+    static const uint8_t functions[4] = { 0x03, 0x05, 0x06, 0x10 };
+    int known = frame_n > 1 && memchr(functions, frame[1], sizeof functions) != NULL;
+    if (breach_is("why_reason_off_by_one") && *reason == CEDARSKEIN_CLEAR_VALUE)
+        *reason = CEDARSKEIN_ITEM;
+    if (breach_is("why_function_before_station") && *reason == CEDARSKEIN_STATION && !known)
+        *reason = CEDARSKEIN_FUNCTION;
+    if (breach_is("why_length_before_function") && *reason == CEDARSKEIN_FUNCTION && frame_n != 8)
+        *reason = CEDARSKEIN_BODY_LENGTH;
+    if (breach_is("why_check_before_long") && *reason == CEDARSKEIN_TOO_LONG && __real_cedarskein_check_value(frame, frame_n) != 0)
+        *reason = CEDARSKEIN_CHECK;
+    if (breach_is("why_short_is_check") && *reason == CEDARSKEIN_TOO_SHORT && frame_n > 1)
+        *reason = CEDARSKEIN_CHECK;
+    if (breach_is("why_byte_count_is_length") && *reason == CEDARSKEIN_COUNT && frame[1] == 0x10 && word_of(frame + 4) != 0)
+        *reason = CEDARSKEIN_BODY_LENGTH;
+    if (breach_is("why_value_before_clear_address") && *reason == CEDARSKEIN_ADDRESS && frame[1] == 0x05 && word_of(frame + 4) != 0) {
+        *reason = CEDARSKEIN_CLEAR_VALUE;
+        *address = 0;
+    }
+    if (breach_is("why_48_is_an_address") && *reason == CEDARSKEIN_COUNT && frame[1] == 0x03 && word_of(frame + 4) > 47) {
+        *reason = CEDARSKEIN_ADDRESS;
+        *address = word_of(frame + 2);
+    }
+}
+
+/* A 10 of which only the words in front of the first bad address are asked about. */
+static void spoil_long_write(const uint8_t *sheet, size_t sheet_n, const uint8_t *bank, size_t bank_n, const uint8_t *frame,
+                             uint32_t *reason, uint32_t *address)
+{
+    uint8_t front[CEDARSKEIN_LONGEST_FRAME];
+    uint32_t words = *address - word_of(frame + 2), front_reason, front_address;
+    size_t n = 7 + 2 * (size_t)words;
+    uint16_t value;
+    memcpy(front, frame, n);
+    front[5] = (uint8_t)words;
+    front[6] = (uint8_t)(2 * words);
+    value = __real_cedarskein_check_value(front, n);
+    front[n] = (uint8_t)(value & 0xFF);
+    front[n + 1] = (uint8_t)(value >> 8);
+    __real_cedarskein_why(sheet, sheet_n, bank, bank_n, front, n + 2, &front_reason, &front_address);
+    if (front_reason != CEDARSKEIN_ITEM)
+        return;
+    *reason = front_reason;
+    *address = front_address;
+}
+
+/* Another address than the one to tell. */
+static void spoil_address(const uint8_t *frame, uint32_t *reason, uint32_t *address)
+{
+    if (breach_is("why_address_is_cut"))
+        *address &= 0xFFFF;
+    if (breach_is("why_address_is_the_start") && *reason == CEDARSKEIN_ADDRESS)
+        *address = word_of(frame + 2);
+    if (breach_is("why_address_one_behind") && *reason == CEDARSKEIN_ADDRESS)
+        *address += 1;
+    if (breach_is("why_clear_has_no_address") && *reason == CEDARSKEIN_ADDRESS && frame[1] == 0x05)
+        *address = 0;
+    if (breach_is("why_item_at_its_lower_half") && *reason == CEDARSKEIN_ITEM && *address < word_of(frame + 2))
+        *address += 1;
+    if (breach_is("why_item_is_the_start") && *reason == CEDARSKEIN_ITEM)
+        *address = word_of(frame + 2);
+    if (breach_is("why_count_has_an_address") && *reason == CEDARSKEIN_COUNT)
+        *address = word_of(frame + 2);
+    if (breach_is("why_address_written_wide"))
+        address[1] = 0;
+}
+
+/* What is written or read beside the two numbers. */
+static void spoil_lent(uint8_t *bank, size_t bank_n, uint8_t *frame, size_t frame_n)
+{
+    volatile uint8_t read = 0;
+    if (breach_is("why_writes_the_bank") && bank_n > 0)
+        bank[bank_n - 1] ^= 1;
+    if (breach_is("why_writes_the_frame") && frame_n > 0)
+        frame[frame_n - 1] ^= 1;
+    if (breach_is("why_reads_behind_the_frame") && frame_n > 0)
+        read = *(volatile const uint8_t *)(frame + frame_n);
+    (void)read;
+}
+
+static void spoil_refused_why(uint32_t reason_before, uint32_t *reason, uint32_t *address)
+{
+    if (breach_is("refused_why_has_a_reason"))
+        *reason = CEDARSKEIN_TOO_SHORT;
+    if (breach_is("refused_why_has_an_address"))
+        *address = 1;
+    if (breach_is("refused_why_leaves_the_reason"))
+        *reason = reason_before;
+}
+
+uint32_t __wrap_cedarskein_why(const uint8_t *sheet, size_t sheet_n, const uint8_t *bank, size_t bank_n, const uint8_t *frame,
+                               size_t frame_n, uint32_t *reason, uint32_t *address)
+{
+    uint32_t reason_before = *reason, address_before = *address;
+    uint32_t number = __real_cedarskein_why(sheet, sheet_n, bank, bank_n, frame, frame_n, reason, address);
+    spoil_lent((uint8_t *)(uintptr_t)bank, bank_n, (uint8_t *)(uintptr_t)frame, frame_n);
+    if (breach_is("why_leaves_the_address") && *address == 0)
+        *address = address_before;
+    if (breach_is("why_size_before_sheet") && number == 2 && sheet_n > 12 && bank_n != 2 * word_of(sheet + 10) + 2)
+        return 3;
+    if (breach_is("why_of_an_unsound_bank") && number == 4)
+        return 0;
+    if (breach_is("why_item_before_address") && *reason == CEDARSKEIN_ADDRESS && frame[1] == 0x10)
+        spoil_long_write(sheet, sheet_n, bank, bank_n, frame, reason, address);
+    if (number == 0) {
+        spoil_reason(frame, frame_n, reason, address);
+        spoil_address(frame, reason, address);
+    } else {
+        spoil_refused_why(reason_before, reason, address);
+    }
     return number;
 }

@@ -19,6 +19,7 @@ failing() {
         try "$test" "$@" "$folder/broken_$test"
     done
     try set_p "$@" "$folder/broken_rows" "$folder/broken.out" "case set P" <"$host/set_p.rows"
+    try reasons "$@" "$folder/broken_rows" "$folder/broken.out" "the reasons" <"$host/reasons.rows"
     try cases "$@" "$folder/broken_rows" "$folder/broken.out" "cases" <"$host/../crates/cases/stdin"
 }
 

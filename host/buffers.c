@@ -18,6 +18,21 @@ static uint32_t number_of(size_t out_n, int passes)
     return passes ? CEDARSKEIN_DONE : CEDARSKEIN_SILENCE;
 }
 
+/* The reason for a frame of n bytes: its length, or else the fault that it has. */
+static uint32_t reason_of(size_t n, uint32_t fault)
+{
+    if (n < 4)
+        return CEDARSKEIN_TOO_SHORT;
+    return n > CEDARSKEIN_LONGEST_FRAME ? CEDARSKEIN_TOO_LONG : fault;
+}
+
+/* Why goes by the frame alone, whatever out is. */
+static void told_why(uint32_t fault, const char *what)
+{
+    expect_number(CEDARSKEIN_DONE, call_why(&meter), what);
+    expect_number(reason_of(meter.frame.n, fault), meter.reason, what);
+}
+
 /* Noise behind a station and a function that no sheet allows, with a right check: error 01 where the length is 4 to 100. */
 static void unknown_function(size_t n)
 {
@@ -29,6 +44,7 @@ static void unknown_function(size_t n)
         meter.frame.bytes[1] = 7;
     }
     seal(meter.frame.bytes, n);
+    told_why(CEDARSKEIN_FUNCTION, "why, with a right check");
     expect_number(number_of(meter.out.n, passes), call_answer(&meter), "a right check");
     if (!passes || meter.out.n < CEDARSKEIN_LEAST_OUT)
         return;
@@ -54,9 +70,11 @@ static void frame_of(size_t n, size_t out_n)
     if (n < 2)
         return;
     meter.frame.bytes[n - 1] ^= 0x80;
+    told_why(CEDARSKEIN_CHECK, "why, with a wrong check");
     silent("a wrong check");
     meter.frame.bytes[0] = 2;
     seal(meter.frame.bytes, n);
+    told_why(CEDARSKEIN_STATION, "why, for another station");
     silent("another station");
 }
 
@@ -76,6 +94,8 @@ static void shifted(size_t shift)
     meter_frame(&meter, write_two, sizeof write_two, (3 * shift + 1) % LENT_SHIFTS);
     lend(&meter.out, 101, (5 * shift + 2) % LENT_SHIFTS);
     lend(&meter.words, 22, (7 * shift + 3) % LENT_SHIFTS);
+    expect_number(0, call_why(&meter), "why");
+    expect_number(CEDARSKEIN_NO_REASON, meter.reason, "the reason");
     expect_number(0, call_answer(&meter), "answer");
     expect_number(8, meter.length, "length");
     expect_number(0x1388, word_at(meter.bank.bytes, 0x10), "0110 is then");
@@ -97,6 +117,7 @@ static void null_sheet(void)
     expect_number(2, call_bank_fresh(&meter), "bank_fresh");
     expect_number(2, call_post(&meter, 0x0200), "post");
     expect_number(2, call_set_mark(&meter, 0), "set_mark");
+    expect_number(2, call_why(&meter), "why");
     expect_number(2, call_answer(&meter), "answer");
 }
 
@@ -109,6 +130,7 @@ static void null_bank(void)
     expect_number(3, call_bank_fresh(&meter), "bank_fresh");
     expect_number(3, call_post(&meter, 0x0200), "post");
     expect_number(3, call_set_mark(&meter, 0), "set_mark");
+    expect_number(3, call_why(&meter), "why");
     expect_number(3, call_answer(&meter), "answer");
 }
 
@@ -122,12 +144,15 @@ static void nulls(void)
     lend_null(&meter.words);
     expect_number(7, call_post(&meter, 0x0200), "post");
     lend_null(&meter.frame);
+    expect_number(0, call_why(&meter), "why without a frame");
+    expect_number(CEDARSKEIN_TOO_SHORT, meter.reason, "the reason without a frame");
     expect_number(1, call_answer(&meter), "answer without a frame");
     lend_null(&meter.out);
     expect_number(5, call_answer(&meter), "answer without out");
     lend_null(&meter.bank);
     lend_null(&meter.sheet);
     expect_number(2, call_answer(&meter), "answer without anything");
+    expect_number(2, call_why(&meter), "why without anything");
     expect_number(0xFFFF, cedarskein_check_value(NULL, 0), "check_value of nothing");
 }
 

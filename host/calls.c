@@ -6,8 +6,9 @@
 
 #include <string.h>
 
+/* The two numbers that a call hands back beside its own: length and rate, or reason and address. */
 struct numbers {
-    uint32_t front[4], length, between[4], rate, behind[4];
+    uint32_t front[4], first, between[4], second, behind[4];
 };
 
 uint16_t word_at(const uint8_t *bytes, size_t place)
@@ -145,14 +146,14 @@ uint32_t call_set_mark(struct meter *meter, uint32_t mark)
     return banked(meter, cedarskein_set_mark(meter->sheet.bytes, meter->sheet.n, meter->bank.bytes, meter->bank.n, mark));
 }
 
-/* Length and rate are written, and nothing around them. */
+/* The two numbers are written, and nothing around them. */
 static void expect_numbers_alone(const struct numbers *numbers)
 {
     struct numbers as_written;
     memset(&as_written, 0xA5, sizeof as_written);
-    as_written.length = numbers->length;
-    as_written.rate = numbers->rate;
-    expect(memcmp(&as_written, numbers, sizeof as_written) == 0, "the memory around length and rate is as before");
+    as_written.first = numbers->first;
+    as_written.second = numbers->second;
+    expect(memcmp(&as_written, numbers, sizeof as_written) == 0, "the memory around the two numbers is as before");
 }
 
 /* A reply: it passes, it goes out at the rate before the frame from the station before the frame, and out behind it is as before. */
@@ -187,9 +188,9 @@ uint32_t call_answer(struct meter *meter)
     memset(&numbers, 0xA5, sizeof numbers);
     keep_all(meter);
     number = cedarskein_answer(sheet->bytes, sheet->n, bank->bytes, bank->n, meter->frame.bytes, meter->frame.n,
-                               meter->out.bytes, meter->out.n, &numbers.length, &numbers.rate);
-    meter->length = numbers.length;
-    meter->rate = numbers.rate;
+                               meter->out.bytes, meter->out.n, &numbers.first, &numbers.second);
+    meter->length = numbers.first;
+    meter->rate = numbers.second;
     expect_left_alone(meter);
     expect_numbers_alone(&numbers);
     if (number == CEDARSKEIN_DONE) {
@@ -199,4 +200,31 @@ uint32_t call_answer(struct meter *meter)
         expect_nothing_written(meter);
     }
     return number;
+}
+
+/* A reason of the header, none with a refusal; and an address where the reason has one. */
+static void expect_told(const struct meter *meter, uint32_t number)
+{
+    expect(meter->reason <= CEDARSKEIN_ITEM, "a reason is 0 to 10");
+    expect(meter->address <= 0x10000, "an address is 0 to 10000");
+    if (number != CEDARSKEIN_DONE)
+        expect_number(CEDARSKEIN_NO_REASON, meter->reason, "the reason of a refused call");
+    if (meter->reason != CEDARSKEIN_ADDRESS && meter->reason != CEDARSKEIN_ITEM)
+        expect_number(0, meter->address, "the address where the reason has none");
+}
+
+/* Whatever is told, all that is lent is only read. */
+uint32_t call_why(struct meter *meter)
+{
+    struct numbers numbers;
+    uint32_t number;
+    memset(&numbers, 0xA5, sizeof numbers);
+    keep_all(meter);
+    number = cedarskein_why(meter->sheet.bytes, meter->sheet.n, meter->bank.bytes, meter->bank.n, meter->frame.bytes,
+                            meter->frame.n, &numbers.first, &numbers.second);
+    meter->reason = numbers.first;
+    meter->address = numbers.second;
+    expect_numbers_alone(&numbers);
+    expect_told(meter, number);
+    return judged(meter, number);
 }

@@ -6,7 +6,8 @@
 
 struct meter {
     struct lent sheet, bank, frame, out, words;
-    uint32_t length, rate; /* of the last frame */
+    uint32_t length, rate;    /* of the last frame answered */
+    uint32_t reason, address; /* of the last frame asked about */
 };
 
 /* A sheet of n bytes, a bank of the size that it asks for, made fresh (noise where the sheet is refused), the frame
@@ -32,5 +33,6 @@ uint32_t call_bank_fresh(struct meter *meter);
 uint32_t call_post(struct meter *meter, uint32_t address);
 uint32_t call_set_mark(struct meter *meter, uint32_t mark);
 uint32_t call_answer(struct meter *meter);
+uint32_t call_why(struct meter *meter);
 
 #endif

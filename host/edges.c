@@ -71,9 +71,18 @@ static uint32_t answer(void)
     return cedarskein_answer(sheet.bytes, sheet.n, bank.bytes, bank.n, frame.bytes, frame.n, out.bytes, out.n, &length, &rate);
 }
 
+/* Why, of the same frame: silence where it says so, and else a reply. */
+static void told_why(uint32_t *reason, uint32_t *address)
+{
+    expect_number(CEDARSKEIN_DONE, cedarskein_why(sheet.bytes, sheet.n, bank.bytes, bank.n, frame.bytes, frame.n, reason, address), "why");
+    expect_number((CEDARSKEIN_TOO_SHORT <= *reason && *reason <= CEDARSKEIN_STATION) || *reason == CEDARSKEIN_BODY_LENGTH
+                      ? CEDARSKEIN_SILENCE : CEDARSKEIN_DONE, answer(), "the answer that the reason says");
+}
+
 /* Noise behind each function in turn, with a right check: whatever it is answered, nothing beyond is touched. */
 static void frame_of(size_t n, uint8_t function)
 {
+    uint32_t reason, address;
     at_case("a frame of %lu bytes, function %02X, at the %s", (unsigned long)n, function, edge_name());
     edge_noise(&frame, n);
     if (n > 1) {
@@ -81,20 +90,31 @@ static void frame_of(size_t n, uint8_t function)
         frame.bytes[1] = function;
     }
     seal(frame.bytes, n);
-    expect(answer() <= CEDARSKEIN_SILENCE, "a reply or silence");
+    told_why(&reason, &address);
 }
 
-/* An area read whole, so that a step too far leaves the bank; and posted to, which gives a number by its access. */
-static void whole_area(uint16_t first, uint16_t count, uint32_t posted)
+static void read_of(uint16_t first, uint16_t count)
 {
     uint8_t bytes[8] = { 0, 3 };
-    at_case("count %u from %04X on, at the %s", count, first, edge_name());
     bytes[0] = station_of(sheet.bytes, bank.bytes);
     set_word(bytes, 1, first);
     set_word(bytes, 2, count);
     seal(bytes, sizeof bytes);
     edge_copy(&frame, bytes, sizeof bytes);
-    expect_number(CEDARSKEIN_DONE, answer(), "a read");
+}
+
+/* An area read whole, so that a step too far leaves the bank; and posted to, which gives a number by its access. One more is in no area. */
+static void whole_area(uint16_t first, uint16_t count, uint32_t posted)
+{
+    uint32_t reason, address;
+    at_case("count %u from %04X on, at the %s", count, first, edge_name());
+    read_of(first, (uint16_t)(count + 1));
+    told_why(&reason, &address);
+    expect_number(CEDARSKEIN_ADDRESS, reason, "the reason for a read of one more");
+    expect_number((uint32_t)first + count, address, "the address of a read of one more");
+    read_of(first, count);
+    told_why(&reason, &address);
+    expect_number(CEDARSKEIN_NO_REASON, reason, "the reason for a read");
     edge_noise(&words, 2 * (size_t)count);
     expect_number(posted, cedarskein_post(sheet.bytes, sheet.n, bank.bytes, bank.n, first, words.bytes, words.n), "a post");
     expect_number(CEDARSKEIN_DONE, cedarskein_set_mark(sheet.bytes, sheet.n, bank.bytes, bank.n, 1), "the mark");

@@ -67,6 +67,27 @@ static void posted_and_marked(void)
     expect(bank[68] == 0 && bank[69] == 1, "the mark is the last word");
 }
 
+/* A read of one register too many: the address behind the area, and the reasons' numbers. */
+static void reasons(void)
+{
+    static const int numbers[11] = { CEDARSKEIN_NO_REASON, CEDARSKEIN_TOO_SHORT, CEDARSKEIN_TOO_LONG, CEDARSKEIN_CHECK, CEDARSKEIN_STATION,
+                                     CEDARSKEIN_FUNCTION, CEDARSKEIN_BODY_LENGTH, CEDARSKEIN_COUNT, CEDARSKEIN_ADDRESS,
+                                     CEDARSKEIN_CLEAR_VALUE, CEDARSKEIN_ITEM };
+    static uint8_t bank[CEDARSKEIN_UX_BANK_SIZE];
+    uint8_t frame[8] = { 0x01, 0x03, 0x01, 0x00, 0x00, 0x18 };
+    uint16_t value = cedarskein_check_value(frame, 6);
+    uint32_t reason = 99, address = 99;
+    int i;
+    frame[6] = (uint8_t)(value & 0xFF);
+    frame[7] = (uint8_t)(value >> 8);
+    for (i = 0; i < 11; i++)
+        expect(numbers[i] == i, "the reasons are 0 to 10");
+    cedarskein_bank_fresh(cedarskein_ux_sheet, CEDARSKEIN_UX_SHEET_SIZE, bank, sizeof bank);
+    expect(cedarskein_why(cedarskein_ux_sheet, CEDARSKEIN_UX_SHEET_SIZE, bank, sizeof bank, frame, sizeof frame, &reason, &address)
+               == CEDARSKEIN_DONE, "why");
+    expect(reason == CEDARSKEIN_ADDRESS && address == 0x0117, "the reason and the address");
+}
+
 static void versions(void)
 {
     char version[30];
@@ -80,6 +101,7 @@ int main(void)
     sheets();
     next_rate_and_station();
     posted_and_marked();
+    reasons();
     versions();
     return failures != 0;
 }

@@ -50,9 +50,12 @@ static void all_calls(unsigned breaks)
     expect_number(first_of(bank), call_bank_check(&meter), "bank_check");
     expect_number(first_of(breaks & ~(unsigned)SMALL_OUT), call_post(&meter, address), "post");
     expect_number(first_of(bank | (breaks & BAD_INPUT)), call_set_mark(&meter, breaks & BAD_INPUT ? 2 : 1), "set_mark");
+    expect_number(first_of(bank), call_why(&meter), "why");
     expect_number(refused, call_answer(&meter), "answer");
     meter.frame.bytes[0] = 2;
     seal(meter.frame.bytes, meter.frame.n);
+    expect_number(first_of(bank), call_why(&meter), "why, of a frame for another station");
+    expect_number(bank ? CEDARSKEIN_NO_REASON : CEDARSKEIN_STATION, meter.reason, "the reason, of a frame for another station");
     expect_number(refused ? refused : 1, call_answer(&meter), "answer to a frame for another station");
     expect_number(first_of(breaks & (BAD_SHEET | BAD_SIZE)), call_bank_fresh(&meter), "bank_fresh");
 }
@@ -63,6 +66,7 @@ static void same_number(uint32_t number)
     expect_number(number, call_bank_check(&meter), "bank_check");
     expect_number(number, call_post(&meter, 0x0200), "post");
     expect_number(number, call_set_mark(&meter, 1), "set_mark");
+    expect_number(number, call_why(&meter), "why");
     expect_number(number, call_answer(&meter), "answer");
 }
 

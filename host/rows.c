@@ -1,6 +1,8 @@
-/* Rows of cases through the archive. The rows are lines of standard input, as crates/cases/src/main.rt says; one letter is
- * added for the check value:
- *   C bytes value name   the check value of the bytes
+/* Rows of cases through the archive. The rows are lines of standard input, as crates/cases/src/main.rt says; three letters are
+ * added, for the check value and for why:
+ *   C bytes value name            the check value of the bytes
+ *   Y frame reason address name   the reason for a frame without its check, which is put behind it, and the address told; both hexadecimal
+ *   Z frame reason address name   the same for a frame as it is
  * The file that is named first gets a line for each row, the same that the program cases writes. The second word says what the rows are. */
 #include "calls.h"
 
@@ -127,6 +129,33 @@ static void ask(const char *line, int whole)
     say_verdict(as_expected(number, expected, expected_n));
 }
 
+/* A field as one number, upper byte first. */
+static uint32_t number_field(const char **line)
+{
+    uint8_t bytes[4];
+    size_t n = field(line, bytes, sizeof bytes), i;
+    uint32_t value = 0;
+    for (i = 0; i < n; i++)
+        value = 256 * value + bytes[i];
+    return value;
+}
+
+static void ask_why(const char *line, int whole)
+{
+    uint8_t frame[130];
+    size_t n = field(&line, frame, 128);
+    uint32_t reason = number_field(&line), address = number_field(&line);
+    uint32_t number;
+    if (whole)
+        lend_copy(&meter.frame, frame, n, rows % LENT_SHIFTS);
+    else
+        meter_frame(&meter, frame, n + 2, rows % LENT_SHIFTS);
+    number = call_why(&meter);
+    fprintf(lines, "%s: expected reason %lu at %04lX, got %lu at %04lX", line, (unsigned long)reason, (unsigned long)address,
+            (unsigned long)meter.reason, (unsigned long)meter.address);
+    say_verdict(number == CEDARSKEIN_DONE && meter.reason == reason && meter.address == address);
+}
+
 static void held(const char *line)
 {
     uint16_t place = word_field(&line);
@@ -168,6 +197,8 @@ static void run(char letter, const char *line)
     case 'H': held(line); break;
     case 'N': number(line); break;
     case 'C': check_value(line); break;
+    case 'Y': ask_why(line, 0); break;
+    case 'Z': ask_why(line, 1); break;
     case '#': break;
     default: fprintf(lines, "no such letter: %c", letter); say_verdict(0);
     }

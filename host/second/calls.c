@@ -25,8 +25,12 @@ uint32_t cedarskein_answer(const uint8_t *sheet, size_t sheet_n,
                            const uint8_t *frame, size_t frame_n,
                            uint8_t *out, size_t out_n,
                            uint32_t *length, uint32_t *rate);
+uint32_t cedarskein_why(const uint8_t *sheet, size_t sheet_n,
+                        const uint8_t *bank, size_t bank_n,
+                        const uint8_t *frame, size_t frame_n,
+                        uint32_t *reason, uint32_t *address);
 
-/* The nine functions of one side. */
+/* The ten functions of one side. */
 struct functions {
     uint16_t (*check_start)(void);
     uint16_t (*check_take)(uint16_t, uint8_t);
@@ -38,6 +42,8 @@ struct functions {
     uint32_t (*set_mark)(const uint8_t *, size_t, uint8_t *, size_t, uint32_t);
     uint32_t (*answer)(const uint8_t *, size_t, uint8_t *, size_t, const uint8_t *, size_t,
                        uint8_t *, size_t, uint32_t *, uint32_t *);
+    uint32_t (*why)(const uint8_t *, size_t, const uint8_t *, size_t, const uint8_t *, size_t,
+                    uint32_t *, uint32_t *);
 };
 
 enum { LIBRARY, SECOND, SIDES };
@@ -47,15 +53,15 @@ static const char *const side_names[SIDES] = { "library", "second" };
 static const struct functions sides[SIDES] = {
     { cedarskein_check_start, cedarskein_check_take, cedarskein_check_value,
       cedarskein_sheet_check, cedarskein_bank_check, cedarskein_bank_fresh,
-      cedarskein_post, cedarskein_set_mark, cedarskein_answer },
+      cedarskein_post, cedarskein_set_mark, cedarskein_answer, cedarskein_why },
     { second_check_start, second_check_take, second_check_value,
       second_sheet_check, second_bank_check, second_bank_fresh,
-      second_post, second_set_mark, second_answer }
+      second_post, second_set_mark, second_answer, second_why }
 };
 
 static const char *const call_names[CALL_COUNT] = {
     "check_start", "check_take", "check_value", "sheet_check", "bank_check", "bank_fresh",
-    "post", "set_mark", "answer"
+    "post", "set_mark", "answer", "why"
 };
 
 static const char *const part_names[PART_COUNT] = { "sheet", "bank", "bytes", "out" };
@@ -93,17 +99,19 @@ void print_call(const struct call *call)
 
 static void print_side(int side, const struct outcome *outcome)
 {
-    printf(" %s: number %" PRIu32 ", length %" PRIu32 ", rate %" PRIu32 "\n", side_names[side],
-           outcome->number, outcome->length, outcome->rate);
+    printf(" %s: number %" PRIu32 ", length %" PRIu32 ", rate %" PRIu32 ", reason %" PRIu32
+           ", address %04" PRIX32 "\n", side_names[side], outcome->number, outcome->length,
+           outcome->rate, outcome->reason, outcome->address);
     print_bytes("bank after", lent_bytes(&lent[side][PART_BANK]), lent[side][PART_BANK].n);
     print_bytes("out after", lent_bytes(&lent[side][PART_OUT]), lent[side][PART_OUT].n);
 }
 
 /* ---- One side ---- */
 
-/* Length and rate stand between guards of their own and hold noise before. */
+/* Length and rate, or reason and address, stand between guards of their own
+ * and hold noise before. */
 struct handed_back {
-    uint32_t guard_0, length, guard_1, rate, guard_2;
+    uint32_t guard_0, first, guard_1, second, guard_2;
 };
 
 enum { GUARD = 0x5AA5C33C };
@@ -113,7 +121,14 @@ static uint32_t ask_answer(const struct functions *side, struct lent *part,
 {
     return side->answer(part[PART_SHEET].at, part[PART_SHEET].n, part[PART_BANK].at,
                         part[PART_BANK].n, part[PART_BYTES].at, part[PART_BYTES].n,
-                        part[PART_OUT].at, part[PART_OUT].n, &back->length, &back->rate);
+                        part[PART_OUT].at, part[PART_OUT].n, &back->first, &back->second);
+}
+
+static uint32_t ask_why(const struct functions *side, struct lent *part, struct handed_back *back)
+{
+    return side->why(part[PART_SHEET].at, part[PART_SHEET].n, part[PART_BANK].at,
+                     part[PART_BANK].n, part[PART_BYTES].at, part[PART_BYTES].n, &back->first,
+                     &back->second);
 }
 
 static uint32_t ask(const struct functions *side, const struct call *call, struct lent *part,
@@ -134,7 +149,8 @@ static uint32_t ask(const struct functions *side, const struct call *call, struc
     case CALL_BANK_FRESH: return side->bank_fresh(sheet, sheet_n, bank, bank_n);
     case CALL_POST: return side->post(sheet, sheet_n, bank, bank_n, call->value, bytes, bytes_n);
     case CALL_SET_MARK: return side->set_mark(sheet, sheet_n, bank, bank_n, call->value);
-    default: return ask_answer(side, part, back);
+    case CALL_ANSWER: return ask_answer(side, part, back);
+    default: return ask_why(side, part, back);
     }
 }
 
@@ -149,12 +165,19 @@ static bool all_back(int side)
     return kept;
 }
 
-/* The sheet and the frame or posted bytes are lent for reading only. */
+/* The sheet and the frame or posted bytes are lent for reading only, and to
+ * two calls the bank too. */
+static bool is_only_read(enum call_sort sort, int part)
+{
+    return part == PART_SHEET || part == PART_BYTES
+        || (part == PART_BANK && (sort == CALL_BANK_CHECK || sort == CALL_WHY));
+}
+
 static bool read_parts_kept(int side, const struct call *call)
 {
     bool kept = true;
     for (int part = 0; part < PART_COUNT; part++)
-        if ((part == PART_SHEET || part == PART_BYTES) && call->part_n[part] > 0
+        if (is_only_read(call->sort, part) && call->part_n[part] > 0
             && memcmp(lent_bytes(&lent[side][part]), call->part[part], call->part_n[part]) != 0) {
             printf("%s wrote into its %s\n", side_names[side], part_names[part]);
             kept = false;
@@ -162,17 +185,31 @@ static bool read_parts_kept(int side, const struct call *call)
     return kept;
 }
 
+/* The two numbers that were handed back, by what the call means with them. */
+static void take_numbers(enum call_sort sort, const struct handed_back *back,
+                         struct outcome *outcome)
+{
+    if (sort == CALL_ANSWER) {
+        outcome->length = back->first;
+        outcome->rate = back->second;
+    }
+    if (sort == CALL_WHY) {
+        outcome->reason = back->first;
+        outcome->address = back->second;
+    }
+}
+
 static bool run_side(int side, const struct call *call, struct outcome *outcome)
 {
     struct handed_back back = { GUARD, (uint32_t)noise(), GUARD, (uint32_t)noise(), GUARD };
     for (int part = 0; part < PART_COUNT; part++)
         lend(&lent[side][part], call->part[part], call->part_n[part], below(8), chance(50));
+    memset(outcome, 0, sizeof *outcome);
     outcome->number = ask(&sides[side], call, lent[side], &back);
-    outcome->length = call->sort == CALL_ANSWER ? back.length : 0;
-    outcome->rate = call->sort == CALL_ANSWER ? back.rate : 0;
+    take_numbers(call->sort, &back, outcome);
     bool kept = all_back(side) && read_parts_kept(side, call);
     if (back.guard_0 != GUARD || back.guard_1 != GUARD || back.guard_2 != GUARD) {
-        printf("%s wrote beside length or rate\n", side_names[side]);
+        printf("%s wrote beside its two numbers\n", side_names[side]);
         kept = false;
     }
     return kept;
@@ -193,7 +230,8 @@ static bool same_parts(void)
 static bool same_outcome(const struct outcome *one, const struct outcome *other)
 {
     return one->number == other->number && one->length == other->length
-        && one->rate == other->rate;
+        && one->rate == other->rate && one->reason == other->reason
+        && one->address == other->address;
 }
 
 bool same_on_both_sides(const struct call *call, struct outcome *outcome)

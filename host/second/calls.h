@@ -16,6 +16,7 @@ enum call_sort {
     CALL_POST,
     CALL_SET_MARK,
     CALL_ANSWER,
+    CALL_WHY,
     CALL_COUNT
 };
 
@@ -30,12 +31,13 @@ struct call {
     uint8_t byte;                       /* for the running state */
 };
 
+/* What a call hands back; 0 where it has no such thing. */
 struct outcome {
-    uint32_t number, length, rate;
+    uint32_t number, length, rate, reason, address;
 };
 
 /* Makes the call on both sides. False, with the whole call printed, if they
- * differ in a number, a length, a rate or any byte of any buffer, or if one of
+ * differ in what they hand back or in any byte of any buffer, or if one of
  * them wrote where it must not. The outcome and the lent buffers are those of
  * both. */
 bool same_on_both_sides(const struct call *call, struct outcome *outcome);

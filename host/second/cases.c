@@ -1,5 +1,6 @@
 /* The cases that 01 lists, run on both sides: the library and the second
- * statement must agree, and both must give what 01 writes. */
+ * statement must agree, and both must give what 01 writes. Each is asked about
+ * first: the reason is the one that 02 names for what 01 writes. */
 #include "calls.h"
 #include "second.h"
 #include "sheets_made.h"
@@ -21,47 +22,82 @@ struct frame_case {
     const char *frame;          /* checks left out */
     const char *reply;          /* empty for silence */
     struct stored after[WORDS]; /* what has changed; the rest stays */
+    enum second_reason reason;
+    uint32_t address;           /* told with the reason */
 };
 
 static const struct frame_case cases[] = {
     { "P1", MAP_UX, { { 0x0101, 1 }, { 0x0102, 0 } },
-      "01 03 01 01 00 02", "01 03 04 00 01 00 00", { { 0, 0 } } },
+      "01 03 01 01 00 02", "01 03 04 00 01 00 00", { { 0, 0 } },
+      REASON_NONE, 0 },
     { "P2", MAP_UX, { { 0, 0 } }, "01 10 01 0F 00 02 04 00 01 13 88", "01 10 01 0F 00 02",
-      { { 0x010F, 1 }, { 0x0110, 0x1388 } } },
-    { "P3", MAP_UX, { { 0, 0 } }, "01 06 01 0E 00 02", "01 06 01 0E 00 02", { { 0x010E, 2 } } },
+      { { 0x010F, 1 }, { 0x0110, 0x1388 } },
+      REASON_NONE, 0 },
+    { "P3", MAP_UX, { { 0, 0 } }, "01 06 01 0E 00 02", "01 06 01 0E 00 02", { { 0x010E, 2 } },
+      REASON_NONE, 0 },
     { "P4", MAP_UX, { { 0x0103, 0 }, { 0x0104, 0x9876 } },
-      "01 06 01 03 00 01", "01 86 03", { { 0, 0 } } },
+      "01 06 01 03 00 01", "01 86 03", { { 0, 0 } },
+      REASON_ITEM, 0x0103 },
     { "P5 stored", MAP_UX, { { 0x0103, 0 }, { 0x0104, 0x9876 } },
       "01 10 01 03 00 02 04 00 01 86 9F", "01 10 01 03 00 02",
-      { { 0x0103, 1 }, { 0x0104, 0x869F } } },
+      { { 0x0103, 1 }, { 0x0104, 0x869F } },
+      REASON_NONE, 0 },
     { "P5 refused", MAP_UX, { { 0x0103, 0 }, { 0x0104, 0x9876 } },
-      "01 10 01 03 00 02 04 00 01 86 A0", "01 90 03", { { 0, 0 } } },
+      "01 10 01 03 00 02 04 00 01 86 A0", "01 90 03", { { 0, 0 } },
+      REASON_ITEM, 0x0103 },
     { "P6", MAP_UX, { { 0, 0 } }, "01 10 01 01 00 03 06 00 04 00 02 00 00", "01 90 03",
-      { { 0x0101, 4 } } },
+      { { 0x0101, 4 } },
+      REASON_ITEM, 0x0102 },
     { "P7", MAP_UX, { { 0, 0 } }, "01 10 01 0E 00 02 04 00 02 00 02", "01 90 03",
-      { { 0x010E, 2 } } },
+      { { 0x010E, 2 } },
+      REASON_ITEM, 0x010F },
     { "P8 FFF6", MAP_UX, { { 0x0100, 5 } }, "01 06 01 00 FF F6", "01 06 01 00 FF F6",
-      { { 0x0100, 0xFFF6 } } },
+      { { 0x0100, 0xFFF6 } },
+      REASON_NONE, 0 },
     { "P8 003C", MAP_UX, { { 0, 0 } }, "01 06 01 00 00 3C", "01 06 01 00 00 3C",
-      { { 0x0100, 0x003C } } },
-    { "P8 FFF5", MAP_UX, { { 0, 0 } }, "01 06 01 00 FF F5", "01 86 03", { { 0, 0 } } },
-    { "P8 003D", MAP_UX, { { 0, 0 } }, "01 06 01 00 00 3D", "01 86 03", { { 0, 0 } } },
+      { { 0x0100, 0x003C } },
+      REASON_NONE, 0 },
+    { "P8 FFF5", MAP_UX, { { 0, 0 } }, "01 06 01 00 FF F5", "01 86 03", { { 0, 0 } },
+      REASON_ITEM, 0x0100 },
+    { "P8 003D", MAP_UX, { { 0, 0 } }, "01 06 01 00 00 3D", "01 86 03", { { 0, 0 } },
+      REASON_ITEM, 0x0100 },
     { "P9 23", MAP_UX, { { 0, 0 } }, "01 03 01 00 00 17",
       "01 03 2E FF F6 00 00 00 00 00 00 00 00 00 00 00 00 00 00 00 00 00 01 00 00 00 00 00 00 "
-      "00 01 00 01 00 00 00 00 00 00 00 00 00 00 00 00 00 00 00 00", { { 0, 0 } } },
-    { "P9 24", MAP_UX, { { 0, 0 } }, "01 03 01 00 00 18", "01 83 02", { { 0, 0 } } },
-    { "P9 0", MAP_UX, { { 0, 0 } }, "01 03 01 00 00 00", "01 83 03", { { 0, 0 } } },
+      "00 01 00 01 00 00 00 00 00 00 00 00 00 00 00 00 00 00 00 00", { { 0, 0 } },
+      REASON_NONE, 0 },
+    { "P9 24", MAP_UX, { { 0, 0 } }, "01 03 01 00 00 18", "01 83 02", { { 0, 0 } },
+      REASON_ADDRESS, 0x0117 },
+    { "P9 0", MAP_UX, { { 0, 0 } }, "01 03 01 00 00 00", "01 83 03", { { 0, 0 } },
+      REASON_BAD_COUNT, 0 },
     { "P10 0000", MAP_UX, { { MARK, 1 } }, "01 05 03 00 00 00", "01 05 03 00 00 00",
-      { { MARK, 0 } } },
-    { "P10 0001", MAP_UX, { { MARK, 1 } }, "01 05 03 00 00 01", "01 85 03", { { 0, 0 } } },
-    { "P10 0301", MAP_UX, { { MARK, 1 } }, "01 05 03 01 00 01", "01 85 02", { { 0, 0 } } },
-    { "P10 AS-WE", MAP_AS_WE, { { 0, 0 } }, "01 05 03 00 00 00", "01 85 01", { { 0, 0 } } },
+      { { MARK, 0 } },
+      REASON_NONE, 0 },
+    { "P10 0001", MAP_UX, { { MARK, 1 } }, "01 05 03 00 00 01", "01 85 03", { { 0, 0 } },
+      REASON_CLEAR_VALUE, 0 },
+    { "P10 0301", MAP_UX, { { MARK, 1 } }, "01 05 03 01 00 01", "01 85 02", { { 0, 0 } },
+      REASON_ADDRESS, 0x0301 },
+    { "P10 AS-WE", MAP_AS_WE, { { 0, 0 } }, "01 05 03 00 00 00", "01 85 01", { { 0, 0 } },
+      REASON_FUNCTION, 0 },
     { "P11 0010", MAP_AS_WE, { { 0, 0 } }, "01 06 01 09 00 10", "01 06 01 09 00 10",
-      { { 0x0109, 0x10 } } },
-    { "P11 0011", MAP_AS_WE, { { 0, 0 } }, "01 06 01 09 00 11", "01 86 03", { { 0, 0 } } },
-    { "function 83", MAP_UX, { { 0, 0 } }, "01 83 01 00 00 01", "01 83 01", { { 0, 0 } } },
-    { "06 at 0200", MAP_UX, { { 0, 0 } }, "01 06 02 00 00 01", "01 86 02", { { 0, 0 } } },
-    { "9-byte 06", MAP_UX, { { 0, 0 } }, "01 06 01 01 00 01 00", "", { { 0, 0 } } }
+      { { 0x0109, 0x10 } },
+      REASON_NONE, 0 },
+    { "P11 0011", MAP_AS_WE, { { 0, 0 } }, "01 06 01 09 00 11", "01 86 03", { { 0, 0 } },
+      REASON_ITEM, 0x0109 },
+    { "function 83", MAP_UX, { { 0, 0 } }, "01 83 01 00 00 01", "01 83 01", { { 0, 0 } },
+      REASON_FUNCTION, 0 },
+    { "06 at 0200", MAP_UX, { { 0, 0 } }, "01 06 02 00 00 01", "01 86 02", { { 0, 0 } },
+      REASON_ADDRESS, 0x0200 },
+    { "9-byte 06", MAP_UX, { { 0, 0 } }, "01 06 01 01 00 01 00", "", { { 0, 0 } },
+      REASON_BODY_LENGTH, 0 },
+    { "W1 lower half", MAP_UX, { { 0x0103, 1 } }, "01 06 01 04 86 A0", "01 86 03", { { 0, 0 } },
+      REASON_ITEM, 0x0103 },
+    { "W1 count 48", MAP_UX, { { 0, 0 } }, "01 03 04 00 00 30", "01 83 02", { { 0, 0 } },
+      REASON_BAD_COUNT, 0 },
+    { "W1 byte count", MAP_UX, { { 0, 0 } }, "01 10 01 01 00 02 02 00 01", "01 90 03",
+      { { 0, 0 } },
+      REASON_BAD_COUNT, 0 },
+    { "W1 station", MAP_UX, { { 0, 0 } }, "02 03 01 01 00 02", "", { { 0, 0 } },
+      REASON_STATION, 0 }
 };
 
 static int failed;
@@ -115,6 +151,18 @@ static void judge_case(const struct frame_case *one, const struct call *call,
     expect(memcmp(bank, part_after(PART_BANK), call->part_n[PART_BANK]) == 0, one->name, "bank");
 }
 
+/* Asked with the bank as it is before the frame, which stays as it is. */
+static void ask_why(const struct frame_case *one, struct call call)
+{
+    struct outcome why;
+    call.sort = CALL_WHY;
+    call.part_n[PART_OUT] = 0;
+    expect(same_on_both_sides(&call, &why), one->name, "the sides differ");
+    expect(why.number == NUMBER_DONE, one->name, "number of why");
+    expect(why.reason == one->reason, one->name, "reason");
+    expect(why.address == one->address, one->name, "address");
+}
+
 static void run_case(const struct frame_case *one)
 {
     static const uint8_t out[OUT_ROOM];
@@ -134,6 +182,7 @@ static void run_case(const struct frame_case *one)
     size_t frame_n = put_checked(one->frame, frame);
     struct call call = { CALL_ANSWER, { sheet, bank, frame, out },
                          { sheet_n, bank_n, frame_n, OUT_ROOM }, 0, 0 };
+    ask_why(one, call);
     expect(same_on_both_sides(&call, &outcome), one->name, "the sides differ");
     judge_case(one, &call, &outcome, after);
 }

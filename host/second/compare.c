@@ -6,6 +6,7 @@
  * counted was met at least 100 times; else 1. */
 #include "calls.h"
 #include "counts.h"
+#include "frames_faulty.h"
 #include "frames_made.h"
 #include "noise.h"
 #include "second.h"
@@ -34,6 +35,7 @@ struct subject {
 static struct subject subject;
 static struct counts counts;
 static uint64_t differences;
+static uint64_t calls_asked;
 
 static void met(enum special special)
 {
@@ -178,7 +180,7 @@ static bool choose_bank(struct call *call)
 {
     static uint8_t bank[BANK_ROOM];
     memcpy(bank, subject.bank, subject.bank_n);
-    bool own = chance(call->sort == CALL_ANSWER ? 88 : 75);
+    bool own = chance(call->sort == CALL_ANSWER || call->sort == CALL_WHY ? 88 : 75);
     call->part[PART_BANK] = bank;
     call->part_n[PART_BANK] = own ? subject.bank_n : spoil_bank(bank, subject.bank_n);
     return own;
@@ -310,6 +312,52 @@ static void count_frame(const struct call *call, const struct outcome *outcome)
         met(SPECIAL_SILENCE_SMALL_BUFFER);
 }
 
+/* ---- Counting why ---- */
+
+static void count_bad_count(const uint8_t *frame)
+{
+    uint32_t count = get16(frame + 4, 0);
+    if (count == 0)
+        met(SPECIAL_WHY_COUNT_0);
+    else
+        met(frame[1] == 0x03 ? SPECIAL_WHY_OVER_47 : SPECIAL_WHY_BYTE_COUNT);
+}
+
+static void count_bad_address(const uint8_t *frame, uint32_t address)
+{
+    if (frame[1] == 0x05)
+        met(SPECIAL_WHY_CLEAR_ADDRESS);
+    else
+        met(frame[1] == 0x03 ? SPECIAL_WHY_READ_ADDRESS : SPECIAL_WHY_WRITE_ADDRESS);
+    if (address > get16(frame + 2, 0))
+        met(SPECIAL_WHY_ADDRESS_BEHIND);
+    if (address == 0x10000)
+        met(SPECIAL_WHY_10000);
+}
+
+static void count_bad_item(const uint8_t *frame, uint32_t address)
+{
+    uint32_t start = get16(frame + 2, 0);
+    if (address == start)
+        met(SPECIAL_WHY_ITEM_AT_START);
+    else
+        met(address > start ? SPECIAL_WHY_ITEM_BEHIND : SPECIAL_WHY_ITEM_IN_FRONT);
+}
+
+static void count_why(const struct call *call, const struct outcome *why)
+{
+    const uint8_t *frame = call->part[PART_BYTES];
+    if (why->number != NUMBER_DONE || why->reason >= REASON_COUNT)
+        return;
+    counts.reason[why->reason]++;
+    if (why->reason == REASON_BAD_COUNT)
+        count_bad_count(frame);
+    if (why->reason == REASON_ADDRESS)
+        count_bad_address(frame, why->address);
+    if (why->reason == REASON_ITEM)
+        count_bad_item(frame, why->address);
+}
+
 /* ---- Making a call ---- */
 
 static bool has_empty_part(const struct call *call)
@@ -323,6 +371,7 @@ static bool has_empty_part(const struct call *call)
     case CALL_ANSWER:
         return call->part_n[PART_BANK] == 0 || call->part_n[PART_BYTES] == 0
             || call->part_n[PART_OUT] == 0;
+    case CALL_WHY: return call->part_n[PART_BANK] == 0 || call->part_n[PART_BYTES] == 0;
     default: return call->part_n[PART_BANK] == 0;
     }
 }
@@ -445,7 +494,7 @@ static void choose_out(struct call *call, bool large_enough)
     call->part_n[PART_OUT] = ONE_OF(100, 100, 100, 100, 101, 101, 300, 300, 256, 120);
     if (chance(2))
         call->part_n[PART_OUT] = OUT_ROOM;
-    if (!large_enough && chance(7))
+    if (!large_enough && chance(10))
         call->part_n[PART_OUT] = ONE_OF(0, 1, 50, 99, 99);
     noise_fill(out, call->part_n[PART_OUT]);
     call->part[PART_OUT] = out;
@@ -464,6 +513,74 @@ static void call_answer(void)
     keep_bank(&call, own);
 }
 
+/* The error code that goes out for a reason; 0 for silence and for a reply
+ * without error. */
+static uint8_t error_of_reason(const uint8_t *frame, uint32_t reason)
+{
+    switch (reason) {
+    case REASON_FUNCTION: return 1;
+    case REASON_BAD_COUNT: return frame[1] == 0x03 && get16(frame + 4, 0) > 47 ? 2 : 3;
+    case REASON_ADDRESS: return 2;
+    case REASON_CLEAR_VALUE: case REASON_ITEM: return 3;
+    default: return 0;
+    }
+}
+
+/* Whether the answer is the one that the reason says; a refusal is the same
+ * number for both. */
+static bool answer_fits(const struct call *call, const struct outcome *why,
+                        const struct outcome *answer)
+{
+    if (why->number != NUMBER_DONE)
+        return answer->number == why->number;
+    const uint8_t *frame = call->part[PART_BYTES];
+    const uint8_t *out = part_after(PART_OUT);
+    uint8_t error = error_of_reason(frame, why->reason);
+    if (error == 0 && why->reason != REASON_NONE)
+        return answer->number == NUMBER_SILENCE;
+    if (answer->number != NUMBER_DONE)
+        return false;
+    if (error == 0)
+        return out[1] == frame[1] && (out[1] & 0x80) == 0;
+    return answer->length == 5 && out[1] == (frame[1] | 0x80) && out[2] == error;
+}
+
+/* Whether the frame with its faults gets the reason and the address that it was
+ * made for. */
+static bool as_made(const struct faulty *faulty, const struct outcome *why)
+{
+    bool several = (faulty->faults & (faulty->faults - 1)) != 0;
+    if (several)
+        counts.reason_of_several[faulty->reason]++;
+    return why->reason == faulty->reason && why->address == faulty->address;
+}
+
+/* A frame is asked about, then answered: the bank is the same for both. */
+static void call_why(void)
+{
+    static struct faulty faulty;
+    struct call call = new_call(CALL_WHY);
+    bool own = choose_bank(&call);
+    bool known = chance(50);
+    if (known)
+        make_faulty(&subject.made, subject.bank, &faulty);
+    else
+        faulty.n = make_frame(&subject.made, subject.bank, faulty.frame);
+    call.part[PART_BYTES] = faulty.frame;
+    call.part_n[PART_BYTES] = faulty.n;
+    struct outcome why = make_call(&call);
+    count_why(&call, &why);
+    if (known && own && why.number == NUMBER_DONE && sheet_is_as_made() && !as_made(&faulty, &why))
+        differs(&call, "the reason is not the one that the frame was made for");
+    call.sort = CALL_ANSWER;
+    choose_out(&call, true);
+    struct outcome answer = make_call(&call);
+    count_frame(&call, &answer);
+    if (!answer_fits(&call, &why, &answer))
+        differs(&call, "the answer is not the one that the reason says");
+    keep_bank(&call, own);
+}
+
 /* Whether the library was silent and left all as it was. */
 static bool is_untouched(const struct call *call, const struct outcome *outcome)
 {
@@ -472,7 +589,8 @@ static bool is_untouched(const struct call *call, const struct outcome *outcome)
         && memcmp(call->part[PART_OUT], part_after(PART_OUT), call->part_n[PART_OUT]) == 0;
 }
 
-/* A passing frame, damaged: whatever the frame, the answer is silence. */
+/* A passing frame, damaged: whatever the frame, the reason is its check, and
+ * the answer is silence. */
 static void call_damaged(void)
 {
     static uint8_t frame[FRAME_ROOM];
@@ -482,12 +600,24 @@ static void call_damaged(void)
     call.part_n[PART_BYTES] = make_passing_frame(&subject.made, subject.bank, frame);
     call.part[PART_BYTES] = frame;
     enum damage damage = damage_frame(frame, call.part_n[PART_BYTES]);
-    choose_out(&call, true);
+    call.sort = CALL_WHY;
     struct outcome outcome = make_call(&call);
+    count_why(&call, &outcome);
+    if (outcome.number != NUMBER_DONE || outcome.reason != REASON_CHECK)
+        differs(&call, "a damaged frame's reason is not its check");
+    call.sort = CALL_ANSWER;
+    choose_out(&call, true);
+    outcome = make_call(&call);
     count_frame(&call, &outcome);
     counts.damage[damage]++;
     if (!is_untouched(&call, &outcome))
         differs(&call, "a damaged frame was not met with silence");
+}
+
+/* Two calls are on one frame; the last call of a run may be left alone. */
+static bool is_room_for_two(void)
+{
+    return calls_asked - counts.calls >= 2;
 }
 
 static void some_call(void)
@@ -496,24 +626,26 @@ static void some_call(void)
     uint32_t sort = below(100);
     if (sort < 1)
         call_check(CALL_CHECK_START);
-    else if (sort < 4)
+    else if (sort < 2)
         call_check(CALL_CHECK_TAKE);
-    else if (sort < 7)
+    else if (sort < 4)
         call_check(CALL_CHECK_VALUE);
-    else if (sort < (sound ? 10 : 40))
+    else if (sort < (sound ? 6 : 38))
         call_sheet();
-    else if (sort < (sound ? 16 : 50))
+    else if (sort < (sound ? 11 : 49))
         call_bank(CALL_BANK_CHECK);
-    else if (sort < (sound ? 21 : 60))
+    else if (sort < (sound ? 15 : 59))
         call_bank(CALL_BANK_FRESH);
-    else if (sort < (sound ? 34 : 70))
+    else if (sort < (sound ? 27 : 69))
         call_post();
-    else if (sort < (sound ? 40 : 80))
+    else if (sort < (sound ? 32 : 79))
         call_mark();
-    else if (sort < 46 && sound)
+    else if (sort < (sound ? 59 : 90) || !is_room_for_two())
+        call_answer();
+    else if (sort < 64 && sound)
         call_damaged();
     else
-        call_answer();
+        call_why();
 }
 
 int main(int argc, char **argv)
@@ -521,6 +653,7 @@ int main(int argc, char **argv)
     uint64_t seed = argc > 1 ? strtoull(argv[1], NULL, 10) : 1;
     uint64_t calls = argc > 2 ? strtoull(argv[2], NULL, 10) : LEAST_CALLS;
     noise_seed(seed);
+    calls_asked = calls;
     while (counts.calls < calls) {
         if (subject.left == 0)
             make_subject();

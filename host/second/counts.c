@@ -32,7 +32,18 @@ static const char *const special_names[SPECIAL_COUNT] = {
     [SPECIAL_POST_OVER_AREAS] = "posted over two areas",
     [SPECIAL_7_BEFORE_6] = "7 where 6 holds too",
     [SPECIAL_NULL_SLICE] = "an empty slice lent",
-    [SPECIAL_CHAINED] = "on a bank changed before"
+    [SPECIAL_CHAINED] = "on a bank changed before",
+    [SPECIAL_WHY_COUNT_0] = "why: count 0",
+    [SPECIAL_WHY_OVER_47] = "why: a read of more than 47",
+    [SPECIAL_WHY_BYTE_COUNT] = "why: byte count not twice",
+    [SPECIAL_WHY_READ_ADDRESS] = "why: address of a read",
+    [SPECIAL_WHY_WRITE_ADDRESS] = "why: address of a write",
+    [SPECIAL_WHY_CLEAR_ADDRESS] = "why: address of a clear",
+    [SPECIAL_WHY_ADDRESS_BEHIND] = "why: address behind the first",
+    [SPECIAL_WHY_10000] = "why: address 10000",
+    [SPECIAL_WHY_ITEM_AT_START] = "why: item at the write's start",
+    [SPECIAL_WHY_ITEM_BEHIND] = "why: item behind the start",
+    [SPECIAL_WHY_ITEM_IN_FRONT] = "why: pair, lower half written"
 };
 
 /* The numbers that each call can hand back, one bit each. */
@@ -42,7 +53,8 @@ static const unsigned numbers_of[CALL_COUNT] = {
     [CALL_BANK_FRESH] = 1 << 0 | 1 << 2 | 1 << 3,
     [CALL_POST] = 1 << 0 | 1 << 2 | 1 << 3 | 1 << 4 | 1 << 6 | 1 << 7,
     [CALL_SET_MARK] = 1 << 0 | 1 << 2 | 1 << 3 | 1 << 4 | 1 << 7,
-    [CALL_ANSWER] = 1 << 0 | 1 << 1 | 1 << 2 | 1 << 3 | 1 << 4 | 1 << 5
+    [CALL_ANSWER] = 1 << 0 | 1 << 1 | 1 << 2 | 1 << 3 | 1 << 4 | 1 << 5,
+    [CALL_WHY] = 1 << 0 | 1 << 2 | 1 << 3 | 1 << 4
 };
 
 static bool line(const char *group, const char *name, uint64_t count, uint64_t least)
@@ -82,12 +94,27 @@ static bool rule_lines(const struct counts *counts, uint64_t least)
     return enough;
 }
 
+/* Each reason, and how often it was told where another one held behind it. A
+ * clear value and an item have none behind them. */
+static bool reason_lines(const struct counts *counts, uint64_t least)
+{
+    bool enough = true;
+    for (int reason = REASON_NONE; reason < REASON_COUNT; reason++)
+        enough = line("reason", second_reason_name((enum second_reason)reason),
+                      counts->reason[reason], least) && enough;
+    for (int reason = REASON_TOO_SHORT; reason <= REASON_ADDRESS; reason++)
+        enough = line("of several", second_reason_name((enum second_reason)reason),
+                      counts->reason_of_several[reason], least) && enough;
+    return enough;
+}
+
 bool counts_enough(const struct counts *counts, uint64_t least)
 {
     bool enough = call_lines(counts, least);
     for (int step = STEP_REFUSED + 1; step < STEP_COUNT; step++)
         enough = line("step", second_step_name((enum second_step)step), counts->step[step], least)
             && enough;
+    enough = reason_lines(counts, least) && enough;
     for (int special = 0; special < SPECIAL_COUNT; special++)
         enough = line("met", special_names[special], counts->special[special], least) && enough;
     for (int damage = DAMAGE_NONE + 1; damage < DAMAGE_COUNT; damage++)

@@ -33,6 +33,17 @@ enum special {
     SPECIAL_7_BEFORE_6,
     SPECIAL_NULL_SLICE,
     SPECIAL_CHAINED,
+    SPECIAL_WHY_COUNT_0,
+    SPECIAL_WHY_OVER_47,
+    SPECIAL_WHY_BYTE_COUNT,
+    SPECIAL_WHY_READ_ADDRESS,
+    SPECIAL_WHY_WRITE_ADDRESS,
+    SPECIAL_WHY_CLEAR_ADDRESS,
+    SPECIAL_WHY_ADDRESS_BEHIND,
+    SPECIAL_WHY_10000,
+    SPECIAL_WHY_ITEM_AT_START,
+    SPECIAL_WHY_ITEM_BEHIND,
+    SPECIAL_WHY_ITEM_IN_FRONT,
     SPECIAL_COUNT
 };
 
@@ -41,6 +52,8 @@ struct counts {
     uint64_t call[CALL_COUNT];
     uint64_t number[CALL_COUNT][8];
     uint64_t step[STEP_COUNT];
+    uint64_t reason[REASON_COUNT];
+    uint64_t reason_of_several[REASON_COUNT];
     uint64_t damage[DAMAGE_COUNT];
     uint64_t rule_alone[RULE_COUNT];
     uint64_t rule_first[RULE_COUNT];

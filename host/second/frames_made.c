@@ -5,7 +5,7 @@
 /* ---- Addresses, counts, stations ---- */
 
 /* An address at, inside or next to an area, or anywhere. */
-static uint32_t some_address(const struct made *made)
+uint32_t some_address(const struct made *made)
 {
     const struct made_area *area = &made->areas[below(made->areas_n)];
     uint32_t length = area->last - area->first + 1;
@@ -30,7 +30,7 @@ static uint32_t open_address(const struct made *made)
 }
 
 /* How many addresses from this one on lie in areas, one next to the other. */
-static uint32_t run_length(const struct made *made, uint32_t start, bool open)
+uint32_t run_length(const struct made *made, uint32_t start, bool open)
 {
     uint32_t n = 0;
     int area = made_area_of(made, start);
@@ -55,7 +55,7 @@ static uint32_t some_count(const struct made *made, uint32_t start)
     }
 }
 
-static uint8_t own_station(const struct made *made, const uint8_t *bank)
+uint8_t own_station(const struct made *made, const uint8_t *bank)
 {
     return (uint8_t)get16(bank, made->address_place);
 }
@@ -71,7 +71,7 @@ static uint8_t some_station(const struct made *made, const uint8_t *bank)
 /* ---- The check ---- */
 
 /* The right check behind n bytes, low byte first. */
-static size_t add_check(uint8_t *frame, size_t n)
+size_t add_check(uint8_t *frame, size_t n)
 {
     uint16_t value = second_check_value(frame, n);
     frame[n] = (uint8_t)(value & 0xFF);
@@ -96,7 +96,7 @@ static void spoil_check(uint8_t *frame, size_t n)
 
 /* ---- Bodies: all bytes but the check ---- */
 
-static size_t put_start(uint8_t *frame, uint32_t function, uint32_t start, uint32_t word)
+size_t put_start(uint8_t *frame, uint32_t function, uint32_t start, uint32_t word)
 {
     frame[1] = (uint8_t)function;
     put16(frame + 2, 0, start);
@@ -310,7 +310,7 @@ static size_t body_over_areas(const struct made *made, uint8_t *frame)
     return 7 + 2 * (size_t)count;
 }
 
-static uint32_t address_of_place(const struct made *made, uint32_t place)
+uint32_t address_of_place(const struct made *made, uint32_t place)
 {
     uint32_t area = made->areas_n - 1;
     while (made->areas[area].place > place)
@@ -357,13 +357,14 @@ static make_body *some_body(void)
 {
     static make_body *const bodies[] = {
         body_read, body_read, body_read, body_read, body_read,
-        body_long_read, body_long_read, body_long_read,
+        body_long_read, body_long_read, body_long_read, body_long_read,
         body_clear, body_clear, body_clear,
-        body_write_one, body_write_one, body_write_one, body_half, body_half, body_half,
+        body_write_one, body_write_one, body_write_one, body_half, body_half, body_half, body_half,
         body_write_many, body_write_many, body_write_many, body_write_many, body_write_many,
-        body_write_many, body_over_areas, body_over_areas, body_over_areas,
-        body_address_then_bad, body_address_then_bad, body_counts_off, body_counts_off,
-        body_length_off, body_length_off, body_cut_write,
+        body_write_many,
+        body_over_areas, body_over_areas, body_over_areas, body_over_areas, body_over_areas,
+        body_address_then_bad, body_address_then_bad, body_address_then_bad,
+        body_counts_off, body_counts_off, body_length_off, body_length_off, body_cut_write,
         body_other_function, body_noise, body_too_long
     };
     return bodies[below(sizeof bodies / sizeof bodies[0])];

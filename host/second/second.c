@@ -1096,3 +1096,169 @@ const char *second_step_name(enum second_step step)
 {
     return step_names[step];
 }
+
+/* ---- Why a frame gets silence or an error ----
+ * One question for each reason, in the order of rule Y1. A question is asked
+ * only of a frame that all questions in front of it have let pass, so it may
+ * take what they settle for granted. The steps above are not asked: a slip in
+ * them would otherwise be told here as well, and not be seen. */
+
+/* rule Y10 */
+static bool is_too_short(const struct query *query) { return query->n < 4; }
+
+/* rule Y11 */
+static bool is_too_long(const struct query *query) { return query->n > 100; }
+
+/* rule Y12 */
+static bool has_wrong_check(const struct query *query)
+{
+    return !check_agrees(query->frame, query->n);
+}
+
+/* rule Y13 */
+static bool is_for_another_station(const struct query *query)
+{
+    return query->frame[0] != word_at(query->bank, address_place(&query->sheet));
+}
+
+/* rule Y14 */
+static bool has_closed_function(const struct query *query)
+{
+    return (functions(&query->sheet) & function_bit(function_of(query))) == 0;
+}
+
+/* rule Y15: a 10 has its byte count at byte 6, if it is long enough to have
+ * one. */
+static bool has_other_length(const struct query *query)
+{
+    if (function_of(query) == WRITE_MANY)
+        return query->n < 9 || query->n != 9 + (size_t)query->frame[6];
+    return query->n != 8;
+}
+
+/* rule Y16: a read of too many is told here, ahead of its addresses, though it
+ * gets the error of an address. */
+static bool has_bad_count(const struct query *query)
+{
+    uint32_t count = count_or_value_of(query);
+    switch (function_of(query)) {
+    case READ: return count == 0 || count > 47;
+    case WRITE_MANY: return count == 0 || query->frame[6] != 2 * count;
+    default: return false;
+    }
+}
+
+/* How many addresses the frame is about, from its start upward. */
+static uint32_t addresses_of(const struct query *query)
+{
+    uint32_t function = function_of(query);
+    return function == READ || function == WRITE_MANY ? count_or_value_of(query) : 1;
+}
+
+/* Whether the function may be used at an address. No area has an address above
+ * FFFF. */
+static bool is_open(const struct query *query, uint32_t address)
+{
+    switch (function_of(query)) {
+    case READ: return area_of_address(&query->sheet, address) < area_count(&query->sheet);
+    case CLEAR: return address == clear_address(&query->sheet);
+    default: return address_has_access(&query->sheet, address, 3);
+    }
+}
+
+/* rule Y20: the lowest address that is not open; the one behind the last where
+ * all are. */
+static uint32_t first_closed(const struct query *query)
+{
+    uint32_t i = 0;
+    while (i < addresses_of(query) && is_open(query, start_of(query) + i))
+        i++;
+    return start_of(query) + i;
+}
+
+/* rule Y17 */
+static bool has_closed_address(const struct query *query)
+{
+    return first_closed(query) < start_of(query) + addresses_of(query);
+}
+
+/* rule Y18 */
+static bool has_clear_value(const struct query *query)
+{
+    return function_of(query) == CLEAR && count_or_value_of(query) != 0;
+}
+
+/* rule Y19 */
+static bool has_bad_item(const struct query *query)
+{
+    return is_write(query) && words_before_bad(query) < run_of(query);
+}
+
+/* rule Y21: the item's own first address, which lies in front of the write
+ * where that begins with a lower half. */
+static uint32_t bad_item_address(const struct query *query)
+{
+    const struct sheet *sheet = &query->sheet;
+    uint32_t place = item_place(sheet, written_item(query, words_before_bad(query)));
+    size_t area = area_of_place(sheet, place);
+    return area_first(sheet, area) + (place - area_place(sheet, area));
+}
+
+struct reason {
+    const char *name;
+    bool (*holds)(const struct query *);
+};
+
+static const struct reason reasons[REASON_COUNT] = {
+    [REASON_NONE] = { "none", NULL },
+    [REASON_TOO_SHORT] = { "too short", is_too_short },
+    [REASON_TOO_LONG] = { "too long", is_too_long },
+    [REASON_CHECK] = { "check", has_wrong_check },
+    [REASON_STATION] = { "station", is_for_another_station },
+    [REASON_FUNCTION] = { "function", has_closed_function },
+    [REASON_BODY_LENGTH] = { "body length", has_other_length },
+    [REASON_BAD_COUNT] = { "count", has_bad_count },
+    [REASON_ADDRESS] = { "address", has_closed_address },
+    [REASON_CLEAR_VALUE] = { "clear value", has_clear_value },
+    [REASON_ITEM] = { "item", has_bad_item }
+};
+
+/* rules Y1 and Y22 */
+static enum second_reason first_reason(const struct query *query)
+{
+    for (int reason = REASON_NONE + 1; reason < REASON_COUNT; reason++)
+        if (reasons[reason].holds(query))
+            return (enum second_reason)reason;
+    return REASON_NONE;
+}
+
+/* rules Y20 and Y21; no other reason has an address. */
+static uint32_t address_told(const struct query *query, enum second_reason reason)
+{
+    if (reason == REASON_ADDRESS)
+        return first_closed(query);
+    return reason == REASON_ITEM ? bad_item_address(query) : 0;
+}
+
+/* rule Y2 */
+uint32_t second_why(const uint8_t *sheet, size_t sheet_n,
+                    const uint8_t *bank, size_t bank_n,
+                    const uint8_t *frame, size_t frame_n,
+                    uint32_t *reason, uint32_t *address)
+{
+    struct query query = { { sheet, sheet_n }, bank, frame, frame_n };
+    *reason = REASON_NONE;
+    *address = 0;
+    uint32_t number = refuse_bank(&query.sheet, bank, bank_n);
+    if (number != NUMBER_DONE)
+        return number;
+    enum second_reason first = first_reason(&query);
+    *reason = first;
+    *address = address_told(&query, first);
+    return NUMBER_DONE;
+}
+
+const char *second_reason_name(enum second_reason reason)
+{
+    return reasons[reason].name;
+}

@@ -1,6 +1,6 @@
 /* A second statement of the rules of docs/RULES.md, for the host tests.
  *
- * The nine functions do what the library's nine do. They are written for
+ * The ten functions do what the library's ten do. They are written for
  * reading, rule by rule in that page's order, and share nothing with the library.
  * Words are two bytes, upper byte first. A null pointer with length 0 is an
  * empty slice. Frame and answer buffer must be separate memory. */
@@ -29,6 +29,10 @@ uint32_t second_answer(const uint8_t *sheet, size_t sheet_n,
                        const uint8_t *frame, size_t frame_n,
                        uint8_t *out, size_t out_n,
                        uint32_t *length, uint32_t *rate);
+uint32_t second_why(const uint8_t *sheet, size_t sheet_n,
+                    const uint8_t *bank, size_t bank_n,
+                    const uint8_t *frame, size_t frame_n,
+                    uint32_t *reason, uint32_t *address);
 
 /* The numbers of the rules N0 to N7. */
 enum second_number {
@@ -112,6 +116,22 @@ enum second_step {
     STEP_COUNT
 };
 
+/* The reasons for silence or an error, in their order: rule Y1. */
+enum second_reason {
+    REASON_NONE = 0,
+    REASON_TOO_SHORT = 1,
+    REASON_TOO_LONG = 2,
+    REASON_CHECK = 3,
+    REASON_STATION = 4,
+    REASON_FUNCTION = 5,
+    REASON_BODY_LENGTH = 6,
+    REASON_BAD_COUNT = 7,
+    REASON_ADDRESS = 8,
+    REASON_CLEAR_VALUE = 9,
+    REASON_ITEM = 10,
+    REASON_COUNT
+};
+
 /* The first rule that the sheet breaks, RULE_NONE if it is sound. */
 enum second_rule second_broken_rule(const uint8_t *sheet, size_t sheet_n);
 
@@ -126,5 +146,6 @@ enum second_step second_step(const uint8_t *sheet, size_t sheet_n,
 
 const char *second_rule_name(enum second_rule rule);
 const char *second_step_name(enum second_step step);
+const char *second_reason_name(enum second_reason reason);
 
 #endif
