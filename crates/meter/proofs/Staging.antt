@@ -27,7 +27,7 @@ use Rattle.meter_rules.specs.Steps.{failsCheck, otherStation, codeAllowed, func
 use Rattle.meter_rules.proofs.Order.{step-stops, step-passes, step-none, asks-for, value-is, bad-is, write-is, many-is, last-function, asks-write, read-address, clear-address, clear-value, write-value, write-bad}
 use Rattle.meter.specs.declared.stages.Addressed.{Addressed}
 use Rattle.meter.specs.declared.stages.Addressed.the-variants.{Here, Elsewhere}
-use Rattle.meter.specs.Stages.{addressedTo, judgedFrom, Known}
+use Rattle.meter.specs.Stages.{addressedTo, wrongLengthIn, judgedFrom, Known}
 
 module _ (given : Lent) (frame : List ℕ) where
   -- ---- the steps, one after another
@@ -184,21 +184,17 @@ module _ (given : Lent) (frame : List ℕ) {first : Passed} (is : first ≡ pass
 -- ---- the steps in the parts of the frame
 
 -- step 4 and step 5
-abbrev pub lengthWrong : Parts → Bool
-lengthWrong parts =
-    cond (eqb (parts .function) writesMany) (ltb (parts .length) 9 || not (eqb (parts .length) (9 + parts .bytes))) (not (eqb (parts .length) 8))
-
 abbrev pub countWrong : Parts → Bool
 countWrong parts =
     eqb (parts .function) reads && eqb (parts .second) 0
     || eqb (parts .function) writesMany && (eqb (parts .second) 0 || not (eqb (parts .bytes) (2 * parts .second)))
 
 module _ (given : Lent) (frame : List ℕ) {parts : Parts} (apart : parts ≡ partsOf frame) where
-  pub length-stops : lengthWrong parts ≡ true → WrongLength ≡ judgedFrom 3 given frame
-  length-stops e = stops-length given frame (ap lengthWrong (sym apart) ∙ e)
+  pub length-stops : wrongLengthIn parts ≡ true → WrongLength ≡ judgedFrom 3 given frame
+  length-stops e = stops-length given frame (ap wrongLengthIn (sym apart) ∙ e)
 
-  pub length-passes : lengthWrong parts ≡ false → judgedFrom 4 given frame ≡ judgedFrom 3 given frame
-  length-passes e = passes-length given frame (ap lengthWrong (sym apart) ∙ e)
+  pub length-passes : wrongLengthIn parts ≡ false → judgedFrom 4 given frame ≡ judgedFrom 3 given frame
+  length-passes e = passes-length given frame (ap wrongLengthIn (sym apart) ∙ e)
 
   pub count-stops : countWrong parts ≡ true → WrongCount ≡ judgedFrom 4 given frame
   count-stops e = stops-count given frame (ap countWrong (sym apart) ∙ e)

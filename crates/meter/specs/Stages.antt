@@ -1,16 +1,16 @@
 -- What the stages of judgement answer, and what those from step 4 on know of a frame. Only private promises cite this file. Assumes nothing.
-use Prim.Native.Nat.{ℕ}
+use Prim.Native.Nat.{ℕ, _+_}
 use mathlib.Core.Path.{_≡_}
-use mathlib.Core.Bool.{true, cond}
+use mathlib.Core.Bool.{Bool, true, not, cond, _||_}
 use mathlib.Core.List.{List}
-use lib.Dec.{eqb}
+use lib.Dec.{ltb, eqb}
 use lib.ListN.{drop}
 use Rattle.lists.specs.Cases.{firstCase}
 use Rattle.sheet_rules.specs.Rules.{sound}
 use Rattle.bank_rules.specs.Bank.{stationOf}
 use Rattle.bank_rules.specs.Calls.{Lent}
 use Rattle.frame.specs.declared.Parts.{Parts}
-use Rattle.frame.specs.Frame.{partsOf}
+use Rattle.frame.specs.Frame.{writesMany, partsOf}
 use Rattle.meter_rules.specs.declared.Judged.{Judged}
 use Rattle.meter_rules.specs.Steps.{functionAllowed, steps, goodFrame}
 use Rattle.meter.specs.declared.stages.Addressed.{Addressed}
@@ -19,6 +19,11 @@ use Rattle.meter.specs.declared.stages.Addressed.the-variants.{Here, Els
 -- what step 2 answers: a frame for the bank's station, taken apart, or that it is for another
 unfoldable pub addressedTo : Lent → Parts → Addressed
 addressedTo given parts = cond (eqb (parts .station) (stationOf (given .sheet) (given .bank))) (Here parts) Elsewhere
+
+-- what step 4 tests, by the parts of a frame
+abbrev pub wrongLengthIn : Parts → Bool
+wrongLengthIn parts =
+    cond (eqb (parts .function) writesMany) (ltb (parts .length) 9 || not (eqb (parts .length) (9 + parts .bytes))) (not (eqb (parts .length) 8))
 
 -- where a frame stops, or that it is good, once so many of these conditions have let it through
 unfoldable pub judgedFrom : ℕ → Lent → List ℕ → Judged

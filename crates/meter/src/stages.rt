@@ -1,7 +1,7 @@
 // The order of judgement for a frame, stage by stage: each answers where the frame stops, or hands it on to the next.
 ghost use mathlib.Core.Path.{_≡_};
 ghost use mathlib.Core.Bool.{true};
-ghost use Rattle.meter.specs.Stages.{addressedTo, judgedFrom, Known};
+ghost use Rattle.meter.specs.Stages.{addressedTo, wrongLengthIn, judgedFrom, Known};
 ghost use Rattle.sheet_rules.specs.Rules.{sound};
 ghost use Rattle.bank_rules.specs.Calls.{lent};
 ghost use Rattle.frame.specs.Frame.{reads, clears, isWrite, manyOf};
@@ -76,21 +76,25 @@ pub(crate) fn judged_frame(sheet: &[u8], bank: &[u8], frame: &[u8]) -> Judged
     judged_length(sheet, bank, frame, parts)
 }
 
-// Step 4: rules J40 and J41.
+// Rules J40 and J41: a 10 has nine bytes and those that its byte count says, any other function eight.
+fn has_wrong_length(parts: Parts) -> bool
+    ensures { λ r. ⌜ r ≡ wrongLengthIn parts ⌝ }
+{
+    if parts.function != frame::WRITES_MANY {
+        return parts.length != 8;
+    }
+    if parts.length < 9 {
+        return true;
+    }
+    parts.length != 9 + parts.bytes as usize
+}
+
+// Step 4.
 fn judged_length(sheet: &[u8], bank: &[u8], frame: &[u8], parts: Parts) -> Judged
     requires { ⌜ Known (now sheet) (now frame) parts ⌝ }
     ensures { λ r. ⌜ r ≡ judgedFrom 3 (lent (now (sheet .entry)) (now (bank .entry))) (now (frame .entry)) ⌝ }
 {
-    if parts.function != frame::WRITES_MANY {
-        if parts.length != 8 {
-            return Judged::WrongLength;
-        }
-        return judged_count(sheet, bank, frame, parts);
-    }
-    if parts.length < 9 {
-        return Judged::WrongLength;
-    }
-    if parts.length != 9 + parts.bytes as usize {
+    if has_wrong_length(parts) {
         return Judged::WrongLength;
     }
     judged_count(sheet, bank, frame, parts)
