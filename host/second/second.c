@@ -1223,7 +1223,7 @@ static const struct reason reasons[REASON_COUNT] = {
     [REASON_ITEM] = { "item", has_bad_item }
 };
 
-/* rules Y1 and Y22 */
+/* rules Y0 and Y1 */
 static enum second_reason first_reason(const struct query *query)
 {
     for (int reason = REASON_NONE + 1; reason < REASON_COUNT; reason++)

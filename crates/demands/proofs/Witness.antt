@@ -16,7 +16,7 @@ use Rattle.range.specs.Range.{inRange}
 use Rattle.sheet_rules.specs.Rows.{areas, items}
 use Rattle.sheet_rules.specs.Rules.{sound, headerSound, areasSound, itemsSound, settingsSound, itemPlaces, writablePlaces, placesFollow, areasAscend, lengthsSum, sheetAnswer}
 use Rattle.lists.specs.Lists.{each, some, upFrom, samePlaces}
-use Rattle.sheet_rules.specs.Lookup.{liesIn}
+use Rattle.sheet_rules.specs.Lookup.{liesIn, addressOf}
 use Rattle.makers.specs.Maps.{ux}
 use Rattle.makers.specs.Sheets.{sheetOf}
 use Rattle.bank_rules.specs.Stores.{stored}
@@ -32,9 +32,11 @@ use Rattle.meter_rules.specs.Reply.{replyTo, storesOf}
 use Rattle.frame.specs.Reply.{withCheck}
 use Rattle.meter_rules.specs.Answer.{frameCheck, actedOn, answerOutcome}
 use Rattle.meter_rules.proofs.CaseSet.{uxMeter, ux-fresh-made}
-use Rattle.cedarskein.specs.Door.{Handed, handed, handedOf, toldOf}
+use Rattle.why_rules.specs.Facts.{firstShut}
+use Rattle.why_rules.specs.Reasons.{reasonOf, explanation}
+use Rattle.cedarskein.specs.Door.{Handed, handed, handedOf, toldOf, said, saidOf}
 use Rattle.demands.specs.Seen.{Accepted}
-use Rattle.demands.proofs.Calls.{Answers, some-answer}
+use Rattle.demands.proofs.Calls.{Answers, Explains, some-answer, some-why}
 
 abbrev uxSheet : List ℕ
 uxSheet = sheetOf ux
@@ -126,6 +128,28 @@ pub steps-met : map (judgedFrame (lent uxSheet freshBank)) judgedFrames
 unfolding allOpen answerOutcome frameCheck actedOn judgedFrame replyTo storesOf withCheck runStores stopPlace stopIn badItem someBad stored passes valueOf liesIn bytesOf firstCase bankSound goodBy sound headerSound areasSound itemsSound settingsSound each some upFrom samePlaces itemPlaces writablePlaces placesFollow areasAscend lengthsSum areas items wordAt withWord inRange sheetOf
 steps-met = refl
 
+-- the reasons that are told of them, each with its address
+pub reasons-told : map (λ frame. saidOf (explanation (lent uxSheet freshBank) frame)) judgedFrames
+    ≡ said 0 3 0
+    ∷ said 0 4 0
+    ∷ said 0 5 0
+    ∷ said 0 6 0
+    ∷ said 0 7 0
+    ∷ said 0 8 0x020B
+    ∷ said 0 9 0
+    ∷ said 0 10 0x010E
+    ∷ said 0 10 0x0102
+    ∷ said 0 0 0
+    ∷ said 0 0 0
+    ∷ said 0 0 0
+    ∷ []
+unfolding explanation checkAnswer reasonOf firstShut allOpen addressOf stopPlace stopIn badItem someBad valueOf liesIn bytesOf firstCase bankSound goodBy sound headerSound areasSound itemsSound settingsSound each some upFrom samePlaces itemPlaces writablePlaces placesFollow areasAscend lengthsSum areas items wordAt withWord inRange sheetOf
+reasons-told = refl
+
+pub asked : (frame : List ℕ) → Bytes frame → Explains (lent uxSheet freshBank) frame (saidOf (explanation (lent uxSheet freshBank) frame))
+unfolding sheetOf bytesOf
+asked frame frame-bytes = some-why (lent uxSheet freshBank) frame (tested-bytes uxSheet tt) (tested-bytes freshBank tt) frame-bytes
+
 -- ---- demand 1: an input for each refusal of each call, and one that is not refused
 
 -- the UX sheet, but of version 2
@@ -196,3 +220,14 @@ frameCalls =
 pub frame-numbers : frameCalls ≡ 2 ∷ 3 ∷ 4 ∷ 5 ∷ 1 ∷ 0 ∷ []
 unfolding allOpen answerOutcome frameCheck actedOn judgedFrame replyTo storesOf withCheck runStores stopPlace stopIn badItem someBad stored passes valueOf liesIn bytesOf firstCase bankSound goodBy sound headerSound areasSound itemsSound settingsSound each some upFrom samePlaces itemPlaces writablePlaces placesFollow areasAscend lengthsSum areas items wordAt withWord inRange sheetOf
 frame-numbers = refl
+
+abbrev whyCalls : List ℕ
+whyCalls =
+    saidOf (explanation (lent otherVersion freshBank) frameSent) .number
+    ∷ saidOf (explanation (lent uxSheet shortBank) frameSent) .number
+    ∷ saidOf (explanation (lent uxSheet unsoundBank) frameSent) .number
+    ∷ saidOf (explanation (lent uxSheet freshBank) frameSent) .number ∷ []
+
+pub why-numbers : whyCalls ≡ 2 ∷ 3 ∷ 4 ∷ 0 ∷ []
+unfolding explanation checkAnswer bytesOf firstCase bankSound goodBy sound headerSound areasSound itemsSound settingsSound each some upFrom samePlaces itemPlaces writablePlaces placesFollow areasAscend lengthsSum areas items wordAt withWord inRange sheetOf
+why-numbers = refl
