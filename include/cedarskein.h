@@ -9,7 +9,7 @@
  * Sizes
  *
  *   At most 12 KiB of code and constants, nothing writable among it, and at most 1 KiB of stack in a call; docs/BENCH.md has
- *   what was measured, about 9 KiB and under 600 bytes. A sheet has at most 856 bytes, a bank 514, and out 100.
+ *   what was measured, under 10 KiB and under 600 bytes. A sheet has at most 856 bytes, a bank 514, and out 100.
  *
  * The bank
  *
