@@ -1,10 +1,11 @@
 #!/usr/bin/env python3
 """Would a slip be noticed? Makes one slip at a time in a copy of the repository, and says what refuses it.
 
-  python3 tools/mutants.py [--sort SORT] [--only CRATE] [--jobs N] [--room DIR] [--anew]   tries slips
+  python3 tools/mutants.py [--sort SORT] [--only CRATE] [--like TEXT] [--jobs N] [--room DIR] [--anew]   tries slips, by TEXT those with it in their name
   python3 tools/mutants.py --list ..      shows them, and tries none
   python3 tools/mutants.py --one NAME     tries one, and shows what was said of it
-  python3 tools/mutants.py --record       writes what was found of every slip into docs/SLIPS.txt, and tries none
+  python3 tools/mutants.py --record       writes what was found of every slip into docs/SLIPS.txt, and tries none; of one that the room does not know
+                                          it keeps the line that is there
 
 Three sorts (left out are specs/ of meter and sheet, which only private promises cite, and of runs, whose statements are about the model machine):
 
@@ -494,6 +495,16 @@ def summary(results):
     return "\n".join(lines)
 
 
+def recorded(slip):
+    """What docs/SLIPS.txt says of a slip, where it is the same slip: a room lasts no longer than the machine's temporary files."""
+    begins = line_of(slip, {"what": "", "by": []}).split("]  ")[0] + "]  "
+    for line in read(RECORD).split("\n"):
+        if line.startswith(begins):
+            what, _, by = line[len(begins):].split("  (changes nothing: ")[0].partition(": ")
+            return {"what": what, "by": by.split("; ") if by else []}
+    return UNTRIED
+
+
 def record(results):
     lines = ["Every slip of tools/mutants.py, and what refused it. docs/SLIPS.md says how to read it; `python3 tools/mutants.py --record` writes it.", ""]
     lines += [line_of(slip, found) for slip, found in results]
@@ -504,6 +515,7 @@ def options_given():
     parser = argparse.ArgumentParser(description=__doc__, formatter_class=argparse.RawDescriptionHelpFormatter)
     parser.add_argument("--sort", choices=["definition", "statement", "code"])
     parser.add_argument("--only", choices=list(CRATES))
+    parser.add_argument("--like", metavar="TEXT", default="")
     parser.add_argument("--one", metavar="NAME")
     parser.add_argument("--list", action="store_true")
     parser.add_argument("--record", action="store_true")
@@ -516,7 +528,8 @@ def options_given():
 
 def main():
     options = options_given()
-    slips = [s for s in every_slip() if options.sort in (None, s.sort) and options.only in (None, s.crate) and options.one in (None, s.name)]
+    slips = [s for s in every_slip() if options.sort in (None, s.sort) and options.only in (None, s.crate) and options.one in (None, s.name)
+             and options.like in s.name]
     if not slips:
         sys.exit("no such slip")
     if options.list:
@@ -538,7 +551,7 @@ def main():
         print(line_of(slips[0], found))
         return
     if options.record:
-        results = [(slip, room.found_before(slip) or UNTRIED) for slip in slips]
+        results = [(slip, room.found_before(slip) or recorded(slip)) for slip in slips]
         record(results)
     else:
         results = try_all(room, slips, options.jobs)

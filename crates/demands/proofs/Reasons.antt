@@ -1,10 +1,10 @@
 -- The reason over the calls themselves: what is told is true in plain numbers, nothing else is, and it agrees with what the call that answers the
 -- frame does. Of a damaged frame it is the check that is told. That nothing is refused is supposed by the call's own number, 0. Assumes nothing.
 use mathlib.Core.Path.{_≡_, refl, sym, ap, ap₂, subst, _∙_}
-use mathlib.Core.Bool.{Bool, not, cond}
+use mathlib.Core.Bool.{not, cond}
 use mathlib.Core.List.{List}
 use mathlib.Core.Logic.{_↔_}
-use Prim.Native.Nat.{ℕ, _+_, _*_, _≤_, _<_}
+use Prim.Native.Nat.{ℕ, _≤_}
 use native.Mathlib.Omega.{arith}
 use lib.Dec.{eqb}
 use Rattle.lists.specs.Cases.{firstCase}
@@ -22,7 +22,7 @@ use Rattle.plain.specs.Frame.{Fate, silence, error, good, Gets, registers}
 use Rattle.plain.specs.Damage.{Sent, Damage}
 use Rattle.plain.specs.Left as plain
 use Rattle.plain.specs.Left.{Left, Leaves, HandsBack}
-use Rattle.plain.specs.Why.{CheckAgrees, Why, byCheck, GoesOut}
+use Rattle.plain.specs.Why.{CheckAgrees, Why, byCheck}
 use Rattle.plain.proofs.Damage.{damaged-fails}
 use Rattle.plain.proofs.Conditions.{whole-tells}
 use Rattle.plain.proofs.Fates.{one-fate, unmet}

@@ -3,7 +3,7 @@ use mathlib.Core.Path.{_≡_, refl, sym, ap, ap₂, subst, _∙_}
 use mathlib.Core.Bool.{Bool, true, false, not, _&&_, _||_, true≢false, false≢true}
 use mathlib.Core.List.{List}
 use mathlib.Core.Logic.{_⊎_, inl, inr}
-use Prim.Native.Nat.{ℕ, _+_, _-_, _*_, _≤_, _<_}
+use Prim.Native.Nat.{ℕ, _-_, _≤_, _<_}
 use native.Mathlib.Omega.{arith}
 use lib.Dec.{ltb, eqb}
 use lib.ListN.{length}
@@ -30,10 +30,9 @@ use Rattle.frame.specs.Frame.{reads, clears, function, start, second, isWrite, 
 use Rattle.meter_rules.specs.Write.{firstPlace, wouldBe, touched, badItem, someBad, stopPlace}
 use Rattle.why_rules.specs.Facts.{tooShort, tooLong, checkDiffers, readsTooMany, shutAddress, firstShut, firstBadAddress, firstBadItem}
 use Rattle.why_rules.proofs.Parts.{which-shut, read-told, write-told, clear-told}
-use Rattle.why_rules.proofs.FirstAddress.{FirstOf, first-shut, first-shut-is}
+use Rattle.why_rules.proofs.FirstAddress.{first-shut, first-shut-is}
 use Rattle.why_rules.proofs.FirstItem.{StopsAt, stops-at, stop-lies, first-bad}
-use Rattle.plain.specs.Numbers.{Bytes, byte, word}
-use Rattle.plain.specs.Sheet.{ItemRow}
+use Rattle.plain.specs.Numbers.{Bytes, byte}
 use Rattle.plain.specs.Frame.{registers, address, Touches, ValueWouldBe, Within}
 use Rattle.plain.specs.Why.{CheckAgrees, ReadsTooMany, Opens, FirstBadAddress, ofRun, ofClear, FirstBadItem}
 use Rattle.plain.proofs.Rows.{word-same, lies-plain, plain-lies, item-row, row-item}
@@ -273,8 +272,11 @@ module _ (given : Lent) (frame : List ℕ) (passed : Passed given) (write : isWr
   -- and the other way
   pub so-item : {at : ℕ} → FirstBadItem given frame at → (someBad given frame ≡ true) × (firstBadItem given frame ≡ at)
   unfolding someBad
-  so-item {at} first = (one, ap (addressOf (areas (given .sheet))) (sym same) ∙ place-address (given .sheet) (passed .right) at (first .place) 3
-      (plain-lies (given .sheet) (passed .right) (first .itsAddress)))
+  so-item {at} first = (
+    one,
+    ap (addressOf (areas (given .sheet))) (sym same) ∙ place-address (given .sheet) (passed .right) at (first .place) 3
+        (plain-lies (given .sheet) (passed .right) (first .itsAddress)),
+  )
     where
       item : Item
       item = record { kind = first .kind; place = first .place; low = first .low; high = first .high }

@@ -3,10 +3,10 @@
 use mathlib.Core.Path.{_≡_, refl, sym, ap, ap₂, subst, _∙_}
 use mathlib.Core.Bool.{Bool, true, false, not, _&&_, _||_, or-true}
 use mathlib.Core.List.{List, [], _∷_}
-use mathlib.Core.Logic.{_↔_, _⊎_, inl, inr}
-use Prim.Native.Nat.{ℕ, _+_, _≤_, _<_}
+use mathlib.Core.Logic.{_⊎_, inl, inr}
+use Prim.Native.Nat.{ℕ}
 use native.Mathlib.Omega.{arith}
-use lib.Dec.{ltb, eqb}
+use lib.Dec.{eqb}
 use lib.ListN.{length}
 use borrow.Author.Tests.{eqb-true, eqb-false, eq-eqb, ne-eqb, lt-ltb, ltb-true, not-true}
 use Rattle.lists.specs.Cases.{when, firstCase}
@@ -25,12 +25,12 @@ use Rattle.why_rules.specs.declared.Reason.the-variants.{None, TooShort, TooLon
 use Rattle.why_rules.specs.Facts.{tooShort, tooLong, checkDiffers, readsTooMany, badCount, shutAddress, firstBadAddress, firstBadItem}
 use Rattle.why_rules.specs.Reasons.{reasonNumber, reasonAddress, reasonOf}
 use Rattle.why_rules.proofs.Parts.{wrong-address}
-use Rattle.plain.specs.Numbers.{Bytes, byte, word}
+use Rattle.plain.specs.Numbers.{Bytes}
 use Rattle.plain.specs.Frame as plain
 use Rattle.plain.specs.Frame.{Whole, RightCount, RightAddress, Fate, silence, error, good, Gets}
 use Rattle.plain.specs.Why.{ReadsTooMany, AsFunction, AsCount, FirstBadAddress, ofRun, ofClear, Why, byNone, byTooShort, byTooLong, byCheck, byStation, byFunction, byBodyLength, byCount, byAddress, byClearValue, byItem, GoesOut}
 use Rattle.plain.proofs.Rows.{word-same}
-use Rattle.plain.proofs.Conditions.{Tells, station-tells, allowed-tells, length-tells, count-tells, neither-first, neither-second, neither, where-so}
+use Rattle.plain.proofs.Conditions.{station-tells, allowed-tells, length-tells, count-tells, neither-first, neither-second, neither}
 use Rattle.plain.proofs.Addresses.{address-tells, writes, which}
 use Rattle.plain.proofs.Values.{value-tells}
 use Rattle.plain.proofs.FirstBad.{short-tells, long-tells, check-tells, many-so, so-many, many-tells, address-so, so-address, item-so, so-item}
@@ -194,8 +194,7 @@ module _ (given : Lent) (frame : List ℕ) (passed : Passed given) (bytes : Byte
       let shut = so-address (given .sheet) frame (passed .right) bytes first in
       (Address (firstBadAddress (given .sheet) frame), simp (so .0, so .1, so .2, so .3, so .4, length-tells frame .wrongly (is .long), few-so is, shut .0), refl, sym (shut .1))
   reason-is (byClearValue is right clear other) =
-      let so = as-function-so (is .function) in
-      (
+      let so = as-function-so (is .function) in (
         ClearValue,
         simp (
           so .0,
@@ -214,8 +213,7 @@ module _ (given : Lent) (frame : List ℕ) (passed : Passed given) (bytes : Byte
   reason-is (byItem is right first) =
       let so = as-function-so (is .function) in
       let write = writes frame (first .writes) in
-      let found = so-item given frame passed write (open-so (few-so is) (fine-so is right) write) first in
-      (
+      let found = so-item given frame passed write (open-so (few-so is) (fine-so is right) write) first in (
         Item (firstBadItem given frame),
         simp (
           so .0,
@@ -242,8 +240,7 @@ module _ (given : Lent) (frame : List ℕ) (passed : Passed given) (bytes : Byte
       let so = as-function-so (is .function) in
       let few = few-so is in
       let fine = fine-so is right in
-      let none = value-tells given frame (passed .right) (open-so few fine) .wrongly values in
-      (
+      let none = value-tells given frame (passed .right) (open-so few fine) .wrongly values in (
         None,
         simp (
           so .0,

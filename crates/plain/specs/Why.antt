@@ -9,7 +9,7 @@ use Rattle.check_value.specs.Check.{valueOf}
 use Rattle.bank_rules.specs.Calls.{Lent}
 use Rattle.plain.specs.Numbers.{byte, word}
 use Rattle.plain.specs.Sheet.{ItemRow, LiesAt}
-use Rattle.plain.specs.Frame.{Whole, OurStation, Allowed, RightLength, RightCount, RightAddress, registers, address, Readable, Writable, Touches, ValueWouldBe, Within, Fate, silence, error, good, Gets}
+use Rattle.plain.specs.Frame.{Whole, OurStation, Allowed, RightLength, RightCount, RightAddress, registers, address, Readable, Writable, Touches, ValueWouldBe, Within, silence, error, good, Gets}
 
 -- rule Y12: the last two bytes hold the check value of those in front of them, low byte first
 abbrev pub CheckAgrees : List ℕ → Type 0

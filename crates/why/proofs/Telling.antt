@@ -1,30 +1,27 @@
 -- The reason is what is told of the judgement. Assumes nothing.
 use mathlib.Core.Path.{_≡_, refl, sym, ap, ap₂, _∙_}
-use mathlib.Core.Bool.{Bool, true, false, not, cond, _&&_, _||_, false≢true, true≢false}
+use mathlib.Core.Bool.{Bool, true, false, cond, _&&_, _||_}
 use mathlib.Core.List.{List, [], _∷_}
 use mathlib.Core.Logic.{_⊎_, inl, inr}
-use Prim.Native.Nat.{ℕ, _+_, _-_, _%_, _≤_, _<_}
+use Prim.Native.Nat.{ℕ, _%_, _≤_, _<_}
 use native.Mathlib.Omega.{arith}
 use lib.Dec.{ltb, eqb}
 use borrow.Author.Tests.{eq-eqb, ne-eqb, eqb-true, eqb-false, lt-ltb, le-ltb, ltb-true, ltb-false}
 use Rattle.lists.specs.Cases.{when, firstCase}
 use Rattle.lists.proofs.Tests.{first-of, second-of}
-use Rattle.sheet_rules.specs.Rows.{areas, bankWords, clearAddress, items}
+use Rattle.sheet_rules.specs.Rows.{areas, clearAddress}
 use Rattle.sheet_rules.specs.Rules.{sound}
 use Rattle.sheet_rules.specs.Lookup.{addressOf}
 use Rattle.sheet_rules.specs.declared.Purpose.the-variants.{Read, Write}
 use Rattle.sheet_rules.specs.Runs.{allOpen, reach}
-use Rattle.sheet_rules.proofs.Sound.{header-numbers}
 use Rattle.bank_rules.specs.Calls.{Lent, checkAnswer}
-use Rattle.frame.specs.Frame.{reads, clears, writesOne, writesMany, mostRead, function, start, second, isWrite, count, run}
-use Rattle.meter_rules.specs.declared.Judged.{Judged}
+use Rattle.frame.specs.Frame.{reads, clears, mostRead, function, start, second, isWrite, count, run}
 use Rattle.meter_rules.specs.declared.Judged.the-variants.{FailsCheck, OtherStation, FunctionNotAllowed, WrongLength, WrongCount, WrongAddress, WrongValue, BadItem, GoodRead, GoodClear, GoodWrite}
-use Rattle.meter_rules.specs.Steps.{failsCheck, otherStation, functionNotAllowed, wrongLength, wrongCount, wrongAddress, wrongValue, badWrite, goodFrame, judgedFrame}
+use Rattle.meter_rules.specs.Steps.{otherStation, functionNotAllowed, wrongLength, wrongCount, wrongValue, badWrite, goodFrame, judgedFrame}
 use Rattle.meter_rules.specs.Write.{firstPlace, someBad, stopPlace}
 use Rattle.meter_rules.proofs.Order.{asks-write}
-use Rattle.why_rules.specs.declared.Reason.{Reason}
 use Rattle.why_rules.specs.declared.Reason.the-variants.{None, TooShort, TooLong, Check, Station, Function, BodyLength, Count, Address, ClearValue, Item}
-use Rattle.why_rules.specs.Facts.{tooShort, tooLong, checkDiffers, readsTooMany, badCount, shutAddress, firstShut, firstBadAddress, firstBadItem}
+use Rattle.why_rules.specs.Facts.{tooShort, tooLong, checkDiffers, readsTooMany, shutAddress, firstBadAddress, firstBadItem}
 use Rattle.why_rules.specs.Reasons.{reasonOf, explainedBy, explanation}
 use Rattle.why_rules.proofs.Parts.{fails-check, wrong-address, which-shut, read-told, write-told, clear-told}
 use Rattle.why_rules.proofs.FirstAddress.{first-shut-reach}
@@ -37,7 +34,7 @@ use Rattle.meter_rules.specs.declared.Judgement.the-variants as stopped
 use Rattle.meter_rules.specs.Judgement.{judgement, judgementBy}
 use Rattle.why_rules.specs.declared.Explained.{Explained}
 use Rattle.why_rules.specs.declared.Explained.the-variants.{Refused, Because}
-use Rattle.why.specs.Told.{unpassed, wronglyAddressed, toldOf}
+use Rattle.why.specs.Told.{wronglyAddressed, toldOf}
 
 -- ---- a frame that step 6 stops, function by function
 

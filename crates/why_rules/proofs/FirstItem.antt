@@ -4,11 +4,10 @@ use mathlib.Core.Path.{_≡_, refl, sym, ap, _∙_}
 use mathlib.Core.Bool.{Bool, true, false, not, _&&_, _||_, true≢false}
 use mathlib.Core.Logic.{_⊎_, inl, inr}
 use mathlib.Core.List.{List}
-use Prim.Native.Nat.{ℕ, _+_, _≤_, _<_}
+use Prim.Native.Nat.{ℕ, _+_, _<_}
 use native.Mathlib.Omega.{arith}
 use lib.Dec.{ltb, eqb}
 use borrow.Author.Tests.{le-ltb, eq-eqb}
-use Rattle.lists.specs.Lists.{some}
 use Rattle.lists.proofs.Among.{Among}
 use Rattle.sheet_rules.specs.declared.Item.{Item}
 use Rattle.sheet_rules.specs.declared.Lies.the-variants.{At}
@@ -16,7 +15,7 @@ use Rattle.sheet_rules.specs.declared.Purpose.the-variants.{Write}
 use Rattle.sheet_rules.specs.Rows.{areas, items, bankWords}
 use Rattle.sheet_rules.specs.Rules.{isPair, readAndWrite, sound}
 use Rattle.sheet_rules.proofs.Places.{inWritable}
-use Rattle.sheet_rules.specs.Lookup.{liesIn, holds}
+use Rattle.sheet_rules.specs.Lookup.{liesIn}
 use Rattle.sheet_rules.specs.Runs.{allOpen}
 use Rattle.sheet_rules.proofs.Sound.{sound-numbers}
 use Rattle.sheet_rules.proofs.Addresses.{address-lies}

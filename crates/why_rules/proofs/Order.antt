@@ -1,6 +1,6 @@
 -- Rule Y1 as a law over the ordered list of facts: the number of a reason is handed back exactly if its fact is true of the frame and each
 -- earlier one is not, and 0 exactly if none is true. Assumes nothing.
-use mathlib.Core.Path.{_≡_, refl}
+use mathlib.Core.Path.{refl}
 use mathlib.Core.List.{List, []}
 use Prim.Native.Nat.{ℕ}
 use Rattle.lists.specs.Cases.{mapped, InOrder}

@@ -1,7 +1,5 @@
 -- `why::told_of` meets its contract, judgement by judgement. Assumes nothing.
-use Prim.Native.Nat.{ℕ}
 use mathlib.Core.Path.{_≡_, _∙_, sym, ap}
-use mathlib.Core.List.{List}
 use denote.Ref.{now}
 use borrow.Author.Needs.{needs}
 use Rattle.meter_rules.specs.declared.Judged.{Judged}
