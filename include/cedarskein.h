@@ -90,8 +90,8 @@ extern "C" {
 /* The numbers that a call hands back, and what the firmware does then. With any number but 0 the bank and out are as they
  * were. Where several would hold, the first of 2, 3, 4, 5, 7, 6 is told. */
 enum cedarskein_number {
-    /* Done. Keep the bank (see "A power cut"). For a frame: then send the first *length bytes of out at *rate, and go on at
-     * the bank's rate. An error reply is a reply. */
+    /* Done. Keep the bank (see "A power cut"). Of cedarskein_answer: then send the first *length bytes of out at *rate, and go
+     * on at the bank's rate. An error reply is a reply. */
     CEDARSKEIN_DONE = 0,
     /* Silence: send nothing, and wait for the next frame. */
     CEDARSKEIN_SILENCE = 1,

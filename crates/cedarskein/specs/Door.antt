@@ -1,4 +1,4 @@
--- What the firmware is handed: the numbers of section N of the rules, and the lent buffers as they are afterwards. Assumes nothing.
+-- What the firmware is handed: the numbers of sections N and Y of the rules, and the lent buffers as they are afterwards. Assumes nothing.
 use Prim.Native.Nat.{ℕ}
 use mathlib.Core.List.{List}
 use Rattle.refusals.specs.Answers.{answerNumber}

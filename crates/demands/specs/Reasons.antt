@@ -11,7 +11,7 @@ use Rattle.cedarskein.specs.Door.{Handed, Said}
 abbrev pub Errs : ℕ → Handed → Type 0
 Errs code left = (left .number ≡ 0) × (left .length ≡ 5) × (byte (left .buffer) 2 ≡ code)
 
--- rule Y4: what went out and the reason that was told, both ways
+-- rule Y4, where neither call is refused: what went out and the reason that was told, both ways
 pub record Agrees (frame : List ℕ) (told : Said) (left : Handed) : Type 0 where
   pub noError : ((left .number ≡ 0) × (6 ≤ left .length)) ↔ (told .reason ≡ 0)
   pub silent : (left .number ≡ 1) ↔ ((told .reason ≡ 1) ⊎ (told .reason ≡ 2) ⊎ (told .reason ≡ 3) ⊎ (told .reason ≡ 4) ⊎ (told .reason ≡ 6))

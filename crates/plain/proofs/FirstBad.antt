@@ -88,14 +88,12 @@ any false false false (inr (inr e)) = e
 module _ (sheet frame : List ℕ) (keeps : sound sheet ≡ true) (bytes : Bytes sheet) where
   -- what a function asks of an address is that it is open to a purpose
   record Asks (purpose : Purpose) : Type 0 where
-    notClear : byte frame 1 ≡ 0x05 → ⊥
     asked : (at : ℕ) → Opens sheet frame at → Open sheet keeps bytes purpose at
     granted : (at : ℕ) → Open sheet keeps bytes purpose at → Opens sheet frame at
 
   asks-read : byte frame 1 ≡ 0x03 → Asks Read
   asks-read is =
       record {
-        notClear = λ e. absurd (omega (arith, is, e));
         asked = λ at opens. so-readable sheet keeps bytes (opens .read is);
         granted = λ at one. record { read = λ e. readable-so sheet keeps bytes one; written = λ e. absurd (other e) };
       }
@@ -107,7 +105,6 @@ module _ (sheet frame : List ℕ) (keeps : sound sheet ≡ true) (bytes : Bytes 
   asks-write : (byte frame 1 ≡ 0x06) ⊎ (byte frame 1 ≡ 0x10) → Asks Write
   asks-write is =
       record {
-        notClear = λ e. other 0x05 (omega arith) (omega arith) is e;
         asked = λ at opens. so-writable sheet keeps bytes (opens .written is);
         granted = λ at one. record { read = λ e. absurd (other 0x03 (omega arith) (omega arith) is e); written = λ e. writable-so sheet keeps bytes one };
       }
@@ -123,7 +120,7 @@ module _ (sheet frame : List ℕ) (keeps : sound sheet ≡ true) (bytes : Bytes 
       let k : ℕ = at - start frame in
       let same : address frame k ≡ at = address-same frame k ∙ omega (arith, found .low) in
       subst (FirstBadAddress sheet frame) same
-      (ofRun (asks .notClear) k (omega (arith, found .high, found .low, registers-same frame))
+      (ofRun k (omega (arith, found .high, found .low, registers-same frame))
       (λ opens. true≢false (sym (at-open sheet keeps bytes purpose (address frame k) (asks .asked (address frame k) opens))
       ∙ ap (λ (n : ℕ). open? n) same ∙ found .itself))
       (λ j less. asks .granted (address frame j) (open-at sheet keeps bytes purpose (address frame j)
@@ -192,7 +189,7 @@ module _ (sheet frame : List ℕ) (keeps : sound sheet ≡ true) (bytes : Bytes 
         (ap not (ne-eqb (start frame) (clearAddress sheet) (λ e. elsewhere (word-same frame 2 ∙ e ∙ sym (word-same sheet 20)))))))),
     clear-told sheet frame is ∙ sym (word-same frame 2),
   )
-  so-address (ofRun notClear k less shut front) = go (eqb (function frame) 0x03) (isWrite frame) refl refl
+  so-address (ofRun k less shut front) = go (eqb (function frame) 0x03) (isWrite frame) refl refl
     where
       go : (read write : Bool) → eqb (function frame) 0x03 ≡ read → isWrite frame ≡ write
           → (shutAddress sheet frame ≡ true) × (firstBadAddress sheet frame ≡ address frame k)

@@ -271,7 +271,7 @@ module _ (given : Lent) (frame : List ℕ) (passed : Passed given) (bytes : Byte
       record { ofRead = λ is. omega (arith, many .1); ofMany = λ is. absurd (omega (arith, many .0, is)) }
 
   not-right : RightAddress (given .sheet) frame → {at : ℕ} → FirstBadAddress (given .sheet) frame at → ⊥
-  not-right right (ofRun notClear k less shut front) =
+  not-right right (ofRun k less shut front) =
       shut record { read = λ is. right .read is k less; written = λ is. right .written is k less }
   not-right right (ofClear is elsewhere) = elsewhere (right .cleared is)
 

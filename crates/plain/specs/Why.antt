@@ -19,7 +19,7 @@ CheckAgrees frame = byte frame (length frame - 2) + 256 * byte frame (length fra
 abbrev pub ReadsTooMany : List ℕ → Type 0
 ReadsTooMany frame = (byte frame 1 ≡ 0x03) × (48 ≤ word frame 4)
 
--- what each part of a frame must be up to a step: passed as far as its function, as far as its length, and as far as its count
+-- what must hold of a frame that reasons further on speak of: passed as far as its function, and as far as its count
 pub record AsFunction (given : Lent) (frame : List ℕ) : Type 0 where
   pub whole : Whole frame
   pub ours : OurStation given frame
@@ -39,7 +39,7 @@ pub record Opens (sheet frame : List ℕ) (at : ℕ) : Type 0 where
 -- rule Y20, the first bad address: one of the run that is not open, with every one in front of it open; a clear's own, elsewhere than at the clear
 -- address
 pub data FirstBadAddress (sheet frame : List ℕ) : ℕ → Type 0 where
-  ofRun : (byte frame 1 ≡ 0x05 → ⊥) → (k : ℕ) → k < registers frame → (Opens sheet frame (address frame k) → ⊥)
+  ofRun : (k : ℕ) → k < registers frame → (Opens sheet frame (address frame k) → ⊥)
       → ((j : ℕ) → j < k → Opens sheet frame (address frame j)) → FirstBadAddress sheet frame (address frame k)
   ofClear : byte frame 1 ≡ 0x05 → (word frame 2 ≡ word sheet 20 → ⊥) → FirstBadAddress sheet frame (word frame 2)
 
@@ -74,7 +74,7 @@ pub data Why (given : Lent) (frame : List ℕ) : ℕ → ℕ → Type 0 where
   byClearValue : AsCount given frame → RightAddress (given .sheet) frame → byte frame 1 ≡ 0x05 → (word frame 4 ≡ 0 → ⊥) → Why given frame 9 0
   byItem : AsCount given frame → RightAddress (given .sheet) frame → {at : ℕ} → FirstBadItem given frame at → Why given frame 10 at
 
--- rule Y4: what goes out and the reason, both ways
+-- rule Y4: what goes out and the reason, both ways. It tells no more than the line does; which of several reasons it is, and the address, `Why` says.
 pub record GoesOut (given : Lent) (frame : List ℕ) (reason : ℕ) : Type 0 where
   pub noError : Gets given frame good ↔ (reason ≡ 0)
   pub silent : Gets given frame silence ↔ ((reason ≡ 1) ⊎ (reason ≡ 2) ⊎ (reason ≡ 3) ⊎ (reason ≡ 4) ⊎ (reason ≡ 6))

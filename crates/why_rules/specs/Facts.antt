@@ -50,7 +50,7 @@ firstShut purpose sheet [] = 0
 firstShut purpose sheet (address ∷ behind) =
     cond (opens purpose (liesIn (areas sheet) address)) (firstShut purpose sheet behind) address
 
--- rule Y20, the address that is told: the lowest of a run, which ascends, or the frame's own for a clear
+-- rule Y20, the address that is told: the lowest that is not open of a run, which ascends, or the frame's own for a clear
 abbrev pub firstBadAddress : List ℕ → List ℕ → ℕ
 firstBadAddress sheet frame =
     cond (eqb (function frame) reads) (firstShut Read sheet (run frame))

@@ -2,8 +2,8 @@
 // is no code.
 use refusals::Refusal;
 
-// The reason for silence or an error, in the order in which reasons are told. `address` is the first bad address of a run, or the first
-// address of the first bad item.
+// The reason for silence or an error, in the order in which reasons are told. `address` is the first bad address of a run, or that of a clear
+// elsewhere; of an item, the first address of the first bad one.
 pub enum Reason {
     None,
     TooShort,
