@@ -9,7 +9,7 @@ use native.Mathlib.Omega.{arith}
 use lib.Dec.{eqb}
 use lib.ListN.{length}
 use borrow.Author.Tests.{eqb-true, eqb-false, eq-eqb, ne-eqb, lt-ltb, ltb-true, not-true}
-use Rattle.lists.specs.Cases.{when, firstCase}
+use Rattle.lists.specs.Cases.{Case, when, firstCase}
 use Rattle.lists.proofs.Tests.{first-of, second-of}
 use Rattle.sheet_rules.specs.declared.Purpose.the-variants.{Write}
 use Rattle.sheet_rules.specs.Runs.{allOpen}
@@ -130,16 +130,6 @@ module _ (given : Lent) (frame : List ℕ) (passed : Passed given) (bytes : Byte
 
   -- ---- and nothing else is so
 
-  as-function-so : AsFunction given frame → (tooShort frame ≡ false) × (tooLong frame ≡ false) × (checkDiffers frame ≡ false)
-      × (otherStation given frame ≡ false) × (functionNotAllowed (given .sheet) frame ≡ false)
-  as-function-so is = (
-    short-tells frame .wrongly (is .whole .least),
-    long-tells frame .wrongly (is .whole .most),
-    check-tells frame .wrongly (is .whole .check),
-    station-tells given frame .wrongly (is .ours),
-    allowed-tells (given .sheet) frame .wrongly (is .allowed),
-  )
-
   few-so : AsCount given frame → badCount frame ≡ false
   few-so is = neither (count-tells frame .wrongly (is .counted)) (many-tells frame .wrongly (is .few))
 
@@ -147,6 +137,27 @@ module _ (given : Lent) (frame : List ℕ) (passed : Passed given) (bytes : Byte
   fine-so is right =
       neither-second (readsTooMany frame) (shutAddress (given .sheet) frame)
       (sym (wrong-address (given .sheet) frame) ∙ address-tells (given .sheet) (passed .right) bytes frame .wrongly right)
+
+  -- the facts that are left for a frame that passed as far as its function, and as far as its count
+  abbrev behindCount : List (Case Reason)
+  behindCount =
+      when (shutAddress (given .sheet) frame) (Address (firstBadAddress (given .sheet) frame)) ∷ when (wrongValue frame) ClearValue
+      ∷ when (badWrite given frame) (Item (firstBadItem given frame)) ∷ []
+
+  at-function : AsFunction given frame → reasonOf given frame ≡ firstCase (when (wrongLength frame) BodyLength ∷ when (badCount frame) Count ∷ behindCount) None
+  unfolding reasonOf firstCase
+  at-function is =
+      simp (
+        short-tells frame .wrongly (is .whole .least),
+        long-tells frame .wrongly (is .whole .most),
+        check-tells frame .wrongly (is .whole .check),
+        station-tells given frame .wrongly (is .ours),
+        allowed-tells (given .sheet) frame .wrongly (is .allowed),
+      )
+
+  at-count : AsCount given frame → reasonOf given frame ≡ firstCase behindCount None
+  unfolding firstCase
+  at-count is = at-function (is .function) ∙ simp (length-tells frame .wrongly (is .long), few-so is)
 
   -- the reason that plain numbers give is the one by the facts
   reason-is : {number at : ℕ} → Why given frame number at → (reason : Reason) × (reasonOf given frame ≡ reason) × (number ≡ reasonNumber reason) × (at ≡ reasonAddress reason)
@@ -179,54 +190,23 @@ module _ (given : Lent) (frame : List ℕ) (passed : Passed given) (bytes : Byte
     refl,
     refl,
   )
-  reason-is (byBodyLength is wrong) =
-      let so = as-function-so is in
-      (BodyLength, simp (so .0, so .1, so .2, so .3, so .4, fails (length-tells frame) wrong), refl, refl)
-  reason-is (byCount is long wrong) =
-      let so = as-function-so is in
-      (Count, simp (so .0, so .1, so .2, so .3, so .4, length-tells frame .wrongly long, bad wrong), refl, refl)
+  reason-is (byBodyLength is wrong) = (BodyLength, at-function is ∙ simp (fails (length-tells frame) wrong), refl, refl)
+  reason-is (byCount is long wrong) = (Count, at-function is ∙ simp (length-tells frame .wrongly long, bad wrong), refl, refl)
     where
       bad : (RightCount frame → ⊥) ⊎ ReadsTooMany frame → badCount frame ≡ true
       bad (inl wrong) = ap (λ (b : Bool). b || readsTooMany frame) (fails (count-tells frame) wrong)
       bad (inr many) = ap (λ (b : Bool). wrongCount frame || b) (so-many frame many) ∙ or-true (wrongCount frame)
   reason-is (byAddress is first) =
-      let so = as-function-so (is .function) in
       let shut = so-address (given .sheet) frame (passed .right) bytes first in
-      (Address (firstBadAddress (given .sheet) frame), simp (so .0, so .1, so .2, so .3, so .4, length-tells frame .wrongly (is .long), few-so is, shut .0), refl, sym (shut .1))
+      (Address (firstBadAddress (given .sheet) frame), at-count is ∙ simp (shut .0), refl, sym (shut .1))
   reason-is (byClearValue is right clear other) =
-      let so = as-function-so (is .function) in (
-        ClearValue,
-        simp (
-          so .0,
-          so .1,
-          so .2,
-          so .3,
-          so .4,
-          length-tells frame .wrongly (is .long),
-          few-so is,
-          fine-so is right,
-          ap₂ (λ (a b : Bool). a && not b) (eq-eqb (function frame) 0x05 clear) (ne-eqb (second frame) 0 (λ e. other (word-same frame 4 ∙ e))),
-        ),
-        refl,
-        refl,
-      )
+      let wrong = ap₂ (λ (a b : Bool). a && not b) (eq-eqb (function frame) 0x05 clear) (ne-eqb (second frame) 0 (λ e. other (word-same frame 4 ∙ e))) in
+      (ClearValue, at-count is ∙ simp (fine-so is right, wrong), refl, refl)
   reason-is (byItem is right first) =
-      let so = as-function-so (is .function) in
       let write = writes frame (first .writes) in
       let found = so-item given frame passed write (open-so (few-so is) (fine-so is right) write) first in (
         Item (firstBadItem given frame),
-        simp (
-          so .0,
-          so .1,
-          so .2,
-          so .3,
-          so .4,
-          length-tells frame .wrongly (is .long),
-          few-so is,
-          fine-so is right,
-          write-value frame write,
-          write-bad frame write given ∙ found .0,
-        ),
+        at-count is ∙ simp (fine-so is right, write-value frame write, write-bad frame write given ∙ found .0),
         refl,
         sym (found .1),
       )
@@ -237,23 +217,14 @@ module _ (given : Lent) (frame : List ℕ) (passed : Passed given) (bytes : Byte
         counted = counted;
         few = λ many. omega (arith, right .atMost47 (many .0), many .1);
       } in
-      let so = as-function-so (is .function) in
-      let few = few-so is in
-      let fine = fine-so is right in
-      let none = value-tells given frame (passed .right) (open-so few fine) .wrongly values in (
+      let none = value-tells given frame (passed .right) (open-so (few-so is) (fine-so is right)) .wrongly values in (
         None,
-        simp (
-          so .0,
-          so .1,
-          so .2,
-          so .3,
-          so .4,
-          length-tells frame .wrongly long,
-          few,
-          fine,
-          neither-first (wrongValue frame) (badWrite given frame) none,
-          neither-second (wrongValue frame) (badWrite given frame) none,
-        ),
+        at-count is
+            ∙ simp (
+              fine-so is right,
+              neither-first (wrongValue frame) (badWrite given frame) none,
+              neither-second (wrongValue frame) (badWrite given frame) none,
+            ),
         refl,
         refl,
       )
