@@ -35,6 +35,13 @@ if command -v man >/dev/null; then
     for function in $(cd "$host/.." && python3 tools/manpage.py functions); do
         grep -q "$function(" "$folder/page.txt" || fail "the man page has no $function"
     done
+    # each number with its meaning: of the first and the last reason, those behind them in the header
+    sed -n 's/^ *\(CEDARSKEIN_[A-Z_]*\) = \([0-9]*\).*/\1 (\2)/p' "$host/../include/cedarskein.h" >"$folder/entries.txt"
+    while read -r entry; do
+        grep -qF "$entry" "$folder/page.txt" || fail "the man page has no $entry"
+    done <"$folder/entries.txt"
+    grep -A1 -F "CEDARSKEIN_TOO_SHORT (1)" "$folder/page.txt" | grep -q "under 4 bytes" || fail "the man page tells too short otherwise than the header"
+    grep -A1 -F "CEDARSKEIN_ITEM (10)" "$folder/page.txt" | grep -q "out of its range" || fail "the man page tells the item otherwise than the header"
 fi
 
 (cd "$host/.." && tools/install.sh uninstall) >/dev/null || fail "make uninstall"
