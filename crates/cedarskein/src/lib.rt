@@ -113,7 +113,7 @@ pub extern "C" fn cedarskein_why(
     ensures { λ r. ⌜ Bytes (now (sheet .entry)) × Bytes (now (bank .entry)) × Bytes (now (frame .entry)) ⌝ }
 {
     let explained = why::why(sheet, bank, frame);
-    *reason = numbers::reason_of(explained);
-    *address = numbers::address_of(explained);
+    *reason = numbers::reason_in(explained);
+    *address = numbers::address_in(explained);
     numbers::of_explained(explained)
 }

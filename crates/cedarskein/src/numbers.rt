@@ -94,7 +94,7 @@ fn of_reason(reason: Reason) -> u32
 }
 
 // The address that is told with a reason; 0 where there is none to tell.
-fn told_with(reason: Reason) -> u32
+fn address_with(reason: Reason) -> u32
     ensures { λ r. ⌜ r ≡ reasonAddress reason ⌝ }
 {
     match reason {
@@ -113,7 +113,7 @@ fn told_with(reason: Reason) -> u32
 }
 
 // The number of the reason, and its address; 0 with a refusal.
-pub(crate) fn reason_of(explained: Explained) -> u32
+pub(crate) fn reason_in(explained: Explained) -> u32
     ensures { λ r. ⌜ r ≡ reasonIn explained ⌝ }
 {
     match explained {
@@ -122,11 +122,11 @@ pub(crate) fn reason_of(explained: Explained) -> u32
     }
 }
 
-pub(crate) fn address_of(explained: Explained) -> u32
+pub(crate) fn address_in(explained: Explained) -> u32
     ensures { λ r. ⌜ r ≡ addressIn explained ⌝ }
 {
     match explained {
         Explained::Refused(_) => 0,
-        Explained::Because(reason) => told_with(reason),
+        Explained::Because(reason) => address_with(reason),
     }
 }

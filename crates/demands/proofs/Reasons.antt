@@ -2,12 +2,12 @@
 -- frame does. Of a damaged frame it is the check that is told. That nothing is refused is supposed by the call's own number, 0. Assumes nothing.
 use mathlib.Core.Path.{_≡_, refl, sym, ap, ap₂, subst, _∙_}
 use mathlib.Core.Bool.{not, cond}
-use mathlib.Core.List.{List}
+use mathlib.Core.List.{List, []}
 use mathlib.Core.Logic.{_↔_}
 use Prim.Native.Nat.{ℕ, _≤_}
 use native.Mathlib.Omega.{arith}
 use lib.Dec.{eqb}
-use Rattle.lists.specs.Cases.{firstCase}
+use Rattle.lists.specs.Cases.{firstCase, mapped, InOrder}
 use Rattle.refusals.specs.declared.Answer.{Answer}
 use Rattle.refusals.specs.declared.Answer.the-variants.{Done, Refused}
 use Rattle.refusals.specs.declared.Refusal.{Refusal}
@@ -15,7 +15,8 @@ use Rattle.refusals.specs.declared.Refusal.the-variants.{BrokenSheet, Misfittin
 use Rattle.refusals.specs.Answers.{refusalNumber}
 use Rattle.bank_rules.specs.Calls.{Lent, checkAnswer}
 use Rattle.bank_rules.proofs.Changes.{Passed, check-passed}
-use Rattle.why_rules.specs.Reasons.{reasonNumber, reasonAddress, reasonOf, explainedBy, explanation}
+use Rattle.why_rules.specs.Reasons.{reasonNumber, reasonAddress, facts, reasonOf, explainedBy, explanation}
+use Rattle.why_rules.proofs.Order.{reasons-in-order}
 use Rattle.plain.specs.Numbers.{Bytes, byte, word}
 use Rattle.plain.specs.Frame as fates
 use Rattle.plain.specs.Frame.{Fate, silence, error, good, Gets, registers}
@@ -60,7 +61,12 @@ module _ (given : Lent) (frame : List ℕ) {told : Said} (call : Explains given 
   sheet-bytes : Bytes (given .sheet)
   sheet-bytes = explains-bytes call .0
 
-  -- rules Y1 and Y10 to Y22: the fact that is told is true of the frame, and each earlier one is not
+  -- rule Y1: the reason that is told is handed back by the facts in their order
+  pub why-in-order : InOrder (told .reason) [] (mapped reasonNumber (facts given frame))
+  why-in-order =
+      subst (λ (s : Said). InOrder (s .reason) [] (mapped reasonNumber (facts given frame))) (sym (explained .is)) (reasons-in-order given frame)
+
+  -- rules Y10 to Y22: in plain numbers, what is told holds of the frame, and nothing that comes before it does
   pub why-true : Why given frame (told .reason) (told .address)
   why-true =
       subst (λ (s : Said). Why given frame (s .reason) (s .address)) (sym (explained .is)) (why.why-so given frame (explained .passed) sheet-bytes)

@@ -28,10 +28,11 @@ use Rattle.bank_rules.specs.Calls.{Lent}
 use Rattle.bank_rules.proofs.Changes.{Passed}
 use Rattle.frame.specs.Frame.{reads, clears, function, start, second, isWrite, count, run}
 use Rattle.meter_rules.specs.Write.{firstPlace, wouldBe, touched, badItem, someBad, stopPlace}
+use Rattle.meter_rules.proofs.Keeping.{front-fine}
 use Rattle.why_rules.specs.Facts.{tooShort, tooLong, checkDiffers, readsTooMany, shutAddress, firstShut, firstBadAddress, firstBadItem}
 use Rattle.why_rules.proofs.Parts.{which-shut, read-told, write-told, clear-told}
 use Rattle.why_rules.proofs.FirstAddress.{first-shut, first-shut-is}
-use Rattle.why_rules.proofs.FirstItem.{StopsAt, stops-at, stop-lies, first-bad}
+use Rattle.why_rules.proofs.FirstItem.{StopsAt, stops-at, stop-lies}
 use Rattle.plain.specs.Numbers.{Bytes, byte}
 use Rattle.plain.specs.Frame.{registers, address, Touches, ValueWouldBe, Within}
 use Rattle.plain.specs.Why.{CheckAgrees, ReadsTooMany, Opens, FirstBadAddress, ofRun, ofClear, FirstBadItem}
@@ -86,13 +87,13 @@ any false false false (inr (inl e)) = e
 any false false false (inr (inr e)) = e
 
 module _ (sheet frame : List ℕ) (keeps : sound sheet ≡ true) (bytes : Bytes sheet) where
-  -- what a function asks of an address is that it is open to a purpose
-  record Asks (purpose : Purpose) : Type 0 where
+  -- an address is open to a frame as it is open to a purpose
+  record OpensAs (purpose : Purpose) : Type 0 where
     asked : (at : ℕ) → Opens sheet frame at → Open sheet keeps bytes purpose at
     granted : (at : ℕ) → Open sheet keeps bytes purpose at → Opens sheet frame at
 
-  asks-read : byte frame 1 ≡ 0x03 → Asks Read
-  asks-read is =
+  opens-to-read : byte frame 1 ≡ 0x03 → OpensAs Read
+  opens-to-read is =
       record {
         asked = λ at opens. so-readable sheet keeps bytes (opens .read is);
         granted = λ at one. record { read = λ e. readable-so sheet keeps bytes one; written = λ e. absurd (other e) };
@@ -102,8 +103,8 @@ module _ (sheet frame : List ℕ) (keeps : sound sheet ≡ true) (bytes : Bytes 
       other (inl e) = omega (arith, is, e)
       other (inr e) = omega (arith, is, e)
 
-  asks-write : (byte frame 1 ≡ 0x06) ⊎ (byte frame 1 ≡ 0x10) → Asks Write
-  asks-write is =
+  opens-to-write : (byte frame 1 ≡ 0x06) ⊎ (byte frame 1 ≡ 0x10) → OpensAs Write
+  opens-to-write is =
       record {
         asked = λ at opens. so-writable sheet keeps bytes (opens .written is);
         granted = λ at one. record { read = λ e. absurd (other 0x03 (omega arith) (omega arith) is e); written = λ e. writable-so sheet keeps bytes one };
@@ -113,44 +114,44 @@ module _ (sheet frame : List ℕ) (keeps : sound sheet ≡ true) (bytes : Bytes 
       other code p q (inl e) f = omega (arith, p, e, f)
       other code p q (inr e) f = omega (arith, q, e, f)
 
-  of-run : (purpose : Purpose) → Asks purpose → allOpen purpose sheet (run frame) ≡ false → FirstBadAddress sheet frame (firstShut purpose sheet (run frame))
-  of-run purpose asks closed =
+  of-run : (purpose : Purpose) → OpensAs purpose → allOpen purpose sheet (run frame) ≡ false → FirstBadAddress sheet frame (firstShut purpose sheet (run frame))
+  of-run purpose opening closed =
       let at : ℕ = firstShut purpose sheet (run frame) in
       let found = first-shut purpose sheet keeps (start frame) (count frame) closed in
       let k : ℕ = at - start frame in
       let same : address frame k ≡ at = address-same frame k ∙ omega (arith, found .low) in
       subst (FirstBadAddress sheet frame) same
       (ofRun k (omega (arith, found .high, found .low, registers-same frame))
-      (λ opens. true≢false (sym (at-open sheet keeps bytes purpose (address frame k) (asks .asked (address frame k) opens))
+      (λ opens. true≢false (sym (at-open sheet keeps bytes purpose (address frame k) (opening .asked (address frame k) opens))
       ∙ ap (λ (n : ℕ). open? n) same ∙ found .itself))
-      (λ j less. asks .granted (address frame j) (open-at sheet keeps bytes purpose (address frame j)
+      (λ j less. opening .granted (address frame j) (open-at sheet keeps bytes purpose (address frame j)
       (ap (λ (n : ℕ). open? n) (address-same frame j) ∙ found .front j (omega (arith, less, found .low))))))
     where
       open? : ℕ → Bool
       open? n = opens purpose (liesIn (areas sheet) n)
 
-  pub address-so : shutAddress sheet frame ≡ true → FirstBadAddress sheet frame (firstBadAddress sheet frame)
-  address-so shut = go (which-shut sheet frame shut)
+  pub first-address-so : shutAddress sheet frame ≡ true → FirstBadAddress sheet frame (firstBadAddress sheet frame)
+  first-address-so shut = go (which-shut sheet frame shut)
     where
       go : ((function frame ≡ reads) × (allOpen Read sheet (run frame) ≡ false)) ⊎ ((isWrite frame ≡ true) × (allOpen Write sheet (run frame) ≡ false))
           ⊎ ((function frame ≡ clears) × (eqb (start frame) (clearAddress sheet) ≡ false))
           → FirstBadAddress sheet frame (firstBadAddress sheet frame)
-      go (inl (is, closed)) = subst (FirstBadAddress sheet frame) (sym (read-told sheet frame is)) (of-run Read (asks-read is) closed)
-      go (inr (inl (is, closed))) = subst (FirstBadAddress sheet frame) (sym (write-told sheet frame is)) (of-run Write (asks-write (which frame is)) closed)
+      go (inl (is, closed)) = subst (FirstBadAddress sheet frame) (sym (read-told sheet frame is)) (of-run Read (opens-to-read is) closed)
+      go (inr (inl (is, closed))) = subst (FirstBadAddress sheet frame) (sym (write-told sheet frame is)) (of-run Write (opens-to-write (which frame is)) closed)
       go (inr (inr (is, elsewhere))) =
           subst (FirstBadAddress sheet frame) (word-same frame 2 ∙ sym (clear-told sheet frame is))
           (ofClear is (λ same. eqb-false (start frame) (clearAddress sheet) elsewhere (sym (word-same frame 2) ∙ same ∙ word-same sheet 20)))
 
   -- and the other way: a first bad address is the one that is told
-  run-is : (purpose : Purpose) → Asks purpose → (k : ℕ) → k < registers frame → (Opens sheet frame (address frame k) → ⊥)
+  run-is : (purpose : Purpose) → OpensAs purpose → (k : ℕ) → k < registers frame → (Opens sheet frame (address frame k) → ⊥)
       → ((j : ℕ) → j < k → Opens sheet frame (address frame j)) → (allOpen purpose sheet (run frame) ≡ false) × (firstShut purpose sheet (run frame) ≡ address frame k)
   unfolding allOpen
-  run-is purpose asks k less shut front = (
+  run-is purpose opening k less shut front = (
     not-each,
     first-shut-is purpose sheet (start frame) (count frame) (address frame k) (omega (arith, address-same frame k))
         (omega (arith, address-same frame k, less, registers-same frame))
         (λ j before. ap open? (sym (address-same frame j)) ∙ at-open sheet keeps bytes purpose (address frame j)
-        (asks .asked (address frame j) (front j (omega (arith, before, address-same frame k)))))
+        (opening .asked (address frame j) (front j (omega (arith, before, address-same frame k)))))
         closed,
   )
     where
@@ -161,7 +162,7 @@ module _ (sheet frame : List ℕ) (keeps : sound sheet ≡ true) (bytes : Bytes 
       closed = go (open? (address frame k)) refl
         where
           go : (b : Bool) → open? (address frame k) ≡ b → open? (address frame k) ≡ false
-          go true e = absurd (shut (asks .granted (address frame k) (open-at sheet keeps bytes purpose (address frame k) e)))
+          go true e = absurd (shut (opening .granted (address frame k) (open-at sheet keeps bytes purpose (address frame k) e)))
           go false e = e
 
       not-each : each open? (run frame) ≡ false
@@ -182,23 +183,23 @@ module _ (sheet frame : List ℕ) (keeps : sound sheet ≡ true) (bytes : Bytes 
   abbrev clearShut : Bool
   clearShut = eqb (function frame) 0x05 && not (eqb (start frame) (clearAddress sheet))
 
-  pub so-address : {at : ℕ} → FirstBadAddress sheet frame at → (shutAddress sheet frame ≡ true) × (firstBadAddress sheet frame ≡ at)
-  so-address (ofClear is elsewhere) = (
+  pub so-first-address : {at : ℕ} → FirstBadAddress sheet frame at → (shutAddress sheet frame ≡ true) × (firstBadAddress sheet frame ≡ at)
+  so-first-address (ofClear is elsewhere) = (
     any readShut writeShut clearShut
         (inr (inr (ap₂ _&&_ (eq-eqb (function frame) 0x05 is)
         (ap not (ne-eqb (start frame) (clearAddress sheet) (λ e. elsewhere (word-same frame 2 ∙ e ∙ sym (word-same sheet 20)))))))),
     clear-told sheet frame is ∙ sym (word-same frame 2),
   )
-  so-address (ofRun k less shut front) = go (eqb (function frame) 0x03) (isWrite frame) refl refl
+  so-first-address (ofRun k less shut front) = go (eqb (function frame) 0x03) (isWrite frame) refl refl
     where
       go : (read write : Bool) → eqb (function frame) 0x03 ≡ read → isWrite frame ≡ write
           → (shutAddress sheet frame ≡ true) × (firstBadAddress sheet frame ≡ address frame k)
       go true write r w =
           let is = eqb-true (function frame) 0x03 r in
-          let found = run-is Read (asks-read is) k less shut front in
+          let found = run-is Read (opens-to-read is) k less shut front in
           (any readShut writeShut clearShut (inl (ap₂ _&&_ r (ap not (found .0)))), read-told sheet frame is ∙ found .1)
       go false true r w =
-          let found = run-is Write (asks-write (which frame w)) k less shut front in
+          let found = run-is Write (opens-to-write (which frame w)) k less shut front in
           (any readShut writeShut clearShut (inr (inl (ap₂ _&&_ w (ap not (found .0))))), write-told sheet frame w ∙ found .1)
       go false false r w =
           absurd (shut record {
@@ -243,8 +244,8 @@ module _ (given : Lent) (frame : List ℕ) (passed : Passed given) (write : isWr
       go true e = e
       go false e = absurd (outside (fine-so item value e touch is))
 
-  pub item-so : someBad given frame ≡ true → FirstBadItem given frame (firstBadItem given frame)
-  item-so one =
+  pub first-item-so : someBad given frame ≡ true → FirstBadItem given frame (firstBadItem given frame)
+  first-item-so one =
       let found = stops-at given frame one in
       let item = found .item in
       let here = bad-so item (found .bad) in
@@ -261,15 +262,15 @@ module _ (given : Lent) (frame : List ℕ) (passed : Passed given) (write : isWr
         outside = here .1;
         inFront = λ kind other low high value row touch is front.
             let earlier : Item = record { kind = kind; place = other; low = low; high = high } in
-            fine-so earlier value (first-bad given frame passed all (row-item (given .sheet) row) (omega (arith, front, found .at))) touch is;
+            fine-so earlier value (front-fine given frame passed all (row-item (given .sheet) row) (omega (arith, front, found .at))) touch is;
         itsAddress = lies-plain (given .sheet) (passed .right)
             (stop-lies given frame one (passed .right) ∙ ap (λ (n : ℕ). At n 3) (sym (found .at)));
       }
 
   -- and the other way
-  pub so-item : {at : ℕ} → FirstBadItem given frame at → (someBad given frame ≡ true) × (firstBadItem given frame ≡ at)
+  pub so-first-item : {at : ℕ} → FirstBadItem given frame at → (someBad given frame ≡ true) × (firstBadItem given frame ≡ at)
   unfolding someBad
-  so-item {at} first = (
+  so-first-item {at} first = (
     one,
     ap (addressOf (areas (given .sheet))) (sym same) ∙ place-address (given .sheet) (passed .right) at (first .place) 3
         (plain-lies (given .sheet) (passed .right) (first .itsAddress)),
@@ -294,7 +295,7 @@ module _ (given : Lent) (frame : List ℕ) (passed : Passed given) (write : isWr
           go : (front behind : Bool) → ltb (first .place) (stopPlace given frame) ≡ front → ltb (stopPlace given frame) (first .place) ≡ behind
               → first .place ≡ stopPlace given frame
           go true behind f b =
-              absurd (true≢false (sym its ∙ first-bad given frame passed all (row-item (given .sheet) (first .row)) (ltb-true (first .place) (stopPlace given frame) f)))
+              absurd (true≢false (sym its ∙ front-fine given frame passed all (row-item (given .sheet) (first .row)) (ltb-true (first .place) (stopPlace given frame) f)))
           go false true f b =
               let other = found .item in
               let here = bad-so other (found .bad) in

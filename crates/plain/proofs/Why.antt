@@ -33,7 +33,7 @@ use Rattle.plain.proofs.Rows.{word-same}
 use Rattle.plain.proofs.Conditions.{station-tells, allowed-tells, length-tells, count-tells, neither-first, neither-second, neither}
 use Rattle.plain.proofs.Addresses.{address-tells, writes, which}
 use Rattle.plain.proofs.Values.{value-tells}
-use Rattle.plain.proofs.FirstBad.{short-tells, long-tells, check-tells, many-so, so-many, many-tells, address-so, so-address, item-so, so-item}
+use Rattle.plain.proofs.FirstBad.{short-tells, long-tells, check-tells, many-so, so-many, many-tells, first-address-so, so-first-address, first-item-so, so-first-item}
 use Rattle.plain.proofs.Fates.{fails, unmet, one-fate}
 
 -- what goes out by the number of a reason
@@ -54,21 +54,21 @@ data Out (frame : List ℕ) : ℕ → Fate → Type 0 where
 module _ (given : Lent) (frame : List ℕ) (passed : Passed given) (bytes : Bytes (given .sheet)) where
   -- what the facts say where they do not hold
 
-  whole-so : tooShort frame ≡ false → tooLong frame ≡ false → checkDiffers frame ≡ false → Whole frame
-  whole-so a b c = record { least = short-tells frame .right a; most = long-tells frame .right b; check = check-tells frame .right c }
+  whole-by-facts : tooShort frame ≡ false → tooLong frame ≡ false → checkDiffers frame ≡ false → Whole frame
+  whole-by-facts a b c = record { least = short-tells frame .right a; most = long-tells frame .right b; check = check-tells frame .right c }
 
-  wrong-so : badCount frame ≡ false → shutAddress (given .sheet) frame ≡ false → wrongAddress (given .sheet) frame ≡ false
-  wrong-so few fine =
+  no-wrong-address : badCount frame ≡ false → shutAddress (given .sheet) frame ≡ false → wrongAddress (given .sheet) frame ≡ false
+  no-wrong-address few fine =
       wrong-address (given .sheet) frame ∙ neither (neither-second (wrongCount frame) (readsTooMany frame) few) fine
 
-  right-so : badCount frame ≡ false → shutAddress (given .sheet) frame ≡ false → RightAddress (given .sheet) frame
-  right-so few fine = address-tells (given .sheet) (passed .right) bytes frame .right (wrong-so few fine)
+  address-by-facts : badCount frame ≡ false → shutAddress (given .sheet) frame ≡ false → RightAddress (given .sheet) frame
+  address-by-facts few fine = address-tells (given .sheet) (passed .right) bytes frame .right (no-wrong-address few fine)
 
-  open-so : badCount frame ≡ false → shutAddress (given .sheet) frame ≡ false → isWrite frame ≡ true → allOpen Write (given .sheet) (run frame) ≡ true
-  open-so few fine write = open-write (given .sheet) frame write (wrong-so few fine) .all
+  open-by-facts : badCount frame ≡ false → shutAddress (given .sheet) frame ≡ false → isWrite frame ≡ true → allOpen Write (given .sheet) (run frame) ≡ true
+  open-by-facts few fine write = open-write (given .sheet) frame write (no-wrong-address few fine) .all
 
-  count-so : AsFunction given frame → wrongLength frame ≡ false → badCount frame ≡ false → AsCount given frame
-  count-so function long few =
+  count-by-facts : AsFunction given frame → wrongLength frame ≡ false → badCount frame ≡ false → AsCount given frame
+  count-by-facts function long few =
       record {
         function = function;
         long = length-tells frame .right long;
@@ -91,7 +91,7 @@ module _ (given : Lent) (frame : List ℕ) (passed : Passed given) (bytes : Byte
       as-function : tooShort frame ≡ false → tooLong frame ≡ false → checkDiffers frame ≡ false → otherStation given frame ≡ false
           → functionNotAllowed (given .sheet) frame ≡ false → AsFunction given frame
       as-function p q r s t =
-          record { whole = whole-so p q r; ours = station-tells given frame .right s; allowed = allowed-tells (given .sheet) frame .right t }
+          record { whole = whole-by-facts p q r; ours = station-tells given frame .right s; allowed = allowed-tells (given .sheet) frame .right t }
 
       either : (wrong many : Bool) → wrongCount frame ≡ wrong → readsTooMany frame ≡ many → (wrong || many) ≡ true → (RightCount frame → ⊥) ⊎ ReadsTooMany frame
       either true many w m e = inl (unmet (count-tells frame) w)
@@ -106,27 +106,27 @@ module _ (given : Lent) (frame : List ℕ) (passed : Passed given) (bytes : Byte
       go false true c d e f g h i j p q r s t u v w x y = byTooLong (ltb-true 100 (length frame) q)
       go false false true d e f g h i j p q r s t u v w x y =
           byCheck (short-tells frame .right p) (long-tells frame .right q) (unmet (check-tells frame) r)
-      go false false false true e f g h i j p q r s t u v w x y = byStation (whole-so p q r) (unmet (station-tells given frame) s)
+      go false false false true e f g h i j p q r s t u v w x y = byStation (whole-by-facts p q r) (unmet (station-tells given frame) s)
       go false false false false true f g h i j p q r s t u v w x y =
-          byFunction (whole-so p q r) (station-tells given frame .right s) (unmet (allowed-tells (given .sheet) frame) t)
+          byFunction (whole-by-facts p q r) (station-tells given frame .right s) (unmet (allowed-tells (given .sheet) frame) t)
       go false false false false false true g h i j p q r s t u v w x y = byBodyLength (as-function p q r s t) (unmet (length-tells frame) u)
       go false false false false false false true h i j p q r s t u v w x y =
           byCount (as-function p q r s t) (length-tells frame .right u) (either (wrongCount frame) (readsTooMany frame) refl refl v)
       go false false false false false false false true i j p q r s t u v w x y =
-          byAddress (count-so (as-function p q r s t) u v) (address-so (given .sheet) frame (passed .right) bytes w)
+          byAddress (count-by-facts (as-function p q r s t) u v) (first-address-so (given .sheet) frame (passed .right) bytes w)
       go false false false false false false false false true j p q r s t u v w x y =
-          byClearValue (count-so (as-function p q r s t) u v) (right-so v w)
+          byClearValue (count-by-facts (as-function p q r s t) u v) (address-by-facts v w)
           (eqb-true (function frame) 0x05 (first-of (eqb (function frame) 0x05) (not (eqb (second frame) 0)) x))
           (λ e. eqb-false (second frame) 0 (not-true (eqb (second frame) 0) (second-of (eqb (function frame) 0x05) (not (eqb (second frame) 0)) x))
           (sym (word-same frame 4) ∙ e))
       go false false false false false false false false false true p q r s t u v w x y =
           let write = first-of (isWrite frame) (someBad given frame) y in
-          byItem (count-so (as-function p q r s t) u v) (right-so v w)
-          (item-so given frame passed write (open-so v w write) (second-of (isWrite frame) (someBad given frame) y))
+          byItem (count-by-facts (as-function p q r s t) u v) (address-by-facts v w)
+          (first-item-so given frame passed write (open-by-facts v w write) (second-of (isWrite frame) (someBad given frame) y))
       go false false false false false false false false false false p q r s t u v w x y =
-          let asCount = count-so (as-function p q r s t) u v in
-          byNone (plain.allRight (asCount .function .whole) (asCount .function .ours) (asCount .function .allowed) (asCount .long) (asCount .counted) (right-so v w)
-          (value-tells given frame (passed .right) (open-so v w) .right (neither x y)))
+          let asCount = count-by-facts (as-function p q r s t) u v in
+          byNone (plain.allRight (asCount .function .whole) (asCount .function .ours) (asCount .function .allowed) (asCount .long) (asCount .counted) (address-by-facts v w)
+          (value-tells given frame (passed .right) (open-by-facts v w) .right (neither x y)))
 
   -- ---- and nothing else is so
 
@@ -197,14 +197,14 @@ module _ (given : Lent) (frame : List ℕ) (passed : Passed given) (bytes : Byte
       bad (inl wrong) = ap (λ (b : Bool). b || readsTooMany frame) (fails (count-tells frame) wrong)
       bad (inr many) = ap (λ (b : Bool). wrongCount frame || b) (so-many frame many) ∙ or-true (wrongCount frame)
   reason-is (byAddress is first) =
-      let shut = so-address (given .sheet) frame (passed .right) bytes first in
+      let shut = so-first-address (given .sheet) frame (passed .right) bytes first in
       (Address (firstBadAddress (given .sheet) frame), at-count is ∙ simp (shut .0), refl, sym (shut .1))
   reason-is (byClearValue is right clear other) =
       let wrong = ap₂ (λ (a b : Bool). a && not b) (eq-eqb (function frame) 0x05 clear) (ne-eqb (second frame) 0 (λ e. other (word-same frame 4 ∙ e))) in
       (ClearValue, at-count is ∙ simp (fine-so is right, wrong), refl, refl)
   reason-is (byItem is right first) =
       let write = writes frame (first .writes) in
-      let found = so-item given frame passed write (open-so (few-so is) (fine-so is right) write) first in (
+      let found = so-first-item given frame passed write (open-by-facts (few-so is) (fine-so is right) write) first in (
         Item (firstBadItem given frame),
         at-count is ∙ simp (fine-so is right, write-value frame write, write-bad frame write given ∙ found .0),
         refl,
@@ -217,7 +217,7 @@ module _ (given : Lent) (frame : List ℕ) (passed : Passed given) (bytes : Byte
         counted = counted;
         few = λ many. omega (arith, right .atMost47 (many .0), many .1);
       } in
-      let none = value-tells given frame (passed .right) (open-so (few-so is) (fine-so is right)) .wrongly values in (
+      let none = value-tells given frame (passed .right) (open-by-facts (few-so is) (fine-so is right)) .wrongly values in (
         None,
         at-count is
             ∙ simp (

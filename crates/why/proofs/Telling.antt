@@ -34,7 +34,7 @@ use Rattle.meter_rules.specs.declared.Judgement.the-variants as stopped
 use Rattle.meter_rules.specs.Judgement.{judgement, judgementBy}
 use Rattle.why_rules.specs.declared.Explained.{Explained}
 use Rattle.why_rules.specs.declared.Explained.the-variants.{Refused, Because}
-use Rattle.why.specs.Told.{wronglyAddressed, toldOf}
+use Rattle.why.specs.Told.{wronglyAddressed, reasonBy}
 
 -- ---- a frame that step 6 stops, function by function
 
@@ -88,23 +88,23 @@ module _ (given : Lent) (keeps : sound (given .sheet) ≡ true) (frame : List �
           ∙ sym (told-write (given .sheet) frame (eqb-false (function frame) clears (asks .isClear)) (eqb-false (function frame) reads (asks .isRead)))
       go (inr (inr (is, elsewhere))) = ap Address (clear-told (given .sheet) frame is) ∙ sym (told-clear (given .sheet) frame is)
 
-  good-none : None ≡ toldOf (goodFrame (given .sheet) frame) (given .sheet) frame
+  good-none : None ≡ reasonBy (goodFrame (given .sheet) frame) (given .sheet) frame
   good-none = go (eqb (function frame) reads) (eqb (function frame) clears)
     where
       go : (read clear : Bool)
-          → None ≡ toldOf (cond read (GoodRead (firstPlace (given .sheet) frame) (count frame))
+          → None ≡ reasonBy (cond read (GoodRead (firstPlace (given .sheet) frame) (count frame))
           (cond clear GoodClear (GoodWrite (firstPlace (given .sheet) frame) (count frame)))) (given .sheet) frame
       go true clear = refl
       go false true = refl
       go false false = refl
 
   -- the reason is told of where the frame stops
-  pub told : reasonOf given frame ≡ toldOf (judgedFrame given frame) (given .sheet) frame
+  pub told : reasonOf given frame ≡ reasonBy (judgedFrame given frame) (given .sheet) frame
   unfolding reasonOf judgedFrame firstCase
   told =
       go (tooShort frame) (tooLong frame) (checkDiffers frame) (otherStation given frame) (functionNotAllowed (given .sheet) frame) (wrongLength frame)
       (wrongCount frame) (readsTooMany frame) (shutAddress (given .sheet) frame) (wrongValue frame) (badWrite given frame) refl refl refl refl refl
-      ∙ sym (ap₂ (λ (fails wrong : Bool). toldOf
+      ∙ sym (ap₂ (λ (fails wrong : Bool). reasonBy
       (firstCase (when fails FailsCheck ∷ when (otherStation given frame) OtherStation ∷ when (functionNotAllowed (given .sheet) frame) FunctionNotAllowed
       ∷ when (wrongLength frame) WrongLength ∷ when (wrongCount frame) WrongCount ∷ when wrong WrongAddress ∷ when (wrongValue frame) WrongValue
       ∷ when (badWrite given frame) (BadItem (firstPlace (given .sheet) frame) (stopPlace given frame)) ∷ []) (goodFrame (given .sheet) frame))
@@ -114,7 +114,7 @@ module _ (given : Lent) (keeps : sound (given .sheet) ≡ true) (frame : List �
           → badWrite given frame ≡ h
           → firstCase (when a TooShort ∷ when b TooLong ∷ when c Check ∷ when d Station ∷ when e Function ∷ when f BodyLength ∷ when (g || t) Count
           ∷ when s (Address (firstBadAddress (given .sheet) frame)) ∷ when v ClearValue ∷ when h (Item (firstBadItem given frame)) ∷ []) None
-          ≡ toldOf (firstCase (when (a || b || c) FailsCheck ∷ when d OtherStation ∷ when e FunctionNotAllowed ∷ when f WrongLength ∷ when g WrongCount
+          ≡ reasonBy (firstCase (when (a || b || c) FailsCheck ∷ when d OtherStation ∷ when e FunctionNotAllowed ∷ when f WrongLength ∷ when g WrongCount
           ∷ when (t || s) WrongAddress ∷ when v WrongValue ∷ when h (BadItem (firstPlace (given .sheet) frame) (stopPlace given frame)) ∷ [])
           (goodFrame (given .sheet) frame)) (given .sheet) frame
       go true b c d e f g t s v h is-a is-b is-t is-s is-h = simp is-a
@@ -139,7 +139,7 @@ module _ (given : Lent) (keeps : sound (given .sheet) ≡ true) (frame : List �
 -- what is told of a judgement
 abbrev pub explainedOf : Judgement → List ℕ → List ℕ → Explained
 explainedOf (stopped.Refused refusal) sheet frame = Refused refusal
-explainedOf (stopped.Stops judged) sheet frame = Because (toldOf judged sheet frame)
+explainedOf (stopped.Stops judged) sheet frame = Because (reasonBy judged sheet frame)
 
 pub explained : (given : Lent) (frame : List ℕ) → explainedOf (judgement given frame) (given .sheet) frame ≡ explanation given frame
 unfolding judgement explanation

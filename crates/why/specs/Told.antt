@@ -26,15 +26,15 @@ wronglyAddressed sheet frame =
     (cond (ltb mostRead (second frame)) Count (Address (reach Read (areas sheet) (start frame))))
     (Address (reach Write (areas sheet) (start frame))))
 
-abbrev pub toldOf : Judged → List ℕ → List ℕ → Reason
-toldOf FailsCheck sheet frame = unpassed frame
-toldOf OtherStation sheet frame = Station
-toldOf FunctionNotAllowed sheet frame = Function
-toldOf WrongLength sheet frame = BodyLength
-toldOf WrongCount sheet frame = Count
-toldOf WrongAddress sheet frame = wronglyAddressed sheet frame
-toldOf WrongValue sheet frame = ClearValue
-toldOf (BadItem first stop) sheet frame = Item (addressOf (areas sheet) (stop % 65536))
-toldOf (GoodRead first many) sheet frame = None
-toldOf GoodClear sheet frame = None
-toldOf (GoodWrite first many) sheet frame = None
+abbrev pub reasonBy : Judged → List ℕ → List ℕ → Reason
+reasonBy FailsCheck sheet frame = unpassed frame
+reasonBy OtherStation sheet frame = Station
+reasonBy FunctionNotAllowed sheet frame = Function
+reasonBy WrongLength sheet frame = BodyLength
+reasonBy WrongCount sheet frame = Count
+reasonBy WrongAddress sheet frame = wronglyAddressed sheet frame
+reasonBy WrongValue sheet frame = ClearValue
+reasonBy (BadItem first stop) sheet frame = Item (addressOf (areas sheet) (stop % 65536))
+reasonBy (GoodRead first many) sheet frame = None
+reasonBy GoodClear sheet frame = None
+reasonBy (GoodWrite first many) sheet frame = None

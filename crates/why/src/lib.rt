@@ -2,7 +2,7 @@
 ghost use mathlib.Core.Path.{_≡_};
 ghost use Rattle.bank_rules.specs.Calls.{lent};
 ghost use Rattle.why_rules.specs.Reasons.{explanation};
-ghost use Rattle.why.specs.Told.{unpassed, wronglyAddressed, toldOf};
+ghost use Rattle.why.specs.Told.{unpassed, wronglyAddressed, reasonBy};
 use meter_rules::Judged;
 use meter_rules::Judgement;
 use sheet_rules::Purpose;
@@ -43,8 +43,8 @@ fn wrongly_addressed(sheet: &[u8], frame: &[u8]) -> Reason
 }
 
 // The reason by where a frame stops. The place of an item is a word of the sheet, so nothing is lost of it.
-fn told_of(judged: Judged, sheet: &[u8], frame: &[u8]) -> Reason
-    ensures { λ r. ⌜ r ≡ toldOf judged (now (sheet .entry)) (now (frame .entry)) ⌝ }
+fn reason_by(judged: Judged, sheet: &[u8], frame: &[u8]) -> Reason
+    ensures { λ r. ⌜ r ≡ reasonBy judged (now (sheet .entry)) (now (frame .entry)) ⌝ }
 {
     match judged {
         Judged::FailsCheck => unpassed(frame),
@@ -69,6 +69,6 @@ pub fn why(sheet: &[u8], bank: &[u8], frame: &[u8]) -> Explained
 {
     match meter::judge(sheet, bank, frame) {
         Judgement::Refused(refusal) => Explained::Refused(refusal),
-        Judgement::Stops(judged) => Explained::Because(told_of(judged, sheet, frame)),
+        Judgement::Stops(judged) => Explained::Because(reason_by(judged, sheet, frame)),
     }
 }

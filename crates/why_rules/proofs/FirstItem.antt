@@ -1,7 +1,7 @@
--- The first bad item of a write: it is touched and would be out of its range, every touched item in front of it would be in range, and the
--- address that is told is its own first one. Assumes nothing.
+-- The first bad item of a write: the write stops at one that is bad, and the address that is told is its own first one. (That no item in front of
+-- the stop is bad is `front-fine` of meter_rules.) Assumes nothing.
 use mathlib.Core.Path.{_≡_, refl, sym, ap, _∙_}
-use mathlib.Core.Bool.{Bool, true, false, not, _&&_, _||_, true≢false}
+use mathlib.Core.Bool.{Bool, true, _&&_, _||_, true≢false}
 use mathlib.Core.Logic.{_⊎_, inl, inr}
 use mathlib.Core.List.{List}
 use Prim.Native.Nat.{ℕ, _+_, _<_}
@@ -11,21 +11,18 @@ use borrow.Author.Tests.{le-ltb, eq-eqb}
 use Rattle.lists.proofs.Among.{Among}
 use Rattle.sheet_rules.specs.declared.Item.{Item}
 use Rattle.sheet_rules.specs.declared.Lies.the-variants.{At}
-use Rattle.sheet_rules.specs.declared.Purpose.the-variants.{Write}
 use Rattle.sheet_rules.specs.Rows.{areas, items, bankWords}
 use Rattle.sheet_rules.specs.Rules.{isPair, readAndWrite, sound}
 use Rattle.sheet_rules.proofs.Places.{inWritable}
 use Rattle.sheet_rules.specs.Lookup.{liesIn}
-use Rattle.sheet_rules.specs.Runs.{allOpen}
 use Rattle.sheet_rules.proofs.Sound.{sound-numbers}
 use Rattle.sheet_rules.proofs.Addresses.{address-lies}
 use Rattle.bank_rules.specs.Calls.{Lent}
-use Rattle.bank_rules.proofs.Changes.{Passed}
 use Rattle.bank_rules.proofs.Held.{held-writable, writable-below, writable-access}
-use Rattle.frame.specs.Frame.{count, run}
+use Rattle.frame.specs.Frame.{count}
 use Rattle.meter_rules.specs.Write.{firstPlace, badItem, someBad, stopIn, stopPlace}
 use Rattle.meter_rules.proofs.Stopping.{stop-some}
-use Rattle.meter_rules.proofs.Keeping.{stop-at, front-fine}
+use Rattle.meter_rules.proofs.Keeping.{stop-at}
 use Rattle.why_rules.specs.Facts.{firstBadItem}
 
 module _ (given : Lent) (frame : List ℕ) where
@@ -80,8 +77,3 @@ module _ (given : Lent) (frame : List ℕ) where
           found .1
           ∙ ap (At (stopPlace given frame))
           (writable-access (given .sheet) keeps (firstBadItem given frame) (stopPlace given frame) (found .0) (found .1) held)
-
-  -- and every item in front of it is not bad
-  pub first-bad : Passed given → allOpen Write (given .sheet) (run frame) ≡ true → {item : Item} → Among item (items (given .sheet))
-      → item .place < stopPlace given frame → isBad item ≡ false
-  first-bad passed all among front = front-fine given frame passed all among front

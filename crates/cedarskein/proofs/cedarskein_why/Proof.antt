@@ -11,8 +11,8 @@ returns : tie.Need-returns
 returns c =
     let asked = c .before .before .before in
     let known = asked .before in (
-      ap₂ (λ (number reason : ℕ). said number reason (c .before .address-of .result)) (c .of-explained .ensures) (c .before .before .reason-of .ensures)
-          ∙ ap (said (explainedNumber (asked .why .result)) (reasonIn (asked .why .result))) (c .before .address-of .ensures)
+      ap₂ (λ (number reason : ℕ). said number reason (c .before .address-in .result)) (c .of-explained .ensures) (c .before .before .reason-in .ensures)
+          ∙ ap (said (explainedNumber (asked .why .result)) (reasonIn (asked .why .result))) (c .before .address-in .ensures)
           ∙ ap saidOf (asked .why .ensures),
       (
         λ i. known .before .before .shared-slice-known .given i .fits,

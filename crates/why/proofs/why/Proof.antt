@@ -30,7 +30,7 @@ returns : tie.Need-returns
 returns c = by (c .before .before .before) (c .before .refusal .given .1)
 
 returns-2 : tie.Need-returns-2
-returns-2 c = ap Because (c .told-of .ensures) ∙ by (c .before .before .before .before) (c .before .before .judged .given .1)
+returns-2 c = ap Because (c .reason-by .ensures) ∙ by (c .before .before .before .before) (c .before .before .judged .given .1)
 
 pub why-spec : {M : Type 1} → statement M
 why-spec =

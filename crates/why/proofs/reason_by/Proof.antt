@@ -1,19 +1,19 @@
--- `why::told_of` meets its contract, judgement by judgement. Assumes nothing.
+-- `why::reason_by` meets its contract, judgement by judgement. Assumes nothing.
 use mathlib.Core.Path.{_≡_, _∙_, sym, ap}
 use denote.Ref.{now}
 use borrow.Author.Needs.{needs}
 use Rattle.meter_rules.specs.declared.Judged.{Judged}
 use Rattle.why_rules.specs.declared.Reason.the-variants.{Item}
-use Rattle.why.specs.Told.{toldOf}
-use Rattle.why.proofs.told_of.Statement.{statement}
-use Rattle.why.proofs.told_of.Tie as tie
+use Rattle.why.specs.Told.{reasonBy}
+use Rattle.why.proofs.reason_by.Statement.{statement}
+use Rattle.why.proofs.reason_by.Tie as tie
 
 -- in front of the cases
 module _ (c : tie.After-shared-slice-known2) where
   by : {judged : Judged} → c .before .before .args .judged ≡ judged
-      → toldOf judged (now (c .before .before .args .sheet)) (now (c .before .before .args .frame))
-      ≡ toldOf (c .before .before .args .judged) (now (c .before .before .args .sheet)) (now (c .before .before .args .frame))
-  by is = ap (λ (j : Judged). toldOf j (now (c .before .before .args .sheet)) (now (c .before .before .args .frame))) (sym is)
+      → reasonBy judged (now (c .before .before .args .sheet)) (now (c .before .before .args .frame))
+      ≡ reasonBy (c .before .before .args .judged) (now (c .before .before .args .sheet)) (now (c .before .before .args .frame))
+  by is = ap (λ (j : Judged). reasonBy j (now (c .before .before .args .sheet)) (now (c .before .before .args .frame))) (sym is)
 
 returns : tie.Need-returns
 returns c = c .unpassed .ensures ∙ by (c .before .before .before) (c .before .enum-told .given .1)
@@ -24,8 +24,8 @@ returns-6 c = c .wrongly-addressed .ensures ∙ by (c .before .before .before) (
 returns-8 : tie.Need-returns-8
 returns-8 c = ap Item (c .address-of .ensures) ∙ by (c .before .before .before .before) (c .before .before .judged .given .1)
 
-pub told-of-spec : {M : Type 1} → statement M
-told-of-spec =
+pub reason-by-spec : {M : Type 1} → statement M
+reason-by-spec =
     tie.close
     (tie.spec
     (λ c. search needs)
