@@ -52,12 +52,15 @@ sheet = bytesOf sheetWords
 abbrev bank : List Change → List ℕ
 bank changes = bytesOf (changed 0 words changes)
 
--- of version 2; and one whose address may be 0
+-- of version 2; one whose address may be 0, and one whose address may be F8: neither is sound
 abbrev broken : List ℕ
 broken = bytesOf (changed 0 sheetWords (at 0 2 ∷ []))
 
 abbrev fromZero : List ℕ
 fromZero = bytesOf (changed 0 sheetWords (at 43 0 ∷ []))
+
+abbrev toF8 : List ℕ
+toF8 = bytesOf (changed 0 sheetWords (at 45 0x00F8 ∷ []))
 
 -- a sheet whose first place is read only, and whose pair and word are at the highest values
 abbrev highest : List ℕ
@@ -129,6 +132,11 @@ table =
     ∷ bad (at 0 0x0000 ∷ [])
     ∷ whole (at 0 0x00F7 ∷ [])
     ∷ bad (at 0 0x00F8 ∷ [])
+    ∷ bad (at 0 0x00FF ∷ [])
+    ∷ check fromZero (bank []) 2
+    ∷ check fromZero (bank (at 0 0x0000 ∷ [])) 2
+    ∷ check toF8 (bank []) 2
+    ∷ check toF8 (bank (at 0 0x00F8 ∷ [])) 2
     ∷ whole (at 1 0x0001 ∷ [])  -- the rate, 0..1
     ∷ bad (at 1 0x0002 ∷ [])
     ∷ whole (at 2 0xFFF6 ∷ [])  -- the signed word, -10..60
@@ -157,7 +165,8 @@ table =
     -- a fresh bank, whatever the bank was
     ∷ fresh sheet (replicate 28 0xFF) 0 (bytesOf freshWords)
     ∷ fresh sheet unsound 0 (bytesOf freshWords)
-    ∷ fresh fromZero (bank []) 0 (bytesOf freshWords)  -- the address is 1, also where its range begins at 0
+    ∷ fresh fromZero (bank []) 2 (bank [])  -- an address from 0 on
+    ∷ fresh toF8 (bank []) 2 (bank [])  -- an address up to F8
     ∷ fresh highest (replicate 14 0xFF) 0 (bytesOf (0x0000 ∷ 0x0001 ∷ 0x0001 ∷ 0xFFFF ∷ 0xFFFE ∷ 0xFFFF ∷ 0x0000 ∷ []))
     ∷ fresh broken (bank []) 2 (bank [])
     ∷ fresh broken [] 2 []

@@ -51,7 +51,7 @@ asweText bore =
     ++ ascii "0105 u 1 16\n"
     ++ ascii "0106 u 800 1200\n"
     ++ ascii "0107 u 0 1\n"
-    ++ ascii "0108 u 0 255\n"
+    ++ ascii "0108 u 1 247\n"
     ++ (ascii "0109 u 0 " ++ ascii bore ++ ascii "\n")
     ++ ascii "010D u 500 1999\n"
     ++ ascii "010E u 0 65535\n"

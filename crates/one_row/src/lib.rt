@@ -6,6 +6,11 @@ ghost use Rattle.sheet_rules.specs.Rules.{readable, accessRule, firstLastRule, 
 use sheet_rules::Area;
 use sheet_rules::Item;
 
+// The addresses that a meter may have: rule S63.
+const LOWEST_STATION: u32 = 1;
+
+const HIGHEST_STATION: u32 = 0xF7;
+
 // Whether an address lies in an area.
 pub fn in_area(address: u32, area: Area) -> bool
     ensures { λ r. ⌜ r ≡ inArea address area ⌝ }
@@ -121,7 +126,10 @@ pub fn address_found(before: bool, item: Item, place: u16) -> bool
     if !setting_at(item, place) {
         return before;
     }
-    if item.high > 0xFF {
+    if item.low < LOWEST_STATION {
+        return before;
+    }
+    if item.high > HIGHEST_STATION {
         return before;
     }
     true

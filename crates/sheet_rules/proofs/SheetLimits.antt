@@ -66,8 +66,8 @@ high row = 24 + 6 * row + 5
 abbrev another : ℕ → List ℕ
 another place = changed 0 base (at 3 7 ∷ at 7 66 ∷ []) ++ (0 ∷ place ∷ 0x0000 ∷ 0x0000 ∷ 0x0000 ∷ 0x0001 ∷ [])
 
--- ---- sheets of many rows, where an address is its place: so many items, each a word 0..1, in the first area; behind it the other areas,
--- read only and of one word each, but the last one goes on to the end of the bank's words
+-- ---- sheets of many rows, where an address is its place: so many items, the first a word 1..1 and each other a word 0..1, in the first area;
+-- behind it the other areas, read only and of one word each, but the last one goes on to the end of the bank's words
 unfoldable pub builtItems : ℕ → ℕ → List ℕ
 builtItems from zero = []
 builtItems from (suc more) = 0 ∷ from ∷ 0 ∷ 0 ∷ 0 ∷ 1 ∷ builtItems (suc from) more
@@ -87,7 +87,7 @@ unfoldable pub built : ℕ → ℕ → ℕ → List ℕ
 unfolding builtAreas builtItems
 built many count words =
     1 ∷ many ∷ 12 ∷ count ∷ (12 + 4 * many) ∷ words ∷ 0 ∷ (12 + 4 * many + 6 * count) ∷ 0 ∷ 1 ∷ 0 ∷ 0
-    ∷ builtAreas many count words ++ builtItems 0 count
+    ∷ builtAreas many count words ++ (0 ∷ 0 ∷ 0 ∷ 1 ∷ 0 ∷ 1 ∷ builtItems 1 (count - 1))
 
 -- ---- the rows
 
@@ -262,7 +262,7 @@ table =
     -- address and rate at different places
     ∷ broken-with base (at 8 1 ∷ [])  -- both at the rate's
     ∷ broken-with base (at 9 0 ∷ at (low 0) 0 ∷ at (high 0) 1 ∷ [])  -- both at the address's
-    ∷ sound-with base (at 8 1 ∷ at 9 0 ∷ at (low 0) 0 ∷ at (high 0) 1 ∷ [])  -- each at the other's
+    ∷ sound-with base (at 8 1 ∷ at (low 1) 1 ∷ at 9 0 ∷ at (low 0) 0 ∷ at (high 0) 1 ∷ [])  -- each at the other's
     -- the address is an item of kind 0
     ∷ sound-with base (at 8 2 ∷ at (low 2) 1 ∷ [])  -- another one
     ∷ broken-with base (at 8 5 ∷ at (low 4) 1 ∷ [])  -- one of kind 1
@@ -281,13 +281,20 @@ table =
     ∷ broken-with base (at 9 4 ∷ at (lowUpper 3) 0 ∷ at (low 3) 0 ∷ at (highUpper 3) 0 ∷ at (high 3) 1 ∷ [])  -- the lower half of a pair
     ∷ broken-with base (at 9 7 ∷ [])  -- a place of access 1
     ∷ broken-with base (at 9 9 ∷ [])  -- the mark's place
-    -- the address range is within 0 to FF and holds 1; the base has 1..F7
-    ∷ sound-with base (at (low 0) 0 ∷ [])  -- low 0
-    ∷ broken-with base (at (low 0) 2 ∷ [])  -- low 2
-    ∷ broken-with base (at (low 0) 0 ∷ at (high 0) 0 ∷ [])  -- high 0
+    -- the address range is within 1 to F7 and holds 1; the base has 1..F7
+    ∷ broken-with base (at (low 0) 0 ∷ [])  -- low 0
+    ∷ sound-with base (at (low 0) 1 ∷ [])  -- low 1
+    ∷ broken-with base (at (low 0) 2 ∷ [])  -- low 2, which does not hold 1
+    ∷ broken-with base (at (high 0) 0 ∷ [])  -- high 0, below the low bound
+    ∷ broken-with base (at (low 0) 0 ∷ at (high 0) 0 ∷ [])  -- high 0, with low 0
     ∷ sound-with base (at (high 0) 1 ∷ [])  -- high 1
-    ∷ sound-with base (at (high 0) 0x00FF ∷ [])  -- high FF
+    ∷ sound-with base (at (high 0) 0x00F6 ∷ [])  -- high F6
+    ∷ sound-with base (at (high 0) 0x00F7 ∷ [])  -- high F7
+    ∷ broken-with base (at (high 0) 0x00F8 ∷ [])  -- high F8
+    ∷ broken-with base (at (high 0) 0x00FF ∷ [])  -- high FF
     ∷ broken-with base (at (high 0) 0x0100 ∷ [])  -- high 100
+    ∷ broken-with base (at (low 0) 0 ∷ at (high 0) 0x00FF ∷ [])  -- 0..FF
+    ∷ broken-with base (at (low 0) 0 ∷ at (high 0) 1 ∷ [])  -- 0..1
     -- the rate's range is 0 to 1
     ∷ broken-with base (at (high 1) 0 ∷ [])  -- 0..0
     ∷ broken-with base (at (high 1) 2 ∷ [])  -- 0..2

@@ -95,12 +95,14 @@ table =
     ∷ broken-with (at 9 3 ∷ [])
     ∷ broken-with (at 16 1 ∷ [])
     ∷ broken-with (at 22 1 ∷ [])
-    ∷ sound-with (at 19 0 ∷ [])
     ∷ broken-with (at 19 2 ∷ [])
     ∷ sound-with (at 21 1 ∷ [])
     ∷ broken-with (at 19 0 ∷ at 21 0 ∷ [])
     -- rule S63
-    ∷ sound-with (at 21 0x00FF ∷ [])
+    ∷ broken-with (at 19 0 ∷ [])
+    ∷ sound-with (at 19 1 ∷ at 21 0x00F7 ∷ [])
+    ∷ broken-with (at 21 0x00F8 ∷ [])
+    ∷ broken-with (at 21 0x00FF ∷ [])
     ∷ broken-with (at 21 0x0100 ∷ [])
     -- rule S64
     ∷ broken-with (at 25 1 ∷ [])

@@ -196,10 +196,10 @@ itemsSound sheet =
 
 -- rule S63: the addresses that a meter may have
 abbrev pub lowestStation : ℕ
-lowestStation = 0
+lowestStation = 1
 
 abbrev pub highestStation : ℕ
-highestStation = 0xFF
+highestStation = 0xF7
 
 -- rules S61 and S62: an item of kind 0 whose first place is a given one, and whose range has 1 in it
 abbrev pub settingAt : ℕ → Item → Bool

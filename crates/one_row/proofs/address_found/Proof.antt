@@ -1,6 +1,5 @@
 -- `one_row::address_found` meets its contract: each return by the tests that led there. Assumes nothing.
 use mathlib.Core.Bool.{and-false}
-use lib.Dec.{leb·zero}
 use borrow.Author.Tests.{lt-leb, le-leb}
 use Rattle.lists.proofs.Tests.{refused, passed, found-before, found-here, all-three}
 use Rattle.sheet_rules.proofs.Tests.{elsewhere}
@@ -23,9 +22,13 @@ returns-3 : tie.Need-returns-3
 returns-3 c = found-before (c .before .before .before .before .before .before .args .before) (simp (lt-leb _ _ (c .if3 .taken), and-false))
 
 returns-4 : tie.Need-returns-4
-returns-4 c = let a = c .before .before .before .before .before .before .args in
+returns-4 c = found-before (c .before .before .before .before .before .before .before .before .args .before) (simp (lt-leb _ _ (c .if4 .taken), and-false))
+
+returns-5 : tie.Need-returns-5
+returns-5 c = let a = c .before .before .before .before .before .before .before .before .args in
     found-here (a .before)
-    (all-three (passed (c .before .before .before .setting-at .ensures) (c .before .before .if2 .left)) (leb·zero (a .item .low)) (le-leb _ _ (c .if3 .left)))
+    (all-three (passed (c .before .before .before .before .before .setting-at .ensures) (c .before .before .before .before .if2 .left))
+    (le-leb _ _ (c .before .before .if3 .left)) (le-leb _ _ (c .if4 .left)))
 
 pub address-found-spec : {M : Type 1} → statement M
-address-found-spec = tie.close (tie.spec returns setting-at-requires returns-2 returns-3 returns-4)
+address-found-spec = tie.close (tie.spec returns setting-at-requires returns-2 returns-3 returns-4 returns-5)
