@@ -3,7 +3,7 @@
 use mathlib.Core.Path.{_≡_, sym, ap, subst, _∙_}
 use mathlib.Core.Bool.{Bool, true, not, _&&_, _||_, or-true}
 use mathlib.Core.List.{List}
-use Prim.Native.Nat.{ℕ, _+_, _-_, _<_}
+use Prim.Native.Nat.{ℕ, _+_, _-_, _≤_, _<_}
 use native.Mathlib.Omega.{arith}
 use lib.Dec.{leb, ltb, eqb}
 use borrow.Author.Tests.{leb-true, ltb-true, eqb-true, eq-eqb}
@@ -91,6 +91,19 @@ module _ (sheet : List ℕ) (keeps : sound sheet ≡ true) where
       setting-item sheet (addressPlace sheet) (addressItem (addressPlace sheet))
       (λ item e. first-of-three (settingAt (addressPlace sheet) item) (leb lowestStation (item .low)) (leb (item .high) highestStation) e)
       (settings .0)
+
+  -- and its bounds are stations: rule S63
+  pub address-bounds : (lowestStation ≤ address-item .item .low) × (address-item .item .high ≤ highestStation)
+  unfolding address-item setting-item
+  address-bounds =
+      let found = some-among (addressItem (addressPlace sheet)) (items sheet) (settings .0) in
+      let item = found .0 in
+      let setting : Bool = settingAt (addressPlace sheet) item in
+      let low : Bool = leb lowestStation (item .low) in
+      let high : Bool = leb (item .high) highestStation in (
+        leb-true lowestStation (item .low) (second-of setting low (first-of (setting && low) high (found .2))),
+        leb-true (item .high) highestStation (second-of (setting && low) high (found .2)),
+      )
 
   pub rate-item : SettingItem sheet (ratePlace sheet)
   rate-item =

@@ -4,6 +4,7 @@ pub mod Held
 pub mod Inside
 pub mod Numbers
 pub mod Values
+pub mod Station
 pub mod FreshBank
 pub mod Changes
 pub mod Soundness

@@ -118,19 +118,24 @@ good-low at item low ordered =
     ap (inRange (item .kind) (item .low) (item .high)) low
     ∙ ap₂ _&&_ (not-above-itself (item .kind) (item .low)) ordered
 
--- the address or the rate at 1
-pub good-one : {sheet : List ℕ} {place : ℕ} (at : ℕ → ℕ) (setting : SettingItem sheet place) → at place ≡ 1 → goodBy at (setting .item) ≡ true
-unfolding goodBy
-good-one {place = place} at setting one =
-    ap (inRange (item .kind) (item .low) (item .high)) (word ∙ ap at (setting .at) ∙ one) ∙ setting .one
+-- the address's and the rate's value is the word at its place
+pub setting-value : {sheet : List ℕ} {place : ℕ} (at : ℕ → ℕ) (setting : SettingItem sheet place) → valueBy at (setting .item) ≡ at place
+setting-value at setting =
+    ap (λ (b : Bool). cond b (at (item .place) * 65536 + at (item .place + 1)) (at (item .place)))
+    (ap (λ (kind : ℕ). eqb kind unsignedPair) (setting .plain))
+    ∙ ap at (setting .at)
   where
     item : Item
     item = setting .item
 
-    word : valueBy at item ≡ at (item .place)
-    word =
-        ap (λ (b : Bool). cond b (at (item .place) * 65536 + at (item .place + 1)) (at (item .place)))
-        (ap (λ (kind : ℕ). eqb kind unsignedPair) (setting .plain))
+-- the address or the rate at 1
+pub good-one : {sheet : List ℕ} {place : ℕ} (at : ℕ → ℕ) (setting : SettingItem sheet place) → at place ≡ 1 → goodBy at (setting .item) ≡ true
+unfolding goodBy
+good-one at setting one =
+    ap (inRange (item .kind) (item .low) (item .high)) (setting-value at setting ∙ one) ∙ setting .one
+  where
+    item : Item
+    item = setting .item
 
 -- ---- a bank whose items are all good
 

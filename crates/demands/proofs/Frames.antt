@@ -1,6 +1,6 @@
 -- Demands 2 and 3 over the calls themselves. Demand 2: what is handed back and left is what the plain numbers say (`Leaves`), and they leave
--- no choice. Demand 3: what arrives damaged of a frame that was sent right is met with silence, and nothing is touched. That what was lent is
--- bytes is supposed nowhere: the call says it. Assumes nothing.
+-- no choice. A frame for a station that no meter has, and demand 3, what arrives damaged of a frame that was sent right: silence, and nothing is
+-- touched. That what was lent is bytes is supposed nowhere: the call says it. Assumes nothing.
 use mathlib.Core.Path.{_≡_, refl, sym, ap, subst, _∙_}
 use mathlib.Core.Bool.{true, not}
 use mathlib.Core.List.{List}
@@ -18,6 +18,7 @@ use Rattle.plain.specs.Numbers.{Bytes, byte, word}
 use Rattle.plain.specs.Sheet.{LiesAt}
 use Rattle.plain.specs.Frame as fates
 use Rattle.plain.specs.Frame.{Fate, silence, good, Gets, Within, address}
+use Rattle.plain.specs.Stations.{Station, KeptBack}
 use Rattle.plain.specs.Damage.{Sent, Damage}
 use Rattle.plain.specs.Registers.{writeOne, TakenWithin}
 use Rattle.plain.specs.Left as plain
@@ -26,6 +27,7 @@ use Rattle.plain.proofs.Rows.{word-same}
 use Rattle.plain.proofs.Damage.{damaged-fails}
 use Rattle.plain.proofs.Conditions.{whole-tells}
 use Rattle.plain.proofs.Fates.{one-fate, unmet}
+use Rattle.plain.proofs.Stations.{bank-station, kept-back-quiet}
 use Rattle.plain.proofs.ReadOnly as read-only
 use Rattle.plain.proofs.Once as once
 use Rattle.plain.proofs.Meets.{leftOf, meets}
@@ -39,6 +41,10 @@ module _ (given : Lent) (frame buffer : List ℕ) (accepted : Accepted given buf
   unfolding answerOutcome frameCheck firstCase
   acted =
       simp (accepted .sheetSound, accepted .bankFits, accepted .bankWhole, le-ltb (length buffer) leastBuffer (accepted .bufferLong))
+
+  -- rule J21: the bank is at one of the stations 1 to 247
+  pub at-station : Station (word (given .bank) (2 * word (given .sheet) 16))
+  at-station = bank-station given (accepted .sheetSound) (accepted .bankWhole)
 
   module _ {left : Handed} (call : Answers given frame buffer left) where
     sheet-bytes : Bytes (given .sheet)
@@ -106,17 +112,22 @@ module _ (given : Lent) (frame buffer : List ℕ) (accepted : Accepted given buf
             (one-fate given frame (accepted .sheetSound) sheet-bytes (leaves .gets)
             (subst (λ (f : List ℕ). Gets given f good) (sym is) (within .taken .1 inside))) (leaves .handsBack))
 
+    -- a frame that gets silence: nothing is handed back but the number, and nothing is touched
+    met-by-silence : frame-leaves .fate ≡ silence → left ≡ handed 1 0 0 (given .bank) buffer
+    met-by-silence quiet = go (subst (plain.HandsBack given frame buffer (leftBy left)) quiet (frame-leaves .handsBack))
+      where
+        go : plain.HandsBack given frame buffer (leftBy left) silence → left ≡ handed 1 0 0 (given .bank) buffer
+        go (plain.quiet e) = ap (λ (l : Left). handed (l .number) (l .size) (l .rate) (l .bank) (l .buffer)) e
+
+    -- rule D25: a frame for station 0, or for one above F7, whatever else it holds
+    pub kept-back-silent : KeptBack (byte frame 0) → left ≡ handed 1 0 0 (given .bank) buffer
+    kept-back-silent kept-back =
+        met-by-silence (kept-back-quiet given (accepted .sheetSound) (accepted .bankWhole) frame kept-back (frame-leaves .gets))
+
     -- demand 3
     pub damaged-silent : (sent : List ℕ) → Sent sent → Damage sent frame → left ≡ handed 1 0 0 (given .bank) buffer
-    damaged-silent sent is damage = go frame-leaves
+    damaged-silent sent is damage =
+        met-by-silence (one-fate given frame (accepted .sheetSound) sheet-bytes (frame-leaves .gets) quiet)
       where
         quiet : Gets given frame silence
         quiet = fates.notWhole (unmet (whole-tells frame) (ap not (damaged-fails sent frame is frame-bytes damage)))
-
-        go : Leaves given frame buffer (leftBy left) → left ≡ handed 1 0 0 (given .bank) buffer
-        go leaves =
-            silent (subst (plain.HandsBack given frame buffer (leftBy left))
-            (one-fate given frame (accepted .sheetSound) sheet-bytes (leaves .gets) quiet) (leaves .handsBack))
-          where
-            silent : plain.HandsBack given frame buffer (leftBy left) silence → left ≡ handed 1 0 0 (given .bank) buffer
-            silent (plain.quiet e) = ap (λ (l : Left). handed (l .number) (l .size) (l .rate) (l .bank) (l .buffer)) e

@@ -81,6 +81,23 @@ pub undamaged-answer : answerTo frameSent ≡ handed 0 9 1 freshBank ((0x01 ∷ 
 unfolding allOpen answerOutcome frameCheck actedOn judgedFrame replyTo storesOf withCheck runStores stopPlace stopIn badItem someBad stored passes valueOf liesIn bytesOf firstCase bankSound goodBy sound headerSound areasSound itemsSound settingsSound each some upFrom samePlaces itemPlaces writablePlaces placesFollow areasAscend lengthsSum areas items wordAt withWord inRange sheetOf
 undamaged-answer = refl
 
+-- ---- rule D25: the read that station 1 answers, for 0, F8 and FF, with right checks
+
+abbrev keptBackFrames : List (List ℕ)
+keptBackFrames =
+    (0x00 ∷ 0x03 ∷ 0x01 ∷ 0x01 ∷ 0x00 ∷ 0x02 ∷ 0x95 ∷ 0xE6 ∷ [])
+    ∷ (0xF8 ∷ 0x03 ∷ 0x01 ∷ 0x01 ∷ 0x00 ∷ 0x02 ∷ 0x80 ∷ 0x5E ∷ [])
+    ∷ (0xFF ∷ 0x03 ∷ 0x01 ∷ 0x01 ∷ 0x00 ∷ 0x02 ∷ 0x81 ∷ 0xE9 ∷ [])
+    ∷ []
+
+pub kept-back-pass : map passes keptBackFrames ≡ true ∷ true ∷ true ∷ []
+unfolding passes valueOf
+kept-back-pass = refl
+
+pub kept-back-answers : map answerTo keptBackFrames ≡ map (λ frame. handed 1 0 0 freshBank answerBuffer) keptBackFrames
+unfolding allOpen answerOutcome frameCheck actedOn judgedFrame replyTo storesOf withCheck runStores stopPlace stopIn badItem someBad stored passes valueOf liesIn bytesOf firstCase bankSound goodBy sound headerSound areasSound itemsSound settingsSound each some upFrom samePlaces itemPlaces writablePlaces placesFollow areasAscend lengthsSum areas items wordAt withWord inRange sheetOf
+kept-back-answers = refl
+
 -- ---- demand 2: a frame for each step, and good ones
 
 abbrev judgedFrames : List (List ℕ)

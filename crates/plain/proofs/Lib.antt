@@ -3,6 +3,7 @@ pub mod Conditions
 pub mod Addresses
 pub mod Values
 pub mod Fates
+pub mod Stations
 pub mod Damage
 pub mod Registers
 pub mod Printed

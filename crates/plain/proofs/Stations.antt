@@ -1,0 +1,41 @@
+-- A sound bank is at one of the stations 1 to 247, and so a frame for any other gets silence. Assumes nothing.
+use mathlib.Core.Path.{_≡_, refl}
+use mathlib.Core.Bool.{true}
+use mathlib.Core.List.{List}
+use mathlib.Core.Logic.{_⊎_, inl, inr}
+use Prim.Native.Nat.{ℕ, _*_}
+use native.Mathlib.Omega.{arith}
+use Rattle.sheet_rules.specs.Rules.{sound}
+use Rattle.bank_rules.specs.Bank.{bankSound}
+use Rattle.bank_rules.specs.Calls.{Lent}
+use Rattle.bank_rules.proofs.Station.{station-within}
+use Rattle.plain.specs.Numbers.{byte, word}
+use Rattle.plain.specs.Stations.{Station, KeptBack}
+use Rattle.plain.specs.Frame as plain
+use Rattle.plain.specs.Frame.{OurStation, Fate, silence, Gets}
+use Rattle.plain.proofs.Rows.{word-same}
+
+module _ (given : Lent) (keeps : sound (given .sheet) ≡ true) (whole : bankSound (given .sheet) (given .bank) ≡ true) where
+  -- the word of the bank at the place that header word 8 gives
+  pub bank-station : Station (word (given .bank) (2 * word (given .sheet) 16))
+  bank-station =
+      let within = station-within (given .sheet) (given .bank) keeps whole in
+      rw (word-same (given .sheet) 16, word-same (given .bank)) record { least = within .0; most = within .1 }
+
+  module _ (frame : List ℕ) (kept-back : KeptBack (byte frame 0)) where
+    not-ours : OurStation given frame → ⊥
+    not-ours ours = go kept-back bank-station
+      where
+        go : KeptBack (byte frame 0) → Station (word (given .bank) (2 * word (given .sheet) 16)) → ⊥
+        go (inl zero) station = omega (arith, station .least)
+        go (inr above) station = omega (arith, station .most)
+
+    pub kept-back-quiet : {fate : Fate} → Gets given frame fate → fate ≡ silence
+    kept-back-quiet (plain.notWhole broken) = refl
+    kept-back-quiet (plain.otherStation w other) = refl
+    kept-back-quiet (plain.notAllowed w ours wrong) = absurd (not-ours ours)
+    kept-back-quiet (plain.wrongLength w ours may wrong) = absurd (not-ours ours)
+    kept-back-quiet (plain.wrongCount w ours may long wrong) = absurd (not-ours ours)
+    kept-back-quiet (plain.wrongAddress w ours may long counted wrong) = absurd (not-ours ours)
+    kept-back-quiet (plain.wrongValue w ours may long counted placed wrong) = absurd (not-ours ours)
+    kept-back-quiet (plain.allRight w ours may long counted placed valued) = absurd (not-ours ours)
