@@ -26,6 +26,29 @@
  *     rate    = bank[2 * (256 * sheet[18] + sheet[19]) + 1];
  *     station = bank[2 * (256 * sheet[16] + sheet[17]) + 1];
  *
+ * Stations, and a board from before version 1.3
+ *
+ *   A meter's station is 1 to 247. The line keeps 0 for broadcast, and 248 to 255 back: a frame for one of these gets silence from
+ *   every sheet and bank, whatever else it holds, and nothing is stored. Up to version 1.2 a sheet could have stations 0 to
+ *   255, and the AS-WE sheets had them. A board that is updated with such a sheet, or with a bank of it, sees:
+ *
+ *   - with the old sheet, 2 from every call. Put the new one in its place (cedarskein_sheets.h, or a file of sheets/);
+ *   - with the new sheet, no change where the bank's station is 1 to 247: the bank is good as it is, since the places, the
+ *     other ranges and the bank's size are what they were;
+ *   - with the new sheet, 4 from every call but cedarskein_bank_fresh where the bank's station is 0 or 248 to 255. Making the
+ *     bank fresh would lose every setting. To keep them, give the bank a station that no other meter of the line has, and
+ *     check it:
+ *
+ *       place = 256 * sheet[16] + sheet[17];
+ *       bank[2 * place] = 0;
+ *       bank[2 * place + 1] = station;
+ *       number = cedarskein_bank_check(sheet, sheet_n, bank, bank_n);
+ *
+ *     With 0 all other settings are as they were: write both copies (see "A power cut"), and tell the master the new
+ *     station. With 4 the station given is none of 1 to 247, or something else in the bank is out of its range.
+ *
+ *   host/stations.c does this to boards of each old sheet and each station.
+ *
  * What the caller owes
  *
  *   The proofs hold for any bytes in the buffers, and for calls that keep to this:
@@ -78,9 +101,9 @@ extern "C" {
 #endif
 
 #define CEDARSKEIN_VERSION_MAJOR 1
-#define CEDARSKEIN_VERSION_MINOR 2
+#define CEDARSKEIN_VERSION_MINOR 3
 #define CEDARSKEIN_VERSION_PATCH 0
-#define CEDARSKEIN_VERSION "1.2.0"
+#define CEDARSKEIN_VERSION "1.3.0"
 
 #define CEDARSKEIN_LONGEST_FRAME 100 /* bytes, its check included; a longer frame gets silence */
 #define CEDARSKEIN_LEAST_OUT 100     /* bytes that out must have at least, for the longest reply */
@@ -95,14 +118,16 @@ enum cedarskein_number {
     CEDARSKEIN_DONE = 0,
     /* Silence: send nothing, and wait for the next frame. */
     CEDARSKEIN_SILENCE = 1,
-    /* The sheet is not sound: it is damaged or not a sheet. Stay off the line; nothing but a good sheet helps. */
+    /* The sheet is not sound: it is damaged, not a sheet, or from before 1.3 with a station outside 1 to 247 (see "Stations").
+     * Stay off the line; nothing but a good sheet helps. */
     CEDARSKEIN_SHEET_BREAKS_RULE = 2,
     /* The bank has not 2B + 2 bytes: it belongs to another sheet, or bank_n is wrong. Mend the program; after a change of
      * sheet, make a new bank fresh. */
     CEDARSKEIN_BANK_MISFITS = 3,
     /* The bank is not sound: an item is out of its range, or the mark is neither 0 nor 1. No call here brings that about,
-     * but a power cut or a stray write can. It does not pass: every frame is refused from now on. Put the last good copy
-     * back, or make the bank fresh (see "A power cut"). Setting the mark does not mend a bad mark. */
+     * but a power cut or a stray write can, or an update from before 1.3 (see "Stations"). It does not pass: every frame is
+     * refused from now on. Put the last good copy back, or make the bank fresh (see "A power cut"). Setting the mark does
+     * not mend a bad mark. */
     CEDARSKEIN_BANK_NOT_SOUND = 4,
     /* out has under 100 bytes, also where the frame would get silence. Lend a larger one. */
     CEDARSKEIN_SMALL_OUT = 5,
@@ -119,7 +144,7 @@ enum cedarskein_reason {
     CEDARSKEIN_TOO_SHORT = 1,     /* under 4 bytes: silence */
     CEDARSKEIN_TOO_LONG = 2,      /* over 100 bytes: silence */
     CEDARSKEIN_CHECK = 3,         /* the last two bytes are not the check of those in front: silence */
-    CEDARSKEIN_STATION = 4,       /* the frame is for another station: silence */
+    CEDARSKEIN_STATION = 4,       /* the frame is for another station, or for 0 or 248 to 255: silence */
     CEDARSKEIN_FUNCTION = 5,      /* the sheet does not allow the function: error 01 */
     CEDARSKEIN_BODY_LENGTH = 6,   /* the frame has not the length of its function: silence */
     CEDARSKEIN_COUNT = 7,         /* no register, or 10 with a byte count that is not twice its count: error 03;
