@@ -33,10 +33,27 @@ uint16_t __wrap_cedarskein_check_value(const uint8_t *bytes, size_t bytes_n)
     return value;
 }
 
+static uint32_t word_of(const uint8_t *bytes)
+{
+    return (uint32_t)(256 * bytes[0] + bytes[1]);
+}
+
+/* The check of an AS-WE sheet whose stations, item 9, are 1 to F7, whatever they are. */
+static uint32_t check_with_new_stations(const uint8_t *sheet, size_t sheet_n)
+{
+    static const uint8_t bounds[8] = { 0, 0, 0, 1, 0, 0, 0, 0xF7 };
+    uint8_t changed[CEDARSKEIN_LONGEST_SHEET];
+    memcpy(changed, sheet, sheet_n);
+    memcpy(changed + 24 + 5 * 8 + 9 * 12 + 4, bounds, sizeof bounds);
+    return __real_cedarskein_sheet_check(changed, sheet_n);
+}
+
 uint32_t __wrap_cedarskein_sheet_check(const uint8_t *sheet, size_t sheet_n)
 {
     uint32_t number = __real_cedarskein_sheet_check(sheet, sheet_n);
     volatile uint8_t read = 0;
+    if (breach_is("old_sheet_is_taken") && number == 2 && sheet_n == 328)
+        return check_with_new_stations(sheet, sheet_n);
     if (breach_is("sheet_cut_is_taken") && sheet_n == 255)
         return 0;
     if (breach_is("sheet_read_beyond") && sheet_n > 0)
@@ -47,9 +64,14 @@ uint32_t __wrap_cedarskein_sheet_check(const uint8_t *sheet, size_t sheet_n)
 
 uint32_t __wrap_cedarskein_bank_check(const uint8_t *sheet, size_t sheet_n, const uint8_t *bank, size_t bank_n)
 {
+    uint32_t number = __real_cedarskein_bank_check(sheet, sheet_n, bank, bank_n);
     if (breach_is("bank_check_is_done"))
         return 0;
-    return __real_cedarskein_bank_check(sheet, sheet_n, bank, bank_n);
+    if (breach_is("bank_at_station_0_is_sound") && number == 4 && word_of(bank + 2 * word_of(sheet + 16)) == 0)
+        return 0;
+    if (breach_is("bank_at_station_248_is_sound") && number == 4 && word_of(bank + 2 * word_of(sheet + 16)) == 248)
+        return 0;
+    return number;
 }
 
 uint32_t __wrap_cedarskein_bank_fresh(const uint8_t *sheet, size_t sheet_n, uint8_t *bank, size_t bank_n)
@@ -128,6 +150,34 @@ static const uint8_t *shortened(const uint8_t *frame)
     return shorter;
 }
 
+/* A frame with a right check for a station that is not the bank's becomes one for the bank's own; any other stays as it is. */
+static const uint8_t *as_own(const uint8_t *sheet, size_t sheet_n, const uint8_t *bank, size_t bank_n, const uint8_t *frame, size_t frame_n,
+                             uint8_t station)
+{
+    static uint8_t own[CEDARSKEIN_LONGEST_FRAME];
+    uint16_t value;
+    if (frame_n < 4 || CEDARSKEIN_LONGEST_FRAME < frame_n || frame[0] != station || __real_cedarskein_check_value(frame, frame_n) != 0)
+        return frame;
+    if (__real_cedarskein_bank_check(sheet, sheet_n, bank, bank_n) != 0)
+        return frame;
+    memcpy(own, frame, frame_n);
+    own[0] = bank[2 * word_of(sheet + 16) + 1];
+    value = __real_cedarskein_check_value(own, frame_n - 2);
+    own[frame_n - 2] = (uint8_t)(value & 0xFF);
+    own[frame_n - 1] = (uint8_t)(value >> 8);
+    return own;
+}
+
+/* A frame for station 0 stores what it would at the bank's own station. */
+static void store_broadcast(const uint8_t *sheet, size_t sheet_n, uint8_t *bank, size_t bank_n, const uint8_t *frame, size_t frame_n)
+{
+    const uint8_t *own = as_own(sheet, sheet_n, bank, bank_n, frame, frame_n, 0);
+    uint8_t out[CEDARSKEIN_LEAST_OUT];
+    uint32_t length, rate;
+    if (own != frame)
+        __real_cedarskein_answer(sheet, sheet_n, bank, bank_n, own, frame_n, out, sizeof out, &length, &rate);
+}
+
 uint32_t __wrap_cedarskein_answer(const uint8_t *sheet, size_t sheet_n, uint8_t *bank, size_t bank_n, const uint8_t *frame,
                                   size_t frame_n, uint8_t *out, size_t out_n, uint32_t *length, uint32_t *rate)
 {
@@ -137,6 +187,12 @@ uint32_t __wrap_cedarskein_answer(const uint8_t *sheet, size_t sheet_n, uint8_t 
         frame = shortened(frame);
         frame_n = 100;
     }
+    if (breach_is("station_0_is_answered"))
+        frame = as_own(sheet, sheet_n, bank, bank_n, frame, frame_n, 0);
+    if (breach_is("station_255_is_answered"))
+        frame = as_own(sheet, sheet_n, bank, bank_n, frame, frame_n, 255);
+    if (breach_is("broadcast_is_stored"))
+        store_broadcast(sheet, sheet_n, bank, bank_n, frame, frame_n);
     if (breach_is("frame_is_written") && frame_n > 0)
         ((uint8_t *)(uintptr_t)frame)[frame_n - 1] ^= 1;
     if (bank_n > 0 && bank_n <= sizeof bank_before)
@@ -153,16 +209,13 @@ uint32_t __wrap_cedarskein_answer(const uint8_t *sheet, size_t sheet_n, uint8_t 
     return number;
 }
 
-static uint32_t word_of(const uint8_t *bytes)
-{
-    return (uint32_t)(256 * bytes[0] + bytes[1]);
-}
-
 /* Reasons told out of their order, or one beside the right one. */
 static void spoil_reason(const uint8_t *frame, size_t frame_n, uint32_t *reason, uint32_t *address)
 {
     static const uint8_t functions[4] = { 0x03, 0x05, 0x06, 0x10 };
     int known = frame_n > 1 && memchr(functions, frame[1], sizeof functions) != NULL;
+    if (breach_is("why_broadcast_has_no_reason") && *reason == CEDARSKEIN_STATION && frame[0] == 0)
+        *reason = CEDARSKEIN_NO_REASON;
     if (breach_is("why_reason_off_by_one") && *reason == CEDARSKEIN_CLEAR_VALUE)
         *reason = CEDARSKEIN_ITEM;
     if (breach_is("why_function_before_station") && *reason == CEDARSKEIN_STATION && !known)
