@@ -151,7 +151,7 @@ static inline int settings_sound(const uint8_t *address, const uint8_t *rate)
 {
     if (address == NULL || rate == NULL || address == rate || word(address) != 0 || word(rate) != 0)
         return 0;
-    return word(address + 6) <= 1 && word(address + 10) - 1 < 0xFF && word(rate + 6) == 0 && word(rate + 10) == 1;
+    return word(address + 6) == 1 && word(address + 10) <= 0xF7 && word(rate + 6) == 0 && word(rate + 10) == 1;
 }
 
 /* One pass over the items judges the rows and, where a bank is given, its words too. A sheet that breaks a rule is told
