@@ -21,7 +21,7 @@ use Rattle.meter_rules.specs.Write.{firstPlace, someBad, stopPlace}
 abbrev pub failsCheck : List ℕ → Bool
 failsCheck frame = not (passes frame)
 
--- step 2: rules J20 and J21
+-- step 2: rule J20; that no sound bank is at 0 or above F7 (rule J21) is a law, and no test
 abbrev pub otherStation : Lent → List ℕ → Bool
 otherStation given frame = not (eqb (station frame) (stationOf (given .sheet) (given .bank)))
 

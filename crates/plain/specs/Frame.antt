@@ -18,7 +18,7 @@ pub record Whole (frame : List ℕ) : Type 0 where
   pub most : length frame ≤ 100
   pub check : byte frame (length frame - 2) + 256 * byte frame (length frame - 1) ≡ valueOf (take (length frame - 2) frame)
 
--- ---- 2, rules J20 and J21: the first byte is the word of the bank at the place that header word 8 gives
+-- ---- 2, rule J20: the first byte is the word of the bank at the place that header word 8 gives
 abbrev pub OurStation : Lent → List ℕ → Type 0
 OurStation given frame = byte frame 0 ≡ word (given .bank) (2 * word (given .sheet) 16)
 

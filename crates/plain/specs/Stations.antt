@@ -1,13 +1,13 @@
--- The stations that a meter can have, and those that no meter has, in plain numbers: rules S63 and J21. Assumes nothing.
+-- The stations that a meter can have, and those that no meter has, in plain numbers. Assumes nothing.
 use mathlib.Core.Path.{_≡_}
 use mathlib.Core.Logic.{_⊎_}
 use Prim.Native.Nat.{ℕ, _≤_, _<_}
 
--- 1 to 247
+-- rules S63 and J21: 1 to 247
 pub record Station (station : ℕ) : Type 0 where
   pub least : 1 ≤ station
   pub most : station ≤ 247
 
--- 0, which the line keeps for broadcast, and all above F7, which it keeps back
+-- rules J21 and D25: 0, which the line keeps for broadcast, and all above F7, which it keeps back
 abbrev pub KeptBack : ℕ → Type 0
 KeptBack station = (station ≡ 0) ⊎ (0xF7 < station)
