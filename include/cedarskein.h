@@ -28,26 +28,29 @@
  *
  * Stations, and a board from before version 1.3
  *
- *   A meter's station is 1 to 247. The line keeps 0 for broadcast, and 248 to 255 back: a frame for one of these gets silence from
- *   every sheet and bank, whatever else it holds, and nothing is stored. Up to version 1.2 a sheet could have stations 0 to
- *   255, and the AS-WE sheets had them. A board that is updated with such a sheet, or with a bank of it, sees:
+ *   A meter's station is 1 to 247. The line keeps 0 for broadcast, and 248 to 255 back: cedarskein_answer meets a frame for
+ *   one of these with silence, or with a refusal, whatever else the frame holds, and stores nothing.
  *
- *   - with the old sheet, 2 from every call. Put the new one in its place (cedarskein_sheets.h, or a file of sheets/);
- *   - with the new sheet, no change where the bank's station is 1 to 247: the bank is good as it is, since the places, the
- *     other ranges and the bank's size are what they were;
- *   - with the new sheet, 4 from every call but cedarskein_bank_fresh where the bank's station is 0 or 248 to 255. Making the
- *     bank fresh would lose every setting. To keep them, give the bank a station that no other meter of the line has, and
- *     check it:
+ *   Up to version 1.2 a sheet could have stations 0 to 255, and the AS-WE sheets had. A board that is updated with such a
+ *   sheet in its memory, or with a bank of it, sees:
  *
- *       place = 256 * sheet[16] + sheet[17];
- *       bank[2 * place] = 0;
- *       bank[2 * place + 1] = station;
- *       number = cedarskein_bank_check(sheet, sheet_n, bank, bank_n);
+ *   - with the old sheet, 2 from every call that takes a sheet. Put the new one in its place (cedarskein_sheets.h, or a
+ *     file of sheets/);
+ *   - with the new sheet and a bank whose station is 1 to 247, no change: the bank is good as it is, since its size, the
+ *     places and the other ranges are what they were;
+ *   - with the new sheet and a bank whose station is 0 or 248 to 255, 4 from every call on the bank but
+ *     cedarskein_bank_fresh, which would lose every setting.
  *
- *     With 0 all other settings are as they were: write both copies (see "A power cut"), and tell the master the new
- *     station. With 4 the station given is none of 1 to 247, or something else in the bank is out of its range.
+ *   To keep the other settings of such a bank, give it a station that no other meter of the line has, and check it:
  *
- *   host/stations.c does this to boards of each old sheet and each station.
+ *     place = 256 * sheet[16] + sheet[17];
+ *     bank[2 * place] = 0;
+ *     bank[2 * place + 1] = station;
+ *     number = cedarskein_bank_check(sheet, sheet_n, bank, bank_n);
+ *
+ *   With 0 every other byte of the bank is as it was: write both copies (see "A power cut"), and tell the master the new
+ *   station. With 4 the station is none of 1 to 247, or something else in the bank is out of its range. host/stations.c
+ *   does this to boards of each old sheet, at each station.
  *
  * What the caller owes
  *
@@ -118,8 +121,8 @@ enum cedarskein_number {
     CEDARSKEIN_DONE = 0,
     /* Silence: send nothing, and wait for the next frame. */
     CEDARSKEIN_SILENCE = 1,
-    /* The sheet is not sound: it is damaged, not a sheet, or from before 1.3 with a station outside 1 to 247 (see "Stations").
-     * Stay off the line; nothing but a good sheet helps. */
+    /* The sheet is not sound: it is damaged, not a sheet, or one with stations outside 1 to 247 from before 1.3 (see
+     * "Stations"). Stay off the line; nothing but a good sheet helps. */
     CEDARSKEIN_SHEET_BREAKS_RULE = 2,
     /* The bank has not 2B + 2 bytes: it belongs to another sheet, or bank_n is wrong. Mend the program; after a change of
      * sheet, make a new bank fresh. */
