@@ -1,5 +1,5 @@
 # Cedarskein: `make test` is the whole verdict. `make` alone says what there is.
-KIT := rattle-kit-5b logic 064da1ca440f63e7
+KIT := rattle-kit-5b-plain logic 097e4c862dff5811
 # For `make meter` and `make why`: the sheet, by the name of a file or the short name of one in sheets/, of which the beginning is enough; the file of
 # the bank. For `make meter` another name for its line. For `make why` a frame in hex.
 SHEET := ux15_25
