@@ -75,7 +75,7 @@ ux =
       rate = 0x010D;
     }
 
--- rules M20 and M30; `bore` is the high bound of 0109, which is all that a bore changes
+-- rules M20 and M30; `bore` is the high bound of 0109, which is all that a bore changes. The maker's table has 0 to FF at 0108: rule X13
 abbrev pub asweRows : ℕ → List Row
 asweRows bore =
     plain 0x00FF 0x0 0x1

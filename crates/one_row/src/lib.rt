@@ -6,7 +6,7 @@ ghost use Rattle.sheet_rules.specs.Rules.{readable, accessRule, firstLastRule, 
 use sheet_rules::Area;
 use sheet_rules::Item;
 
-// The addresses that a meter may have: rule S63.
+// The stations that a meter may have: rule S63.
 const LOWEST_STATION: u32 = 1;
 
 const HIGHEST_STATION: u32 = 0xF7;

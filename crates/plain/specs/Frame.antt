@@ -1,5 +1,5 @@
--- What a frame gets: seven conditions in plain numbers, in the order of rule J1; the first that fails decides. Functions, lengths, counts, addresses and
--- bounds stand here as numbers, and every condition says what must hold. Assumes nothing.
+-- What a frame gets, where nothing is refused: seven conditions in plain numbers, in the order of rule J1; the first that fails decides. Functions, lengths,
+-- counts, addresses and bounds stand here as numbers, and every condition says what must hold. Assumes nothing.
 use mathlib.Core.Path.{_≡_}
 use mathlib.Core.Bool.{cond}
 use mathlib.Core.Logic.{_⊎_}

@@ -1,4 +1,4 @@
--- What a 06 to a register comes to, by the register's printed bounds. Assumes nothing.
+-- What a 06 to a register comes to, by the register's bounds in its map. Assumes nothing.
 use mathlib.Core.Path.{_≡_}
 use mathlib.Core.Logic.{_↔_}
 use mathlib.Core.List.{List, [], _∷_, _++_}
@@ -24,7 +24,7 @@ pub record TakenWithin (given : Lent) (at sent kind low high value : ℕ) : Type
   pub taken : Gets given (writeOne given at sent) good ↔ Within kind low high value
   pub refused : Gets given (writeOne given at sent) (error 3) ↔ (Within kind low high value → ⊥)
 
--- a printed row: a word is judged by itself, a half of a pair with the other half as the bank has it
+-- a row as a map has it: a word is judged by itself, a half of a pair with the other half as the bank has it
 pub record AsPrinted (given : Lent) (row : Row) : Type 0 where
   pub ofWord : (row .kind ≡ 2 → ⊥) → (v : ℕ) → v < 65536 → TakenWithin given (row .first) v (row .kind) (row .low) (row .high) v
   pub ofUpper : row .kind ≡ 2 → (v place : ℕ) → v < 65536 → LiesAt (given .sheet) (row .first + 1) place 3

@@ -3,10 +3,10 @@ use mathlib.Core.Path.{_≡_}
 use mathlib.Core.Logic.{_⊎_}
 use Prim.Native.Nat.{ℕ, _≤_, _<_}
 
--- rules S63 and J21: 1 to 247
+-- rules S63 and J21: 1 to F7, which is 247
 pub record Station (station : ℕ) : Type 0 where
   pub least : 1 ≤ station
-  pub most : station ≤ 247
+  pub most : station ≤ 0xF7
 
 -- rules J21 and D25: 0, which the line keeps for broadcast, and all above F7, which it keeps back
 abbrev pub KeptBack : ℕ → Type 0

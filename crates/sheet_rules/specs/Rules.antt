@@ -194,7 +194,7 @@ itemsSound sheet =
 
 -- ---- the address and the rate
 
--- rule S63: the addresses that a meter may have
+-- rule S63: the stations that a meter may have
 abbrev pub lowestStation : ℕ
 lowestStation = 1
 
@@ -206,7 +206,7 @@ abbrev pub settingAt : ℕ → Item → Bool
 settingAt place item =
     eqb (item .kind) unsignedWord && eqb (item .place) place && inRange (item .kind) (item .low) (item .high) 1
 
--- rule S63
+-- rule S63; with 1 in the range, the low bound is 1
 abbrev pub addressItem : ℕ → Item → Bool
 addressItem place item = settingAt place item && leb lowestStation (item .low) && leb (item .high) highestStation
 
