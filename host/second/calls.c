@@ -78,6 +78,19 @@ const uint8_t *part_after(enum part part)
     return lent_bytes(&lent[LIBRARY][part]);
 }
 
+bool bank_changed(const struct call *call)
+{
+    return call->part_n[PART_BANK] > 0
+        && memcmp(call->part[PART_BANK], part_after(PART_BANK), call->part_n[PART_BANK]) != 0;
+}
+
+bool is_untouched(const struct call *call, const struct outcome *outcome)
+{
+    return outcome->number == NUMBER_SILENCE && outcome->length == 0 && outcome->rate == 0
+        && !bank_changed(call)
+        && memcmp(call->part[PART_OUT], part_after(PART_OUT), call->part_n[PART_OUT]) == 0;
+}
+
 /* ---- Printing ---- */
 
 static void print_bytes(const char *name, const uint8_t *bytes, size_t n)

@@ -45,6 +45,11 @@ bool same_on_both_sides(const struct call *call, struct outcome *outcome);
 /* A buffer of the library's side as the last call left it. */
 const uint8_t *part_after(enum part part);
 
+/* Whether the last call, this one, changed its bank; whether its frame got
+ * silence and it left all as it was. */
+bool bank_changed(const struct call *call);
+bool is_untouched(const struct call *call, const struct outcome *outcome);
+
 /* Prints the call in hexadecimal. */
 void print_call(const struct call *call);
 

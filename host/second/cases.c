@@ -1,6 +1,7 @@
-/* The cases that 01 lists, run on both sides: the library and the second
- * statement must agree, and both must give what 01 writes. Each is asked about
- * first: the reason is the one that 02 names for what 01 writes. */
+/* The cases that 01 lists, and more for the requests W1 and W2 of 02, run on
+ * both sides: the library and the second statement must agree, and both must
+ * give what is written here. Each frame is asked about first: the reason is the
+ * one that 02 names for what 01 writes. */
 #include "calls.h"
 #include "second.h"
 #include "sheets_made.h"
@@ -97,7 +98,44 @@ static const struct frame_case cases[] = {
       { { 0, 0 } },
       REASON_BAD_COUNT, 0 },
     { "W1 station", MAP_UX, { { 0, 0 } }, "02 03 01 01 00 02", "", { { 0, 0 } },
-      REASON_STATION, 0 }
+      REASON_STATION, 0 },
+    { "W2 read at 0", MAP_AS_WE, { { 0, 0 } }, "00 03 01 08 00 01", "", { { 0, 0 } },
+      REASON_STATION, 0 },
+    { "W2 write at 0", MAP_AS_WE, { { 0, 0 } }, "00 06 01 09 00 10", "", { { 0, 0 } },
+      REASON_STATION, 0 },
+    { "W2 clear at 0", MAP_UX, { { MARK, 1 } }, "00 05 03 00 00 00", "", { { 0, 0 } },
+      REASON_STATION, 0 },
+    { "W2 read at F8", MAP_AS_WE, { { 0x0108, 0xF7 } }, "F8 03 01 08 00 01", "", { { 0, 0 } },
+      REASON_STATION, 0 },
+    { "W2 write at FF", MAP_AS_WE, { { 0x0108, 0xF7 } }, "FF 06 01 09 00 10", "", { { 0, 0 } },
+      REASON_STATION, 0 },
+    { "W2 at F7", MAP_AS_WE, { { 0x0108, 0xF7 } }, "F7 03 01 08 00 01", "F7 03 02 00 F7",
+      { { 0, 0 } },
+      REASON_NONE, 0 },
+    { "W2 F7 stored", MAP_AS_WE, { { 0, 0 } }, "01 06 01 08 00 F7", "01 06 01 08 00 F7",
+      { { 0x0108, 0xF7 } },
+      REASON_NONE, 0 },
+    { "W2 1 stored", MAP_AS_WE, { { 0x0108, 0xF7 } }, "F7 06 01 08 00 01", "F7 06 01 08 00 01",
+      { { 0x0108, 1 } },
+      REASON_NONE, 0 },
+    { "W2 0 refused", MAP_AS_WE, { { 0, 0 } }, "01 06 01 08 00 00", "01 86 03", { { 0, 0 } },
+      REASON_ITEM, 0x0108 },
+    { "W2 F8 refused", MAP_AS_WE, { { 0, 0 } }, "01 06 01 08 00 F8", "01 86 03", { { 0, 0 } },
+      REASON_ITEM, 0x0108 },
+    { "W2 FF refused", MAP_AS_WE, { { 0, 0 } }, "01 06 01 08 00 FF", "01 86 03", { { 0, 0 } },
+      REASON_ITEM, 0x0108 },
+    { "W2 0101 refused", MAP_AS_WE, { { 0, 0 } }, "01 06 01 08 01 01", "01 86 03", { { 0, 0 } },
+      REASON_ITEM, 0x0108 },
+    { "W2 part stored", MAP_AS_WE, { { 0, 0 } }, "01 10 01 07 00 03 06 00 00 00 F8 00 10",
+      "01 90 03", { { 0x0107, 0 } },
+      REASON_ITEM, 0x0108 },
+    { "W2 UX F7 stored", MAP_UX, { { 0, 0 } }, "01 06 01 0E 00 F7", "01 06 01 0E 00 F7",
+      { { 0x010E, 0xF7 } },
+      REASON_NONE, 0 },
+    { "W2 UX 0 refused", MAP_UX, { { 0, 0 } }, "01 06 01 0E 00 00", "01 86 03", { { 0, 0 } },
+      REASON_ITEM, 0x010E },
+    { "W2 UX F8 refused", MAP_UX, { { 0, 0 } }, "01 06 01 0E 00 F8", "01 86 03", { { 0, 0 } },
+      REASON_ITEM, 0x010E }
 };
 
 static int failed;
@@ -229,6 +267,101 @@ static void run_maps(void)
     expect(made.bank_words == 38 && made.items_n == 22, "AS-WE", "size");
 }
 
+/* ---- W2: ranges and banks at and beyond both ends ---- */
+
+struct range_case {
+    const char *name;
+    uint32_t low, high;         /* of 0108 */
+    enum second_number number;
+};
+
+static const struct range_case ranges[] = {
+    { "range 1 to F7", 1, 0xF7, NUMBER_DONE },
+    { "range 1 to F6", 1, 0xF6, NUMBER_DONE },
+    { "range 1 alone", 1, 1, NUMBER_DONE },
+    { "range 0 to FF", 0, 0xFF, NUMBER_SHEET },
+    { "range 0 to F7", 0, 0xF7, NUMBER_SHEET },
+    { "range 0 to 1", 0, 1, NUMBER_SHEET },
+    { "range 0 alone", 0, 0, NUMBER_SHEET },
+    { "range 1 to F8", 1, 0xF8, NUMBER_SHEET },
+    { "range 1 to FF", 1, 0xFF, NUMBER_SHEET },
+    { "range 1 to 0100", 1, 0x0100, NUMBER_SHEET },
+    { "range 1 to FFFF", 1, 0xFFFF, NUMBER_SHEET },
+    { "range 2 to F7", 2, 0xF7, NUMBER_SHEET }
+};
+
+/* AS-WE's sheet of a bore with another range for its address, asked for a read:
+ * a bank at station 1 is in each range that is taken. */
+static void run_range(const struct range_case *one, uint32_t bore)
+{
+    static const uint8_t out[OUT_ROOM];
+    uint8_t sheet[SHEET_ROOM], bank[BANK_ROOM], frame[OUT_ROOM];
+    struct made made;
+    struct outcome outcome;
+    make_as_we(&made, bore);
+    size_t sheet_n = put_sheet(&made, sheet);
+    size_t bank_n = 2 * (size_t)made.bank_words + 2;
+    second_bank_fresh(sheet, sheet_n, bank, bank_n);
+    made.items[made_item_of(&made, made.address_place)].low = one->low;
+    made.items[made_item_of(&made, made.address_place)].high = one->high;
+    put_sheet(&made, sheet);
+    size_t frame_n = put_checked("01 03 01 08 00 01", frame);
+    struct call call = { CALL_SHEET_CHECK, { sheet, bank, frame, out }, { sheet_n, 0, 0, 0 },
+                         0, 0 };
+    expect(same_on_both_sides(&call, &outcome), one->name, "the sides differ");
+    expect(outcome.number == one->number, one->name, "number of the sheet");
+    call.sort = CALL_ANSWER;
+    call.part_n[PART_BANK] = bank_n;
+    call.part_n[PART_BYTES] = frame_n;
+    call.part_n[PART_OUT] = OUT_ROOM;
+    expect(same_on_both_sides(&call, &outcome), one->name, "the sides differ on a frame");
+    expect(outcome.number == one->number, one->name, "number of the frame");
+    expect(outcome.length == (one->number == NUMBER_DONE ? 7 : 0), one->name, "length");
+    expect(!bank_changed(&call), one->name, "bank");
+}
+
+struct bank_case {
+    const char *name;
+    uint32_t station;
+    enum second_number number;
+};
+
+static const struct bank_case banks[] = {
+    { "bank at 1", 1, NUMBER_DONE },
+    { "bank at F7", 0xF7, NUMBER_DONE },
+    { "bank at 0", 0, NUMBER_BANK_SOUND },
+    { "bank at F8", 0xF8, NUMBER_BANK_SOUND },
+    { "bank at FF", 0xFF, NUMBER_BANK_SOUND },
+    { "bank at 0101", 0x0101, NUMBER_BANK_SOUND }
+};
+
+static void run_bank(const struct bank_case *one, uint32_t bore)
+{
+    uint8_t sheet[SHEET_ROOM], bank[BANK_ROOM];
+    struct made made;
+    struct outcome outcome;
+    make_as_we(&made, bore);
+    size_t sheet_n = put_sheet(&made, sheet);
+    size_t bank_n = 2 * (size_t)made.bank_words + 2;
+    second_bank_fresh(sheet, sheet_n, bank, bank_n);
+    put16(bank, made.address_place, one->station);
+    struct call call = { CALL_BANK_CHECK, { sheet, bank, NULL, NULL }, { sheet_n, bank_n, 0, 0 },
+                         0, 0 };
+    expect(same_on_both_sides(&call, &outcome), one->name, "the sides differ");
+    expect(outcome.number == one->number, one->name, "number");
+}
+
+static void run_stations(void)
+{
+    static const uint32_t bores[] = { 40, 50, 80 };
+    for (size_t bore = 0; bore < sizeof bores / sizeof bores[0]; bore++) {
+        for (size_t i = 0; i < sizeof ranges / sizeof ranges[0]; i++)
+            run_range(&ranges[i], bores[bore]);
+        for (size_t i = 0; i < sizeof banks / sizeof banks[0]; i++)
+            run_bank(&banks[i], bores[bore]);
+    }
+}
+
 int main(void)
 {
     size_t n = sizeof cases / sizeof cases[0];
@@ -237,6 +370,7 @@ int main(void)
     run_check_values();
     run_listed_sheet();
     run_maps();
+    run_stations();
     printf("ran %zu frame cases, %d failures\n", n, failed);
     return failed == 0 ? 0 : 1;
 }

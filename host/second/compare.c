@@ -11,6 +11,7 @@
 #include "noise.h"
 #include "second.h"
 #include "sheets_made.h"
+#include "stations_met.h"
 
 #include <inttypes.h>
 #include <stdio.h>
@@ -112,6 +113,16 @@ static void huge_sheet(void)
         put16(subject.sheet, 5, 0xFFFF - get16(subject.sheet, row) + 1);
 }
 
+/* The address's range at, next to and beyond its ends, low and high apart, so
+ * that several rules are broken, or one, or none. */
+static void poke_range(void)
+{
+    int item = made_item_of(&subject.made, subject.made.address_place);
+    size_t row = 12 + 4 * (size_t)subject.made.areas_n + 6 * (size_t)item;
+    put16(subject.sheet, row + 3, ONE_OF(0, 0, 0, 0, 1, 1, 1, 2, LAST_STATION, 0xF8, 0xFF));
+    put16(subject.sheet, row + 5, ONE_OF(0, 1, 2, 0xF6, LAST_STATION, 0xF8, 0xFF, 0x0100, 0xFFFF));
+}
+
 static void make_subject_sheet(void)
 {
     subject.made_broken = RULE_NONE;
@@ -128,6 +139,8 @@ static void make_subject_sheet(void)
         poke_sheet();
     else if (sort < 41)
         huge_sheet();
+    else if (sort < 46)
+        poke_range();
     subject.broken = second_broken_rule(subject.sheet, subject.sheet_n);
 }
 
@@ -152,15 +165,22 @@ static void make_subject(void)
 {
     make_subject_sheet();
     make_subject_bank();
-    subject.left = subject.broken == RULE_NONE ? 1 + below(7) : 1 + below(2);
+    subject.left = subject.broken == RULE_NONE ? 1 + below(9) : 1 + below(2);
     subject.changed = false;
+}
+
+/* A station beyond the ends; of some words the lower byte alone would do. */
+static void spoil_station(uint8_t *bank)
+{
+    put16(bank, subject.made.address_place,
+          ONE_OF(0, 0, 0, 0xF8, 0xF8, 0xFF, 0xFF, 0x0100, 0x0101, 0x01F7, 0xFFFF));
 }
 
 /* A bank of another size, not sound, or noise. */
 static size_t spoil_bank(uint8_t *bank, size_t n)
 {
     noise_fill(bank + n, 4);
-    switch (below(8)) {
+    switch (below(10)) {
     case 0: return n + 1;
     case 1: return n + 2;
     case 2: return n - 1;
@@ -168,6 +188,7 @@ static size_t spoil_bank(uint8_t *bank, size_t n)
     case 4: return 0;
     case 5: put16(bank, n / 2 - 1, ONE_OF(2, 3, 0x0100, 0x0101, 0xFFFF)); return n;
     case 6: noise_fill(bank, n); return n;
+    case 7: case 8: spoil_station(bank); return n;
     default:
         while (!spoil_item(&subject.made, bank))
             ;
@@ -175,7 +196,8 @@ static size_t spoil_bank(uint8_t *bank, size_t n)
     }
 }
 
-/* The bank for the next call; true if it is the subject's own. */
+/* The bank for the next call; true if it is the subject's own. The memory has
+ * all words of a bank, also where fewer are lent. */
 static bool choose_bank(struct call *call)
 {
     static uint8_t bank[BANK_ROOM];
@@ -200,8 +222,6 @@ static void count_reply(const uint8_t *out)
         met(SPECIAL_REPLY_WRITE_ONE);
     else if (out[1] == 0x10)
         met(SPECIAL_REPLY_WRITE_MANY);
-    if (out[0] == 0)
-        met(SPECIAL_STATION_0);
 }
 
 /* Whether an address is the upper (0) or lower (1) half of a pair. */
@@ -271,12 +291,6 @@ static void count_changes(const struct call *call, enum second_step step)
         met(SPECIAL_RATE_CHANGED);
     if (step == STEP_GOOD_CLEAR && word_changed(call, subject.made.bank_words))
         met(SPECIAL_CLEARED_MARK);
-}
-
-static bool bank_changed(const struct call *call)
-{
-    return call->part_n[PART_BANK] > 0
-        && memcmp(call->part[PART_BANK], part_after(PART_BANK), call->part_n[PART_BANK]) != 0;
 }
 
 static void count_good_frame(const struct call *call, enum second_step step)
@@ -393,13 +407,18 @@ static void count_call(const struct call *call, const struct outcome *outcome)
         met(SPECIAL_CHAINED);
 }
 
-/* Makes the call on both sides and counts it. */
+/* Makes the call on both sides, holds it to what is known of stations, and
+ * counts it. */
 static struct outcome make_call(const struct call *call)
 {
     struct outcome outcome;
     if (!same_on_both_sides(call, &outcome))
         differs(call, NULL);
+    const char *breach = station_breach(call, &outcome);
+    if (breach != NULL)
+        differs(call, breach);
     count_call(call, &outcome);
+    count_stations(&counts, call, &outcome);
     return outcome;
 }
 
@@ -505,7 +524,7 @@ static void call_answer(void)
     static uint8_t frame[FRAME_ROOM];
     struct call call = new_call(CALL_ANSWER);
     bool own = choose_bank(&call);
-    call.part_n[PART_BYTES] = make_frame(&subject.made, subject.bank, frame);
+    call.part_n[PART_BYTES] = make_frame(&subject.made, call.part[PART_BANK], frame);
     call.part[PART_BYTES] = frame;
     choose_out(&call, false);
     struct outcome outcome = make_call(&call);
@@ -565,7 +584,7 @@ static void call_why(void)
     if (known)
         make_faulty(&subject.made, subject.bank, &faulty);
     else
-        faulty.n = make_frame(&subject.made, subject.bank, faulty.frame);
+        faulty.n = make_frame(&subject.made, call.part[PART_BANK], faulty.frame);
     call.part[PART_BYTES] = faulty.frame;
     call.part_n[PART_BYTES] = faulty.n;
     struct outcome why = make_call(&call);
@@ -579,14 +598,6 @@ static void call_why(void)
     if (!answer_fits(&call, &why, &answer))
         differs(&call, "the answer is not the one that the reason says");
     keep_bank(&call, own);
-}
-
-/* Whether the library was silent and left all as it was. */
-static bool is_untouched(const struct call *call, const struct outcome *outcome)
-{
-    return outcome->number == NUMBER_SILENCE && outcome->length == 0 && outcome->rate == 0
-        && !bank_changed(call)
-        && memcmp(call->part[PART_OUT], part_after(PART_OUT), call->part_n[PART_OUT]) == 0;
 }
 
 /* A passing frame, damaged: whatever the frame, the reason is its check, and

@@ -68,7 +68,7 @@ static uint32_t open_start(const struct making *making, bool write)
     const struct made_area *area = open_area(making, write);
     uint32_t length = area->last - area->first + 1;
     uint32_t start;
-    if (write && wants(making, REASON_ITEM) && chance(75) && lower_half(making, &start))
+    if (write && wants(making, REASON_ITEM) && chance(85) && lower_half(making, &start))
         return start;
     return chance(50) ? area->last - below(length < 3 ? length : 3) : area->first + below(length);
 }
@@ -256,7 +256,7 @@ static size_t faulty_write_many(struct making *making, uint8_t *frame)
 typedef size_t make_body(struct making *making, uint8_t *frame);
 
 /* In the order of their bits in the sheet. One that the sheet allows is looked
- * for, unless that is to be the fault. */
+ * for, unless that is to be the fault. A bad item needs one of the writes. */
 static size_t some_body(struct making *making, uint8_t *frame)
 {
     static make_body *const bodies[4] = {
@@ -264,7 +264,8 @@ static size_t some_body(struct making *making, uint8_t *frame)
     };
     uint32_t functions = making->made->functions;
     uint32_t wanted = wants(making, REASON_FUNCTION) ? 0 : 1;
-    uint32_t bit = wants(making, REASON_CLEAR_VALUE) ? 1 : below(4);
+    uint32_t bit = wants(making, REASON_CLEAR_VALUE) ? 1
+        : wants(making, REASON_ITEM) && chance(40) ? 2 + below(2) : below(4);
     for (int tries = 0; tries < 6 && (functions >> bit & 1) != wanted; tries++)
         bit = below(4);
     if ((functions >> bit & 1) == 0)
@@ -315,6 +316,12 @@ static size_t cut_short(struct making *making)
     return n;
 }
 
+/* Any station but the bank's own, often one that no meter has. */
+static uint8_t other_station(uint8_t own)
+{
+    return (uint8_t)(chance(30) ? ONE_OF(0, 0xF8, 0xFF) : own + 1 + below(255));
+}
+
 static size_t make_whole(struct making *making, uint8_t *frame)
 {
     size_t n = some_body(making, frame);
@@ -324,7 +331,7 @@ static size_t make_whole(struct making *making, uint8_t *frame)
         spoil_function(making, frame);
     frame[0] = own_station(making->made, making->bank);
     if (wants(making, REASON_STATION)) {
-        frame[0] = (uint8_t)(frame[0] + 1 + below(255));
+        frame[0] = other_station(frame[0]);
         put_in(making, REASON_STATION);
     }
     if (wants(making, REASON_TOO_LONG))

@@ -46,7 +46,7 @@ static uint32_t some_count(const struct made *made, uint32_t start)
     uint32_t run = run_length(made, start, false);
     switch (below(10)) {
     case 0: return ONE_OF(0, 0, 0, 0, 0, 1, 46, 48, 0x7FFF, 0x8000, 0xFFFF);
-    case 1: return ONE_OF(0, 46, 47, 48);
+    case 1: return ONE_OF(0, 0, 46, 47, 48);
     case 2: return run;
     case 3: return run + 1;
     case 4: return ONE_OF(0x0100, 0x0101, 0x0102, 0x0080, 0x8001, 0x10000 - start) & 0xFFFF;
@@ -60,12 +60,13 @@ uint8_t own_station(const struct made *made, const uint8_t *bank)
     return (uint8_t)get16(bank, made->address_place);
 }
 
+/* Mostly the bank's own; else one that no meter has, one near the own, or any. */
 static uint8_t some_station(const struct made *made, const uint8_t *bank)
 {
     uint32_t own = own_station(made, bank);
-    if (chance(94))
+    if (chance(88))
         return (uint8_t)own;
-    return (uint8_t)ONE_OF(0, own + 1, own ^ 0x80, own - 1, 0xFF, below(256));
+    return (uint8_t)ONE_OF(0, 0, 0, 0, 0, 0xF8, 0xFF, own + 1, own ^ 0x80, own - 1, below(256));
 }
 
 /* ---- The check ---- */
@@ -279,7 +280,7 @@ static size_t body_long_read(const struct made *made, uint8_t *frame)
     uint32_t start = some_address(made);
     for (int tries = 0; tries < 12 && run_length(made, start, false) < 48; tries++)
         start = made->areas[below(made->areas_n)].first + below(3);
-    return put_start(frame, 0x03, start & 0xFFFF, ONE_OF(46, 47, 47, 47, 48, 49));
+    return put_start(frame, 0x03, start & 0xFFFF, ONE_OF(46, 47, 47, 47, 48, 48, 49));
 }
 
 /* An area with a neighbour of the same access behind it; the last area if the
@@ -302,7 +303,7 @@ static size_t body_over_areas(const struct made *made, uint8_t *frame)
     uint32_t back = below(area->last - area->first + 1) % 4;
     uint32_t start = area->last - back;
     uint32_t count = back + 2 + below(2);
-    if (chance(40))
+    if (chance(30))
         return put_start(frame, 0x03, start, count);
     put_start(frame, 0x10, start, count);
     frame[6] = (uint8_t)(2 * count);
@@ -331,6 +332,21 @@ static size_t body_address_then_bad(const struct made *made, uint8_t *frame)
     return 7 + 2 * (size_t)count;
 }
 
+/* A write of the station alone: at both ends of what a meter can have, next to
+ * them and beyond; of some words the lower byte alone would do. */
+static size_t body_station(const struct made *made, uint8_t *frame)
+{
+    uint32_t start = address_of_place(made, made->address_place);
+    uint32_t station = chance(35) ? LAST_STATION
+        : ONE_OF(0, 0, 0, 1, 2, 0xF6, 0xF8, 0xF8, 0xFF, 0x0100, 0x0101, 0x01F7, 0xFFFF);
+    if (chance(60))
+        return put_start(frame, 0x06, start, station);
+    size_t n = put_start(frame, 0x10, start, 1);
+    frame[n] = 2;
+    put16(frame + n + 1, 0, station);
+    return n + 3;
+}
+
 /* A write of one half of a pair, if the sheet has a pair. */
 static size_t body_half(const struct made *made, uint8_t *frame)
 {
@@ -357,13 +373,17 @@ static make_body *some_body(void)
 {
     static make_body *const bodies[] = {
         body_read, body_read, body_read, body_read, body_read,
-        body_long_read, body_long_read, body_long_read, body_long_read,
+        body_long_read, body_long_read, body_long_read, body_long_read, body_long_read,
+        body_long_read,
         body_clear, body_clear, body_clear,
-        body_write_one, body_write_one, body_write_one, body_half, body_half, body_half, body_half,
+        body_write_one, body_write_one, body_write_one,
+        body_half, body_half, body_half, body_half, body_half, body_half,
         body_write_many, body_write_many, body_write_many, body_write_many, body_write_many,
         body_write_many,
         body_over_areas, body_over_areas, body_over_areas, body_over_areas, body_over_areas,
+        body_over_areas, body_over_areas,
         body_address_then_bad, body_address_then_bad, body_address_then_bad,
+        body_address_then_bad, body_station, body_station, body_station, body_station,
         body_counts_off, body_counts_off, body_length_off, body_length_off, body_cut_write,
         body_other_function, body_noise, body_too_long
     };

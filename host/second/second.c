@@ -447,12 +447,15 @@ static bool keeps_rate_holds_1(const struct sheet *sheet)
     return range_at_holds_1(sheet, rate_place(sheet));
 }
 
-/* rule S63 */
+/* rule S63: the stations that a meter can have. A frame for 0 is meant for all
+ * meters at once, and the numbers above the highest are given to none. */
+enum { LOWEST_STATION = 1, HIGHEST_STATION = 0xF7 };
+
 static bool keeps_address_range(const struct sheet *sheet)
 {
     size_t item = item_at(sheet, address_place(sheet));
     return item == item_count(sheet)
-        || (item_low(sheet, item) >= 0 && item_high(sheet, item) <= 0xFF);
+        || (item_low(sheet, item) >= LOWEST_STATION && item_high(sheet, item) <= HIGHEST_STATION);
 }
 
 /* rule S64 */
@@ -505,7 +508,7 @@ static const struct rule rules[RULE_COUNT] = {
     [RULE_RATE_ITEM] = { "rate a kind 0 item", keeps_rate_item },
     [RULE_ADDRESS_HOLDS_1] = { "address range holds 1", keeps_address_holds_1 },
     [RULE_RATE_HOLDS_1] = { "rate range holds 1", keeps_rate_holds_1 },
-    [RULE_ADDRESS_RANGE] = { "address within 0 to FF", keeps_address_range },
+    [RULE_ADDRESS_RANGE] = { "address within 1 to F7", keeps_address_range },
     [RULE_RATE_RANGE] = { "rate 0 to 1", keeps_rate_range }
 };
 
@@ -765,7 +768,8 @@ static enum second_step step_1(const struct query *query)
     return GOES_ON;
 }
 
-/* step 2: rules J20 and J21 */
+/* step 2: rules J20 and J21. 0 needs no question of its own: by rule S63 no
+ * sound bank is there, so it differs from the bank's address. */
 static enum second_step step_2(const struct query *query)
 {
     if (query->frame[0] != word_at(query->bank, address_place(&query->sheet)))

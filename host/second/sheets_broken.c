@@ -4,13 +4,16 @@
  * second rule or none, as the sheet's shape has it; make_broken then takes the
  * next sheet, so that only sheets with the one rule broken are handed out.
  *
- * Two rules cannot be broken alone, and for them it is the first broken rule:
+ * Three rules cannot be broken alone, and for them it is the first broken rule:
  * - a sheet below 12 words has no length word that its byte length could
  *   agree with and still be 12 + 4A + 6I;
+ * - address and rate at one place have one range, and none is both 0 to 1 and
+ *   within 1 to F7;
  * - a rate range that does not hold 1 is not 0 to 1 either.
  * Parts of other rules cannot be broken alone either: 0 areas (B would be 0),
  * 0 or 1 items (address and rate need two), B of 0 or 1 (two items need two
- * places). Those are met among the poked and the random sheets. */
+ * places), an address range of 0 alone (it is not within 1 to F7). Those are
+ * met among the poked and the random sheets. */
 #include "noise.h"
 #include "sheets_made.h"
 
@@ -360,12 +363,12 @@ static void same_place(struct made *made)
 
 /* Another place for the address or the rate: in a pair whose range would do,
  * read only, or behind the bank. */
-static uint32_t wrong_place(struct made *made, int64_t high)
+static uint32_t wrong_place(struct made *made, int64_t low, int64_t high)
 {
     struct made_item *item = some_item(made);
     const struct made_area *area = some_area(made);
     if (item->kind == 2) {
-        item->low = 0;
+        item->low = low;
         item->high = high;
         return item->place + below(2);
     }
@@ -379,7 +382,7 @@ static void break_address_item(struct made *made)
     if (chance(40))
         item_of_place(made, made->address_place)->kind = 1;
     else
-        made->address_place = wrong_place(made, 0xFF);
+        made->address_place = wrong_place(made, FIRST_STATION, LAST_STATION);
 }
 
 static void break_rate_item(struct made *made)
@@ -387,7 +390,7 @@ static void break_rate_item(struct made *made)
     if (chance(40))
         item_of_place(made, made->rate_place)->kind = 1;
     else
-        made->rate_place = wrong_place(made, 1);
+        made->rate_place = wrong_place(made, 0, 1);
 }
 
 static void set_range(struct made *made, uint32_t place, int64_t low, int64_t high)
@@ -399,8 +402,9 @@ static void set_range(struct made *made, uint32_t place, int64_t low, int64_t hi
 
 static void break_address_holds_1(struct made *made)
 {
-    int64_t low = chance(30) ? 0 : between(2, 0xFF);
-    set_range(made, made->address_place, low, low == 0 ? 0 : between(low, 0xFF));
+    int64_t low = chance(30) ? 2 : between(2, LAST_STATION);
+    int64_t high = chance(30) ? LAST_STATION : between(low, LAST_STATION);
+    set_range(made, made->address_place, low, high);
 }
 
 static void break_rate_holds_1(struct made *made)
@@ -409,9 +413,18 @@ static void break_rate_holds_1(struct made *made)
     set_range(made, made->rate_place, low, low == 0 ? 0 : between(low, 0xFFFF));
 }
 
+/* From 0 on, above F7, or both, as the table of AS-WE has it. Each range holds
+ * 1, and some end in a word whose lower byte alone would do. */
 static void break_address_range(struct made *made)
 {
-    set_range(made, made->address_place, below(2), ONE_OF(0x0100, 0x0101, 0x7FFF, 0x8000, 0xFFFF));
+    uint32_t within = ONE_OF(1, 2, 0xF6, LAST_STATION, LAST_STATION);
+    uint32_t above = ONE_OF(0xF8, 0xF8, 0xF9, 0xFF, 0xFF, 0x0100, 0x0101, 0x01F7, 0x7FFF, 0x8000,
+                            0xFFFF);
+    switch (below(3)) {
+    case 0: set_range(made, made->address_place, 0, within); break;
+    case 1: set_range(made, made->address_place, FIRST_STATION, above); break;
+    default: set_range(made, made->address_place, 0, chance(50) ? 0xFF : above); break;
+    }
 }
 
 static void break_rate_range(struct made *made)
@@ -469,7 +482,7 @@ static const struct breaker breakers[RULE_COUNT] = {
 
 bool can_break_alone(enum second_rule rule)
 {
-    return rule != RULE_HEADER && rule != RULE_RATE_HOLDS_1;
+    return rule != RULE_HEADER && rule != RULE_SAME_PLACE && rule != RULE_RATE_HOLDS_1;
 }
 
 static bool is_broken_so(enum second_rule rule, const uint8_t *bytes, size_t n)

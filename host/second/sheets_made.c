@@ -196,12 +196,14 @@ static void lay_addresses(struct made *made)
 
 /* ---- Address, rate, functions, clear address ---- */
 
+/* The range holds 1 and so begins there: rules S62 and S63. */
 static void make_address(struct made *made, struct made_item *item)
 {
     made->address_place = item->place;
     item->kind = 0;
-    item->low = below(2);
-    item->high = chance(50) ? ONE_OF(1, 2, 0xF7, 0xFF) : between(1, 0xFF);
+    item->low = FIRST_STATION;
+    item->high = chance(60) ? ONE_OF(1, 2, 0xF6, 0xF6, LAST_STATION, LAST_STATION, LAST_STATION)
+                            : between(FIRST_STATION, LAST_STATION);
 }
 
 static void make_rate(struct made *made, struct made_item *item)
@@ -384,7 +386,7 @@ static const struct map_item as_items[] = {
     { 0x00FF, 0, 0, 1 }, { 0x0100, 0, 0, 1 }, { 0x0101, 0, 0, 0x2710 },
     { 0x0102, 0, 0, 6 }, { 0x0103, 0, 0, 1 }, { 0x0104, 0, 0, 1 },
     { 0x0105, 0, 1, 0x10 }, { 0x0106, 0, 0x0320, 0x04B0 }, { 0x0107, 0, 0, 1 },
-    { 0x0108, 0, 0, 0xFF }, { 0x0109, 0, 0, 0x10 }, { 0x010D, 0, 0x01F4, 0x07CF },
+    { 0x0108, 0, 1, 0xF7 }, { 0x0109, 0, 0, 0x10 }, { 0x010D, 0, 0x01F4, 0x07CF },
     { 0x010E, 0, 0, 0xFFFF }, { 0x010F, 0, 1, 0x0C }, { 0x0110, 0, 1, 0x1F },
     { 0x0111, 0, 0, 0x17 }, { 0x0112, 0, 0, 0x3B }, { 0x0113, 0, 1, 0x0120 },
     { 0x0115, 0, 0, 5 }, { 0x0116, 0, 1, 4 }, { 0x0123, 1, -100, 0x0258 },

@@ -8,6 +8,10 @@
 
 enum { SHEET_ROOM = 2048, BANK_ROOM = 1024 };
 
+/* The stations that a meter can have, stated for the comparison itself and not
+ * taken from what is compared: rule S63. */
+enum { FIRST_STATION = 1, LAST_STATION = 0xF7 };
+
 struct made_area {
     uint32_t first, last, place, access;
 };
