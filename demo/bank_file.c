@@ -22,6 +22,44 @@ static int store(void *memory, size_t at, const uint8_t *bytes, size_t n)
     return pwrite(file, bytes, n, (off_t)at) == (ssize_t)n && fdatasync(file) == 0 ? 0 : -1;
 }
 
+enum { WHY_ROOM = 200 };
+
+/* Whether a bank that is not sound would be with a station that the sheet takes. */
+static int only_station_is_bad(const struct meter *meter, const uint8_t *bank)
+{
+    struct meter moved = *meter;
+    struct item station = station_item(meter);
+    memcpy(moved.bank, bank, moved.bank_n);
+    store_word(moved.bank, station.place, (unsigned)station.low);
+    return cedarskein_bank_check(moved.sheet, moved.sheet_n, moved.bank, moved.bank_n) == CEDARSKEIN_DONE;
+}
+
+/* A bank from before version 1.3 can be at station 0, or 248 to 255. Its settings need not be lost, so it is not called spoiled: hands back 1, and
+   why it is refused, where the station alone is bad. */
+static int is_at_bad_station(const struct meter *meter, const uint8_t *bank, char *why)
+{
+    struct item station = station_item(meter);
+    if (!only_station_is_bad(meter, bank))
+        return 0;
+    snprintf(why, WHY_ROOM,
+             "its station is %u, and this sheet takes %lu to %lu; all else in it is good, and include/cedarskein.h, \"Stations\", says how it gets "
+             "another one",
+             word_at(bank, station.place), (unsigned long)station.low, (unsigned long)station.high);
+    return 1;
+}
+
+/* The same of a copy that is whole: the check value over it and its own check value, low byte first, is then 0. */
+static int copy_is_at_bad_station(const struct meter *meter, const struct kept_bank *kept, char *why)
+{
+    uint8_t copy[CEDARSKEIN_LONGEST_BANK + CHECK_SIZE];
+    size_t n = meter->bank_n + CHECK_SIZE;
+    for (size_t at = 0; at < kept_size(meter->bank_n); at += n)
+        if (kept->lasting.load(kept->lasting.memory, at, copy, n) == 0 && cedarskein_check_value(copy, n) == 0
+            && is_at_bad_station(meter, copy, why))
+            return 1;
+    return 0;
+}
+
 static int refused(struct bank_file *bank, const char *why)
 {
     fprintf(stderr, "the bank's file %s: %s. It was left as it is\n", bank->path, why);
@@ -46,8 +84,9 @@ static int take_file(struct bank_file *bank, off_t *size)
     return 0;
 }
 
-static int restore_from_file(struct bank_file *bank)
+static int restore_from_file(struct bank_file *bank, const struct meter *meter)
 {
+    char why[WHY_ROOM];
     switch (restore_bank(&bank->kept)) {
     case FROM_FIRST_COPY:
         printf("the bank is the one that %s keeps\n", bank->path);
@@ -56,6 +95,8 @@ static int restore_from_file(struct bank_file *bank)
         printf("the bank is the one that %s keeps; its first copy was spoiled, and the second was taken\n", bank->path);
         return 0;
     default:
+        if (copy_is_at_bad_station(meter, &bank->kept, why))
+            return refused(bank, why);
         return refused(bank, "neither copy in it is a good bank of this sheet; without the file the meter begins with a fresh bank");
     }
 }
@@ -69,7 +110,7 @@ int open_bank(struct bank_file *bank, struct meter *meter, const char *path)
     struct kept_bank kept = { meter->sheet, meter->sheet_n, meter->bank, meter->bank_n, { load, store, &bank->file } };
     bank->kept = kept;
     if (size == (off_t)kept_size(meter->bank_n))
-        return restore_from_file(bank);
+        return restore_from_file(bank, meter);
     if (size != 0)
         return refused(bank, "it has not the bytes of two banks of this sheet with their check values");
     printf("the bank is fresh, and kept in %s\n", bank->path);
@@ -139,13 +180,22 @@ static int read_image(struct image *image, const char *path)
     return image->n < sizeof image->bytes ? 0 : no_bank(path, "it is longer than any bank");
 }
 
-static int take_image(struct meter *meter, struct image *image, const char *path)
+static int take_copies(struct meter *meter, struct image *image, const char *path)
 {
     struct kept_bank kept = { meter->sheet, meter->sheet_n, meter->bank, meter->bank_n, { load_image, leave_image, image } };
-    if (image->n == kept_size(meter->bank_n))
-        return restore_bank(&kept) != NO_GOOD_COPY ? 0 : no_bank(path, "neither copy in it is a good bank of this sheet");
+    char why[WHY_ROOM];
+    if (restore_bank(&kept) != NO_GOOD_COPY)
+        return 0;
+    return no_bank(path, copy_is_at_bad_station(meter, &kept, why) ? why : "neither copy in it is a good bank of this sheet");
+}
+
+static int take_bytes(struct meter *meter, const struct image *image, const char *path)
+{
+    char why[WHY_ROOM];
     if (cedarskein_bank_check(meter->sheet, meter->sheet_n, image->bytes, image->n) != CEDARSKEIN_DONE)
-        return no_bank(path, "it is not sound: an item is out of its range, or the mark is neither 0 nor 1");
+        return no_bank(path, is_at_bad_station(meter, image->bytes, why)
+                                 ? why
+                                 : "it is not sound: an item is out of its range, or the mark is neither 0 nor 1");
     memcpy(meter->bank, image->bytes, meter->bank_n);
     return 0;
 }
@@ -155,8 +205,10 @@ int read_bank(struct meter *meter, const char *path)
     struct image image;
     if (read_image(&image, path) != 0)
         return -1;
-    if (image.n == meter->bank_n || image.n == kept_size(meter->bank_n))
-        return take_image(meter, &image, path);
+    if (image.n == meter->bank_n)
+        return take_bytes(meter, &image, path);
+    if (image.n == kept_size(meter->bank_n))
+        return take_copies(meter, &image, path);
     fprintf(stderr, "the bank %s: it has %zu bytes; a bank of this sheet has %zu, and a file that make meter keeps has %zu\n", path, image.n,
             meter->bank_n, kept_size(meter->bank_n));
     return -1;

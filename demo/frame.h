@@ -9,6 +9,9 @@ enum { READ = 0x03, CLEAR = 0x05, WRITE = 0x06, WRITE_SEVERAL = 0x10, ERROR_BIT 
 /* Bytes from the front, and words of two bytes: the word with the number 1 is the third byte and the fourth. */
 enum { STATION_BYTE = 0, FUNCTION_BYTE = 1, BYTE_COUNT_BYTE = 6, START_WORD = 1, COUNT_WORD = 2, VALUE_WORD = 2, CHECK_BYTES = 2 };
 
+/* The stations that a meter can have, and the one that means all of them. */
+enum { BROADCAST = 0, FIRST_STATION = 1, LAST_STATION = 247 };
+
 /* The bytes that a frame has at least, that any but 10 has, that 10 has besides its values, and the registers of one read. */
 enum { LEAST_FRAME = 4, PLAIN_FRAME = 8, BARE_WRITE_SEVERAL = 9, MOST_READ = 47 };
 

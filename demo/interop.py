@@ -1,8 +1,9 @@
 #!/usr/bin/python3
 """Two masters that know nothing of this repository, mbpoll and pymodbus's client, at the simulated meter.
 
-  interop.py [--run RUN] SHEET METER              plays the steps, which are those of the UX15/25 sheet
-  interop.py [--run RUN] --wrong SHEET METER...   plays them at meters that are wrong: each step must fail at one of these
+  interop.py [--run RUN] UX ASWE METER              plays the steps, which are those of the UX15/25 sheet and of AS-WE, bore 40
+  interop.py [--run RUN] --wrong UX ASWE METER...   plays them at meters that are wrong: each step must fail at one of these; with
+                                                    --only TEXT, each step whose text has TEXT
 
 Each step has its expected result. A step that comes out otherwise is shown with both, and the exit status is 1.
 RUN is put in front of METER where it needs an emulator.
@@ -68,6 +69,15 @@ class Meter:
         frames = [line for line in self.lines() if line.startswith("station ")] or [""]
         return frames[-1][FRAME_COLUMNS:].strip()
 
+    def told_of_next(self, deed):
+        """What the screen says of a frame that its master does not wait for."""
+        before = len(self.lines())
+        deed()
+        deadline = time.monotonic() + 2
+        while len(self.lines()) == before and time.monotonic() < deadline:
+            time.sleep(0.02)
+        return self.told()
+
     def switch_off(self):
         """Ctrl-C: how the meter ended, and whether its link is gone."""
         self.process.send_signal(signal.SIGINT)
@@ -98,6 +108,14 @@ def at_station(master, station, deed):
     return deed()
 
 
+def for_station(sender, station, deed):
+    """A deed for a station that is not the meter's. Afterwards the sender is where it was."""
+    own, sender.station = sender.station, station
+    result = deed()
+    sender.station = own
+    return result
+
+
 def at_rate(master, rate, deed):
     master.rate = rate
     return deed()
@@ -109,7 +127,12 @@ def refused(meter, text, deed, expected, told):
 
 
 FRESH = "FFF6 0000 0000 0000 0000 0000 0000 0000 0000 0001 0000 0000 0000 0001 0001" + 8 * " 0000"
+# From 0100 on: what the steps up to those of pairs have written, and an AS-WE that is fresh but for 0101.
+WRITTEN = "FFFB 0003 0000 0001 869F 0000 0000 0000 0000 0001 0000 0000 0000 0001 0001 0001 1388" + 6 * " 0000"
+WRITTEN_ASWE = "0000 0003 0000 0000 0000 0001 0320 0001 0001 0000"
 UNCHANGED = "; nothing changed"
+BROADCAST = "the frame is for station 0, the broadcast, which is neither answered nor acted on"
+NO_METERS = "the frame is for station {}, which no meter has: stations are 1 to 247"
 LIMIT = "it takes 0 to 99999 (0.0 to 9999.9 m3/h)"
 
 
@@ -169,6 +192,33 @@ def steps_of_pairs(master, meter):
     ]
 
 
+def steps_of_no_meters_station(master, meter, station, why, still):
+    """Frames for a station that no meter has, each good but for that, and the registers from 0100 on behind them. Those that are sent have other
+    words before; they are set anew, so that what an earlier frame had done would not show here."""
+    sender = master.sender_to_any_station()
+
+    def silent(text, deed):
+        return refused(meter, f"{text}, for station {station}", lambda: for_station(sender, station, deed), "silence",
+                       f"silence: {why}; this meter is station 1")
+
+    return [
+        ("0101 = 0003 0000", lambda: master.write(0x0101, 0x0003, 0x0000), "done"),
+        *silent("a read of 0101", lambda: sender.read(0x0101, 2)),
+        *silent("0101 = 0001", lambda: sender.write(0x0101, 0x0001)),
+        *silent("0101 = 0002 0001, two registers", lambda: sender.write(0x0101, 0x0002, 0x0001)),
+        *silent("the alarm clear", lambda: sender.clear(0x0300, 0)),
+        (".. nothing was done, and station 1 answers", lambda: master.read(0x0100, len(still.split())), still),
+    ]
+
+
+def steps_of_no_meters_stations(master, meter):
+    return [
+        *steps_of_no_meters_station(master, meter, 0, BROADCAST, WRITTEN),
+        *steps_of_no_meters_station(master, meter, 248, NO_METERS.format(248), WRITTEN),
+        *steps_of_no_meters_station(master, meter, 255, NO_METERS.format(255), WRITTEN),
+    ]
+
+
 def steps_of_clearing(master, meter):
     return [
         *refused(meter, "the alarm clear with value FF00", lambda: master.clear(0x0300, 1), "error 3",
@@ -176,7 +226,7 @@ def steps_of_clearing(master, meter):
         *refused(meter, "the alarm clear at 0301", lambda: master.clear(0x0301, 0), "error 2",
                  "error 02 at 9600: a clear goes to 0300, Volume alarm clear; this one is for 0301" + UNCHANGED),
         ("the alarm clear", lambda: master.clear(0x0300, 0), "done"),
-        (".. the meter's screen tells of it", meter.last_line,
+        (".. nothing was done to the mark till now, the meter's screen says", meter.last_line,
          "station 1 05 clear 0300 value 0000 reply of 8 bytes at 9600; the alarm mark was 1, is 0"),
     ]
 
@@ -203,13 +253,32 @@ def steps_of_raw_frames(master, meter):
     ]
 
 
+def steps_of_own_station(master, meter, address):
+    """The stations that a meter takes for its own; in front of that register is the rate. Afterwards the meter is at 247."""
+    def read():
+        return master.read(address - 1, 2)
+
+    def bad(station):
+        return refused(meter, f"{address:04X} = {station:04X}, a station that no meter has", lambda: master.write(address, station), "error 3",
+                       f"error 03 at 9600: the item at {address:04X}, Station, would be {station}; it takes 1 to 247{UNCHANGED}")
+
+    return [
+        *bad(0), *bad(248),
+        (".. 0001 is read still", read, "0001 0001"),
+        (f"{address:04X} = 00F7, the highest station", lambda: master.write(address, 0x00F7), "done"),
+        *refused(meter, ".. it no longer answers at 1", read, "silence", "silence: the frame is for station 1; this meter is station 247"),
+        (".. it answers at 247", lambda: at_station(master, 247, read), "0001 00F7"),
+    ]
+
+
 def steps_of_station_and_rate(master, meter):
     def read():
         return master.read(0x010D, 2)
 
     return [
+        *steps_of_own_station(master, meter, 0x010E),
         ("010E = 0002, the station", lambda: master.write(0x010E, 0x0002), "done"),
-        *refused(meter, ".. it no longer answers at 1", read, "silence", "silence: the frame is for station 1; this meter is station 2"),
+        *refused(meter, ".. it no longer answers at 247", read, "silence", "silence: the frame is for station 247; this meter is station 2"),
         (".. it answers at 2", lambda: at_station(master, 2, read), "0001 0002"),
         *refused(meter, "010E = 0003 0002, the second is bad: error from station 2", lambda: master.write(0x010E, 0x0003, 0x0002), "error 3",
                  "error 03 at 9600: the item at 010F, Flow conversion, would be 2; it takes 0 to 1 (none, normal or standard); "
@@ -218,6 +287,24 @@ def steps_of_station_and_rate(master, meter):
         ("010D = 0000, the rate: reply at 9600", lambda: master.write(0x010D, 0x0000), "done"),
         (".. it no longer hears 9600", read, "silence"),
         (".. it answers at 4800", lambda: at_rate(master, 4800, read), "0000 0003"),
+    ]
+
+
+def steps_of_broadcast(master, meter):
+    """pymodbus's own broadcast, at the station and the rate that the steps before have left. It waits for nothing: the screen has to tell."""
+    return [
+        ("0101 = 0003", lambda: master.write(0x0101, 0x0003), "done"),
+        ("0101 = 0004 as a broadcast: the meter's screen", lambda: meter.told_of_next(lambda: master.broadcast(0x0101, 0x0004)),
+         f"silence: {BROADCAST}; this meter is station 3"),
+        (".. nothing was done, and station 3 answers", lambda: master.read(0x0101, 1), "0003"),
+    ]
+
+
+def steps_of_aswe(master, meter):
+    return [
+        *steps_of_no_meters_station(master, meter, 0, BROADCAST, WRITTEN_ASWE),
+        *steps_of_no_meters_station(master, meter, 255, NO_METERS.format(255), WRITTEN_ASWE),
+        *steps_of_own_station(master, meter, 0x0108),
     ]
 
 
@@ -289,33 +376,35 @@ def play(name, steps):
 
 def steps_of_master(master, meter):
     return [
-        *steps_of_reading(master, meter), *steps_of_writing(master, meter), *steps_of_pairs(master, meter), *steps_of_clearing(master, meter),
-        *steps_of_raw_frames(master, meter), *steps_of_station_and_rate(master, meter),
+        *steps_of_reading(master, meter), *steps_of_writing(master, meter), *steps_of_pairs(master, meter),
+        *steps_of_no_meters_stations(master, meter), *steps_of_clearing(master, meter), *steps_of_raw_frames(master, meter),
+        *steps_of_station_and_rate(master, meter),
     ]
 
 
-# Each part: the master that plays it, and its steps. The README's commands bring their own.
+# Each part: the meter's sheet, the master that plays it, and its steps. The README's commands bring their own.
 PARTS = {
-    "mbpoll": (Mbpoll, steps_of_master),
-    "pymodbus": (Pymodbus, steps_of_master),
-    "kept": (Mbpoll, steps_of_keeping),
-    "README": (contextlib.nullcontext, lambda _, meter: steps_of_readme(meter)),
+    "mbpoll": ("ux", Mbpoll, steps_of_master),
+    "pymodbus": ("ux", Pymodbus, lambda master, meter: [*steps_of_master(master, meter), *steps_of_broadcast(master, meter)]),
+    "AS-WE": ("aswe", Pymodbus, steps_of_aswe),
+    "kept": ("ux", Mbpoll, steps_of_keeping),
+    "README": ("ux", contextlib.nullcontext, lambda _, meter: steps_of_readme(meter)),
 }
 
 
-def play_part(name, command, sheet):
+def play_part(name, command, sheets):
     """The steps of one part at a meter of its own: their texts, and the numbers of those that differ."""
-    master_of, steps_of = PARTS[name]
-    with Meter(command, sheet) as meter, master_of(meter.link) as master:
+    sheet, master_of, steps_of = PARTS[name]
+    with Meter(command, sheets[sheet]) as meter, master_of(meter.link) as master:
         steps = [*steps_of(master, meter), ("the meter is switched off", meter.switch_off, "status 0, link gone")]
         return [f"{name}: {text}" for text, _, _ in steps], play(name, steps)
 
 
-def play_all(command, sheet):
+def play_all(command, sheets):
     """Every step, and every step that differs, as (number, text)."""
     every, differing = [], []
     for name in PARTS:
-        texts, numbers = play_part(name, command, sheet)
+        texts, numbers = play_part(name, command, sheets)
         differing += [(len(every) + number, texts[number]) for number in numbers]
         every += list(enumerate(texts, len(every)))
     return every, differing
@@ -326,27 +415,30 @@ def judge(every, differing):
     return 1 if differing else 0
 
 
-def judge_wrong(every, differing):
-    """A step that agrees with every wrong meter could not fail."""
-    idle = [text for number, text in every if (number, text) not in differing]
+def judge_wrong(every, differing, only):
+    """A step that agrees with every wrong meter could not fail. Of the steps, those that have a text are looked at."""
+    looked_at = [step for step in every if only in step[1]]
+    idle = [text for number, text in looked_at if (number, text) not in differing]
     for text in idle:
         print(f"CANNOT FAIL  {text}")
-    print(f"{len(every)} steps, {len(every) - len(idle)} failed at one of the wrong meters")
-    return 1 if idle else 0
+    print(f"{len(looked_at)} steps, {len(looked_at) - len(idle)} failed at one of the wrong meters")
+    return 1 if idle or not looked_at else 0
 
 
 def main():
     words_given = argparse.ArgumentParser(description=__doc__, formatter_class=argparse.RawDescriptionHelpFormatter)
     words_given.add_argument("--run", default="")
     words_given.add_argument("--wrong", action="store_true", help="each step must fail at one of the meters")
-    words_given.add_argument("sheet")
+    words_given.add_argument("--only", default="", metavar="TEXT", help="of the steps, those whose text has TEXT")
+    words_given.add_argument("ux")
+    words_given.add_argument("aswe")
     words_given.add_argument("meters", nargs="+")
     given = words_given.parse_args()
     every, differing = [], []
     for meter in given.meters:
-        every, found = play_all([*given.run.split(), meter], given.sheet)
+        every, found = play_all([*given.run.split(), meter], {"ux": given.ux, "aswe": given.aswe})
         differing += found
-    return judge_wrong(every, differing) if given.wrong else judge(every, differing)
+    return judge_wrong(every, differing, given.only) if given.wrong else judge(every, differing)
 
 
 if __name__ == "__main__":

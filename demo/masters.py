@@ -1,5 +1,7 @@
 """The masters: mbpoll, pymodbus's client, and frames that no master would send. What a frame came to is said in words:
-the registers in hex, "done", "error 1" to "error 3", or "silence"."""
+the registers in hex, "done", "error 1" to "error 3", or "silence".
+
+A master's sender_to_any_station() reads, writes and clears at the stations that no meter has, 0 and 248 to 255."""
 import re
 import subprocess
 
@@ -41,6 +43,11 @@ class Mbpoll:
             if message in done.stderr:
                 return result
         return done.stdout if done.returncode == 0 else f"{done.stdout} {done.stderr}"
+
+    def sender_to_any_station(self):
+        """mbpoll sends to none of them: of -a 0 it says that the address is out of range, and with 248 to 255 an assertion of its library ends it
+        before a byte goes out. So the frames are put on the line without it."""
+        return BareFrames(self.link)
 
     def read(self, address, count, table="4:hex"):
         said = self.run(table, address, "-c", str(count), self.link)
@@ -86,6 +93,16 @@ class Pymodbus:
         self.client.close()
         self.connect(rate)
 
+    def sender_to_any_station(self):
+        """pymodbus sends to each of them, 0 too, and waits for a reply as from any other."""
+        return self
+
+    def broadcast(self, address, value):
+        """A write that goes out to station 0 without waiting for a reply, which pymodbus does only where it is asked to."""
+        self.client.params.broadcast_enable = True
+        self.client.write_register(address, value, slave=0)
+        self.client.params.broadcast_enable = False
+
     @staticmethod
     def result(reply, good):
         if not reply.isError():
@@ -125,6 +142,28 @@ def send_raw(link, frame):
     with serial.Serial(link, 9600, timeout=0.5) as line:
         line.write(frame)
         return line.read(256).hex(" ").upper() or "silence"
+
+
+class BareFrames:
+    """Frames as a master would make them, and the reply as it came, for stations that a master does not send to."""
+
+    def __init__(self, link):
+        self.link = link
+        self.station = 1
+
+    def send(self, function, *given, behind=""):
+        return send_raw(self.link, with_check(f"{self.station:02X} {function:02X} {words(given)} {behind}"))
+
+    def read(self, address, count):
+        return self.send(0x03, address, count)
+
+    def write(self, address, *values):
+        if len(values) == 1:
+            return self.send(0x06, address, *values)
+        return self.send(0x10, address, len(values), behind=f"{2 * len(values):02X} {words(values)}")
+
+    def clear(self, address, value):
+        return self.send(0x05, address, 0xFF00 if value else 0)
 
 
 def damaged(hex_bytes):

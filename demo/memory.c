@@ -44,12 +44,58 @@ static int read_sheet(struct meter *meter, const char *path)
     return 0;
 }
 
+static struct item item_of_row(const uint8_t *row)
+{
+    struct item item = { word_at(row, 0), word_at(row, 1), word_at(row, 2) << 16 | word_at(row, 3), word_at(row, 4) << 16 | word_at(row, 5) };
+    return item;
+}
+
+/* The row of the station's item in what may be no sheet: NULL where there is none. */
+static uint8_t *find_station_row(struct meter *meter)
+{
+    size_t words = meter->sheet_n / 2;
+    if (words < HEADER)
+        return NULL;
+    for (size_t at = word_at(meter->sheet, ITEM_ROWS); at + ITEM_ROW <= words; at += ITEM_ROW)
+        if (word_at(meter->sheet, at + 1) == word_at(meter->sheet, PLACE_OF_STATION))
+            return meter->sheet + 2 * at;
+    return NULL;
+}
+
+/* Whether a sheet would be good with stations that a meter can have, and those that it has. */
+static int only_stations_are_bad(const struct meter *meter, struct item *stations)
+{
+    struct meter mended = *meter;
+    uint8_t *row = find_station_row(&mended);
+    if (!row)
+        return 0;
+    *stations = item_of_row(row);
+    store_word(row, 2, 0);
+    store_word(row, 3, FIRST_STATION);
+    store_word(row, 4, 0);
+    store_word(row, 5, LAST_STATION);
+    return (stations->low < FIRST_STATION || LAST_STATION < stations->high)
+        && cedarskein_sheet_check(mended.sheet, mended.sheet_n) == CEDARSKEIN_DONE;
+}
+
+/* AS-WE sheets from before version 1.3 have stations 0 to 255 and no other fault, which is worth its own words. */
+static int refuse_sheet(const struct meter *meter, const char *path)
+{
+    struct item stations;
+    char why[160];
+    if (!only_stations_are_bad(meter, &stations))
+        return refuse(path, "no sheet: it breaks a rule of document 01");
+    snprintf(why, sizeof why, "no sheet: its stations are %lu to %lu; they must lie within %d to %d, as those of the files in sheets/ do",
+             (unsigned long)stations.low, (unsigned long)stations.high, FIRST_STATION, LAST_STATION);
+    return refuse(path, why);
+}
+
 int load_meter(struct meter *meter, const char *path)
 {
     if (read_sheet(meter, path) != 0)
         return -1;
     if (cedarskein_sheet_check(meter->sheet, meter->sheet_n) != CEDARSKEIN_DONE)
-        return refuse(path, "no sheet: it breaks a rule of document 01");
+        return refuse_sheet(meter, path);
     meter->bank_n = 2 * bank_word_count(meter) + 2;
     if (cedarskein_bank_fresh(meter->sheet, meter->sheet_n, meter->bank, meter->bank_n) != CEDARSKEIN_DONE)
         return refuse(path, "the bank has not 2B + 2 bytes");
@@ -90,8 +136,7 @@ struct item item_from(const struct meter *meter, unsigned place)
     const uint8_t *last = row + 2 * ITEM_ROW * (word_at(meter->sheet, ITEMS) - 1);
     while (row < last && word_at(row, 1) < place)
         row += 2 * ITEM_ROW;
-    struct item item = { word_at(row, 0), word_at(row, 1), word_at(row, 2) << 16 | word_at(row, 3), word_at(row, 4) << 16 | word_at(row, 5) };
-    return item;
+    return item_of_row(row);
 }
 
 uint32_t item_value(const struct meter *meter, const struct item *item)
@@ -119,6 +164,11 @@ unsigned bank_word_count(const struct meter *meter)
 unsigned station_of(const struct meter *meter)
 {
     return word_at(meter->bank, word_at(meter->sheet, PLACE_OF_STATION));
+}
+
+struct item station_item(const struct meter *meter)
+{
+    return item_from(meter, word_at(meter->sheet, PLACE_OF_STATION));
 }
 
 unsigned rate_of(const struct meter *meter)

@@ -58,4 +58,7 @@ unsigned station_of(const struct meter *meter);
 unsigned rate_of(const struct meter *meter);
 unsigned mark_of(const struct meter *meter);
 
+/* The item that holds the station: its bounds are the stations that the sheet takes. */
+struct item station_item(const struct meter *meter);
+
 #endif

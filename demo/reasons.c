@@ -57,9 +57,16 @@ static void tell_check(const struct reason *reason)
     printf("the check does not agree: the frame ends in %02X %02X, its other bytes give %02X %02X", end[0], end[1], value & 0xFF, value >> 8);
 }
 
+/* A station that no meter has is told apart: whoever sends there need not look for the meter that it is meant for. */
 static void tell_station(const struct reason *reason)
 {
-    printf("the frame is for station %u; this meter is station %u", reason->frame[STATION_BYTE], station_of(reason->meter));
+    unsigned station = reason->frame[STATION_BYTE];
+    printf("the frame is for station %u", station);
+    if (station == BROADCAST)
+        printf(", the broadcast, which is neither answered nor acted on");
+    else if (station > LAST_STATION)
+        printf(", which no meter has: stations are %d to %d", FIRST_STATION, LAST_STATION);
+    printf("; this meter is station %u", station_of(reason->meter));
 }
 
 static void tell_function(const struct reason *reason)

@@ -182,7 +182,9 @@ static void tell_silence(void)
     printf("  This is the half limit of 3, damaged on the way: one bit, 88 came in as 08.\n");
     ask("02 06 01 04 13 88");
     printf("  This is the same for station 2, and its check agrees.\n");
-    printf("  The bank, the meter's memory, is %s it was before these two.\n",
+    ask("00 06 01 04 13 88");
+    printf("  This is the same from a controller that means every meter at once.\n");
+    printf("  The bank, the meter's memory, is %s it was before these three.\n",
            memcmp(before, meter.bank, meter.bank_n) == 0 ? "byte for byte what" : "NOT what");
 }
 

@@ -151,8 +151,13 @@ def bank_in_use(bench):
         return refused_bank(bench)
 
 
-def refused_sheet(bench):
-    bench.write("sheet", b"a letter")
+def bank_at_station(bench, station):
+    bench.write("bank", why_trials.kept(why_trials.ux_bank(a010E=station)))
+    return refused_bank(bench)
+
+
+def refused_sheet(bench, data):
+    bench.write("sheet", data)
     bench.sheet = bench.path("sheet")
     return f"{bench.refused('-l', 'line')}; link left {os.path.lexists(bench.path('line'))}"
 
@@ -199,7 +204,12 @@ TRIALS = [
      f"status 1: the bank's file bank: another meter has it in use. {LEFT}; unchanged True, link left False"),
     ("a bank that is in use, asked why", bank_in_use_asked,
      "Silence: the frame is for station 2; this meter is station 1; unchanged True"),
-    ("a sheet that is not sound", refused_sheet, "status 1: sheet: no sheet: it breaks a rule of document 01; link left False"),
+    ("a bank at station 0", lambda bench: bank_at_station(bench, 0),
+     f"status 1: the bank's file bank: its station is 0, {why_trials.MOVABLE}. {LEFT}; unchanged True, link left False"),
+    ("a sheet that is not sound", lambda bench: refused_sheet(bench, b"a letter"),
+     "status 1: sheet: no sheet: it breaks a rule of document 01; link left False"),
+    ("AS-WE from before version 1.3", lambda bench: refused_sheet(bench, why_trials.old_aswe_sheet()),
+     f"status 1: sheet: no sheet: its stations are 0 to 255; {why_trials.WITHIN}; link left False"),
     ("a sheet that is not there", lambda _: told_by_make("SHEET=aswe 45"),
      f"status 2: there is no sheet aswe 45. SHEET= takes the name of a file, or one of: {SHORT_NAMES}"),
     ("a sheet of three", lambda _: told_by_make("SHEET=aswe"),

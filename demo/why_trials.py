@@ -6,7 +6,7 @@ import subprocess
 ROOT = os.path.dirname(os.path.dirname(os.path.abspath(__file__)))
 AT_THE_END = (0xFFFD, 0xFFFF, 0, 3)
 WITH_READINGS = (0x0010, 0x0012, 0, 3, 0x0020, 0x0021, 3, 1)
-ANY_THREE_ITEMS = (0, 0, 0, 1, 0, 0xF7, 0, 1, 0, 0, 0, 1, 1, 2, 0, 0xFFF6, 0, 0x3C)
+RATE_AND_SIGNED_WORD = (0, 1, 0, 0, 0, 1, 1, 2, 0, 0xFFF6, 0, 0x3C)
 
 
 def bytes_of(words):
@@ -28,11 +28,19 @@ def sealed(text):
     return (data + check_of(data)).hex(" ").upper()
 
 
-def sheet_of(functions, areas):
+def sheet_of(functions, areas, stations=(1, 0xF7)):
     """A sheet that is no maker's: areas with a station, a rate and a signed word at places 0 to 2, and a clear at 0300."""
-    items, places = 12 + len(areas), areas[-2] + areas[-3] + 1 - areas[-4]
-    header = (1, len(areas) // 4, 12, 3, items, places, functions, items + len(ANY_THREE_ITEMS), 0, 1, 0x0300 if functions & 2 else 0, 0)
-    return bytes_of((*header, *areas, *ANY_THREE_ITEMS))
+    items, places = (0, 0, 0, stations[0], 0, stations[1], *RATE_AND_SIGNED_WORD), areas[-2] + areas[-3] + 1 - areas[-4]
+    rows = 12 + len(areas)
+    header = (1, len(areas) // 4, 12, 3, rows, places, functions, rows + len(items), 0, 1, 0x0300 if functions & 2 else 0, 0)
+    return bytes_of((*header, *areas, *items))
+
+
+def old_aswe_sheet():
+    """AS-WE, bore 40, as it was up to version 1.2 of the library: the same but for its stations."""
+    with open(os.path.join(ROOT, "sheets", "aswe_40.sheet"), "rb") as file:
+        sheet = file.read()
+    return sheet.replace(bytes_of((0, 9, 0, 1, 0, 0xF7)), bytes_of((0, 9, 0, 0, 0, 0xFF)))
 
 
 def kept(bank):
@@ -63,9 +71,12 @@ class Why:
         options = ["-b", self.file("bank", ux_bank(**words))] if words else []
         return self.run(sheet, *options, "-f", sealed(text))
 
-    def bank(self, data):
+    def bank(self, data, sheet="ux15_25"):
         """A read, with a bank of these bytes."""
-        return self.run("ux15_25", "-b", self.file("bank", data), "-f", sealed("02 03 01 00 00 01"))
+        return self.run(sheet, "-b", self.file("bank", data), "-f", sealed("02 03 01 00 00 01"))
+
+    def sheet(self, data):
+        return self.run(self.file("sheet", data), "-f", "01")
 
     def capture(self, given):
         return self.run("ux15_25", given=given.encode("latin-1"))
@@ -83,6 +94,12 @@ def ux_bank(**words):
     for name, word in words.items():
         bank[int(name[1:], 16) - 0x0100] = word
     return bytes_of(bank)
+
+
+def aswe_bank(station):
+    """A fresh bank of AS-WE, bore 40, at a station."""
+    items = (0, 0, 0, 0, 0, 0, 1, 800, 1, station, 0, 500, 0, 1, 1, 0, 0, 1, 0, 1, 0xFF9C, 0)
+    return bytes_of((*items, *(39 - len(items)) * [0]))
 
 
 def outside_of_make():
@@ -113,6 +130,7 @@ def shown_in_readme(why):
     return f"{len(shown)} shown, otherwise: {otherwise}"
 
 
+BROADCAST = "the frame is for station 0, the broadcast, which is neither answered nor acted on"
 PAIR = "0 to 99999 (0.0 to 9999.9 m3/h)"
 REASONS = [
     ("a read of one register", lambda why: why.frame("01 03 01 01 00 01"), "A reply goes out: the frame reads 0101, Pulse constant"),
@@ -133,6 +151,17 @@ REASONS = [
     ("another station", lambda why: why.frame("02 06 01 04 13 88"), "Silence: the frame is for station 2; this meter is station 1"),
     ("another station than the bank's", lambda why: why.frame("01 06 01 04 13 88", a010E=7),
      "Silence: the frame is for station 1; this meter is station 7"),
+    ("the broadcast", lambda why: why.frame("00 06 01 04 13 88"), f"Silence: {BROADCAST}; this meter is station 1"),
+    ("the broadcast of a read", lambda why: why.frame("00 03 01 04 00 01", a010E=247), f"Silence: {BROADCAST}; this meter is station 247"),
+    ("the broadcast at AS-WE", lambda why: why.frame("00 06 01 08 00 02", "aswe_40"), f"Silence: {BROADCAST}; this meter is station 1"),
+    ("the broadcast of a function that is none", lambda why: why.frame("00 07"), f"Silence: {BROADCAST}; this meter is station 1"),
+    ("a check that does not agree comes before the broadcast", lambda why: why.run("ux15_25", "-f", "00 07 00 00"),
+     "Silence: the check does not agree: the frame ends in 00 00, its other bytes give 40 72"),
+    ("the last station", lambda why: why.frame("F7 06 01 04 13 88"), "Silence: the frame is for station 247; this meter is station 1"),
+    ("the first station behind it", lambda why: why.frame("F8 06 01 04 13 88"),
+     "Silence: the frame is for station 248, which no meter has: stations are 1 to 247; this meter is station 1"),
+    ("the highest byte for a station", lambda why: why.frame("FF 06 01 08 00 02", "aswe_40"),
+     "Silence: the frame is for station 255, which no meter has: stations are 1 to 247; this meter is station 1"),
     ("function 04", lambda why: why.frame("01 04 01 00 00 01"), "Error 01: the frame has function 04; this meter takes 03, 05, 06, 10"),
     ("a clear at AS-WE", lambda why: why.frame("01 05 03 00 00 00", "aswe_40"), "Error 01: the frame has function 05; this meter takes 03, 06, 10"),
     ("a meter that takes no function", lambda why: why.frame("01 03 FF FD 00 01", why.file("sheet", sheet_of(0, AT_THE_END))),
@@ -178,6 +207,8 @@ REASONS = [
     ("steps of five", lambda why: why.frame("01 06 01 13 01 21", "aswe_40"),
      "Error 03: the item at 0113, History interval, would be 289 (1445 min); it takes 1 to 288 (5 to 1440 min)"),
     ("a number without a unit", lambda why: why.frame("01 06 01 0E 00 F8"), "Error 03: the item at 010E, Station, would be 248; it takes 1 to 247"),
+    ("the broadcast for a station", lambda why: why.frame("01 06 01 08 00 00", "aswe_40"),
+     "Error 03: the item at 0108, Station, would be 0; it takes 1 to 247"),
     ("a meter of no maker", lambda why: why.frame("01 06 FF FF FF F5", why.file("sheet", sheet_of(15, AT_THE_END))),
      "Error 03: the item at FFFF would be -11; it takes -10 to 60"),
     ("a meter of no maker, a write past an area",
@@ -195,6 +226,8 @@ REASONS = [
 
 FOR_TWO = "Silence: the frame is for station 2; this meter is station 1"
 NOT_SOUND = "it is not sound: an item is out of its range, or the mark is neither 0 nor 1"
+MOVABLE = 'and this sheet takes 1 to 247; all else in it is good, and include/cedarskein.h, "Stations", says how it gets another one'
+WITHIN = "they must lie within 1 to 247, as those of the files in sheets/ do"
 SIZES = "a bank of this sheet has 70, and a file that make meter keeps has 144"
 BANKS = [
     ("a bank's own bytes", lambda why: why.bank(ux_bank()), FOR_TWO),
@@ -205,6 +238,18 @@ BANKS = [
     ("two copies that are not sound", lambda why: why.bank(kept(ux_bank(a0101=5))),
      "status 2: the bank bank: neither copy in it is a good bank of this sheet"),
     ("an item out of its range", lambda why: why.bank(ux_bank(a0101=5)), f"status 2: the bank bank: {NOT_SOUND}"),
+    ("a bank at station 0", lambda why: why.bank(ux_bank(a010E=0)), f"status 2: the bank bank: its station is 0, {MOVABLE}"),
+    ("a bank at station 248", lambda why: why.bank(ux_bank(a010E=248)), f"status 2: the bank bank: its station is 248, {MOVABLE}"),
+    ("a bank at station 247", lambda why: why.bank(ux_bank(a010E=247)), "Silence: the frame is for station 2; this meter is station 247"),
+    ("a kept bank at station 0", lambda why: why.bank(kept(aswe_bank(0)), "aswe_40"), f"status 2: the bank bank: its station is 0, {MOVABLE}"),
+    ("a kept bank at station 255", lambda why: why.bank(kept(aswe_bank(255)), "aswe_40"), f"status 2: the bank bank: its station is 255, {MOVABLE}"),
+    ("a kept bank at station 5", lambda why: why.bank(kept(aswe_bank(5)), "aswe_40"), "Silence: the frame is for station 2; this meter is station 5"),
+    ("a kept bank at station 0, its first copy spoiled", lambda why: why.bank(b"\1" + kept(aswe_bank(0))[1:], "aswe_40"),
+     f"status 2: the bank bank: its station is 0, {MOVABLE}"),
+    ("a kept bank at station 0, both copies spoiled", lambda why: why.bank(2 * (aswe_bank(0) + b"\0\0"), "aswe_40"),
+     "status 2: the bank bank: neither copy in it is a good bank of this sheet"),
+    ("a bank at station 0 with another item out of its range", lambda why: why.bank(ux_bank(a010E=0, a0101=5)),
+     f"status 2: the bank bank: {NOT_SOUND}"),
     ("a mark of 2", lambda why: why.bank(ux_bank()[:-1] + b"\2"), f"status 2: the bank bank: {NOT_SOUND}"),
     ("an empty bank", lambda why: why.bank(b""), f"status 2: the bank bank: it has 0 bytes; {SIZES}"),
     ("a bank of AS-WE", lambda why: why.bank(bytes(78)), f"status 2: the bank bank: it has 78 bytes; {SIZES}"),
@@ -212,10 +257,20 @@ BANKS = [
     ("a bank that is not there", lambda why: why.run("ux15_25", "-b", why.folder + "/none", "-f", "01"),
      "status 2: the bank none: No such file or directory"),
     ("a folder for a bank", lambda why: why.run("ux15_25", "-b", why.folder + "/.", "-f", "01"), "status 2: the bank .: Is a directory"),
-    ("a sheet that is not sound", lambda why: why.run(why.file("sheet", sheet_of(16, AT_THE_END)), "-f", "01"),
+    ("a sheet that is not sound", lambda why: why.sheet(sheet_of(16, AT_THE_END)), "status 2: sheet: no sheet: it breaks a rule of document 01"),
+    ("AS-WE from before version 1.3", lambda why: why.sheet(old_aswe_sheet()), f"status 2: sheet: no sheet: its stations are 0 to 255; {WITHIN}"),
+    ("a sheet with stations from 0 on", lambda why: why.sheet(sheet_of(15, AT_THE_END, (0, 0xF7))),
+     f"status 2: sheet: no sheet: its stations are 0 to 247; {WITHIN}"),
+    ("a sheet with stations up to 248", lambda why: why.sheet(sheet_of(15, AT_THE_END, (1, 0xF8))),
+     f"status 2: sheet: no sheet: its stations are 1 to 248; {WITHIN}"),
+    ("a sheet with stations in the wrong order", lambda why: why.sheet(sheet_of(15, AT_THE_END, (2, 1))),
      "status 2: sheet: no sheet: it breaks a rule of document 01"),
-    ("a file that is longer than any sheet", lambda why: why.run(why.file("sheet", bytes(857)), "-f", "01"),
-     "status 2: sheet: no sheet: it is longer than any"),
+    ("a sheet with stations 0 to 255 that is not sound either", lambda why: why.sheet(sheet_of(16, AT_THE_END, (0, 0xFF))),
+     "status 2: sheet: no sheet: it breaks a rule of document 01"),
+    ("a sheet that ends in the station's row", lambda why: why.sheet(sheet_of(15, AT_THE_END, (0, 0xFF))[:40]),
+     "status 2: sheet: no sheet: it breaks a rule of document 01"),
+    ("a sheet that ends in its header", lambda why: why.sheet(old_aswe_sheet()[:23]), "status 2: sheet: no sheet: it breaks a rule of document 01"),
+    ("a file that is longer than any sheet", lambda why: why.sheet(bytes(857)), "status 2: sheet: no sheet: it is longer than any"),
     ("a sheet that is not there", lambda why: why.run(why.folder + "/none", "-f", "01"), "status 2: none: No such file or directory"),
     ("a bank where there is no sheet", lambda why: why.run(why.folder + "/none", "-b", why.folder + "/none", "-f", "zz"),
      "status 2: none: No such file or directory"),

@@ -1,9 +1,13 @@
-/* Two meters that break document 01, so that each step of interop.py is seen to fail. The linker puts these functions in place of the
-   library's and the line's (--wrap): one meter is silent always, the other answers whatever it hears. Both leave their link behind. */
+/* Three meters that break document 01, so that each step of interop.py is seen to fail. The linker puts these functions in place of the
+   library's and the line's (--wrap): one meter is silent always, one answers whatever it hears, and both leave their link behind. The third is
+   good, but that it does what is sent to the stations that no meter has, 0 and 248 to 255, and is silent about it. */
 #include <string.h>
 
 #include "cedarskein.h"
+#include "frame.h"
 #include "line.h"
+
+enum { SILENT, HASTY, OBEDIENT };
 
 uint32_t __real_cedarskein_answer(const uint8_t *sheet, size_t sheet_n, uint8_t *bank, size_t bank_n, const uint8_t *frame, size_t frame_n,
                                   uint8_t *out, size_t out_n, uint32_t *length, uint32_t *rate);
@@ -36,6 +40,11 @@ static void sign(uint8_t *frame, size_t n, uint8_t station)
     frame[n - 1] = (uint8_t)(check >> 8);
 }
 
+static int is_for_no_meter(const uint8_t *frame)
+{
+    return frame[STATION_BYTE] == BROADCAST || frame[STATION_BYTE] > LAST_STATION;
+}
+
 uint32_t __wrap_cedarskein_answer(const uint8_t *sheet, size_t sheet_n, uint8_t *bank, size_t bank_n, const uint8_t *frame, size_t frame_n,
                                   uint8_t *out, size_t out_n, uint32_t *length, uint32_t *rate)
 {
@@ -44,10 +53,15 @@ uint32_t __wrap_cedarskein_answer(const uint8_t *sheet, size_t sheet_n, uint8_t 
     size_t station = 2 * ((size_t)sheet[16] << 8 | sheet[17]) + 1; /* the lower byte at the place that word 8 of the sheet names */
     memcpy(heard, frame, n);
     *length = *rate = 0;
-    if (ALWAYS_SILENT || n < LEAST_SIGNED)
+    if (WRONG == SILENT || n < LEAST_SIGNED)
         return CEDARSKEIN_SILENCE;
+    if (WRONG == OBEDIENT && !is_for_no_meter(frame))
+        return __real_cedarskein_answer(sheet, sheet_n, bank, bank_n, frame, frame_n, out, out_n, length, rate);
     sign(heard, n, bank[station]);
-    if (__real_cedarskein_answer(sheet, sheet_n, bank, bank_n, heard, n, out, out_n, length, rate) != CEDARSKEIN_DONE) {
+    uint32_t number = __real_cedarskein_answer(sheet, sheet_n, bank, bank_n, heard, n, out, out_n, length, rate);
+    if (WRONG == OBEDIENT)
+        return CEDARSKEIN_SILENCE;
+    if (number != CEDARSKEIN_DONE) {
         memcpy(out, heard, n);
         *length = (uint32_t)n;
     }
