@@ -11,7 +11,7 @@ use Rattle.sheet_rules.specs.Rules.{lowestStation, highestStation, sound}
 use Rattle.lists.proofs.Tests.{first-of, second-of}
 use Rattle.bank_rules.specs.Stores.{wordOf}
 use Rattle.bank_rules.specs.Bank.{goodBy, bankSound, stationOf}
-use Rattle.bank_rules.proofs.Held.{SettingItem, address-item, address-bounds}
+use Rattle.bank_rules.proofs.Held.{address-item, address-bounds}
 use Rattle.bank_rules.proofs.Values.{setting-value, sound-items}
 
 -- a word without sign that is in its range lies between its bounds
