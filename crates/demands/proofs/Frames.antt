@@ -1,8 +1,8 @@
 -- Demands 2 and 3 over the calls themselves. Demand 2: what is handed back and left is what the plain numbers say (`Leaves`), and they leave
 -- no choice. A frame for a station that no meter has, and demand 3, what arrives damaged of a frame that was sent right: silence, and nothing is
 -- touched. That what was lent is bytes is supposed nowhere: the call says it. Assumes nothing.
-use mathlib.Core.Path.{_≡_, refl, sym, ap, subst, _∙_}
-use mathlib.Core.Bool.{true, not}
+use mathlib.Core.Path.{_≡_, sym, ap, subst, _∙_}
+use mathlib.Core.Bool.{not}
 use mathlib.Core.List.{List}
 use mathlib.Core.Logic.{_↔_, _⊎_}
 use Prim.Native.Nat.{ℕ, _*_, _+_}
@@ -30,7 +30,7 @@ use Rattle.plain.proofs.Fates.{one-fate, unmet}
 use Rattle.plain.proofs.Stations.{bank-station, kept-back-quiet}
 use Rattle.plain.proofs.ReadOnly as read-only
 use Rattle.plain.proofs.Once as once
-use Rattle.plain.proofs.Meets.{leftOf, meets}
+use Rattle.plain.proofs.Meets.{meets}
 use Rattle.cedarskein.specs.Door.{Handed, handed, handedOf}
 use Rattle.demands.specs.Seen.{Accepted, leftBy}
 use Rattle.demands.proofs.Calls.{Answers, answers-is, answers-bytes}
