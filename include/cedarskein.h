@@ -28,8 +28,9 @@
  *
  * Stations, and a board from before version 1.3
  *
- *   A meter's station is 1 to 247. The line keeps 0 for broadcast, and 248 to 255 back: cedarskein_answer meets a frame for
- *   one of these with silence, or with a refusal, whatever else the frame holds, and stores nothing.
+ *   A meter's station is 1 to 247. By 0 a master means all meters at once, which is left to others, and 248 to 255 are
+ *   reserved: cedarskein_answer meets a frame for one of these with silence, or with a refusal, whatever else the frame
+ *   holds, and stores nothing.
  *
  *   Up to version 1.2 a sheet could have stations 0 to 255, and the AS-WE sheets had. A board that is updated with such a
  *   sheet in its memory, or with a bank of it, sees:

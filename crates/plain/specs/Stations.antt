@@ -8,6 +8,6 @@ pub record Station (station : ℕ) : Type 0 where
   pub least : 1 ≤ station
   pub most : station ≤ 0xF7
 
--- rules J21 and D25: 0, which the line keeps for broadcast, and all above F7, which it keeps back
+-- rules J21 and D25, numbers that no meter has: 0, by which a master means all of them at once, and what is reserved above F7
 abbrev pub KeptBack : ℕ → Type 0
 KeptBack station = (station ≡ 0) ⊎ (0xF7 < station)
