@@ -23,8 +23,8 @@ station-or-kept-back zero = inr (inl refl)
 station-or-kept-back (suc below) = go (leb (suc below) 0xF7) refl
   where
     go : (small : Bool) → leb (suc below) 0xF7 ≡ small → Station (suc below) ⊎ KeptBack (suc below)
-    go true e = inl record { least = omega arith; most = leb-true (suc below) 0xF7 e }
-    go false e = inr (inr (leb-false (suc below) 0xF7 e))
+    go true e = inl record { least = omega arith; most = omega (arith, leb-true (suc below) 0xF7 e) }
+    go false e = inr (inr (omega (arith, leb-false (suc below) 0xF7 e)))
 
 pub never-both : {station : ℕ} → Station station → KeptBack station → ⊥
 never-both can (inl none) = omega (arith, can .least)
