@@ -35,7 +35,7 @@ module _ (given : Lent) (keeps : sound (given .sheet) ≡ true) (whole : bankSou
   pub bank-station : Station (word (given .bank) (2 * word (given .sheet) 16))
   bank-station =
       let within = station-within (given .sheet) (given .bank) keeps whole in
-      rw (word-same (given .sheet) 16, word-same (given .bank)) record { least = within .0; most = within .1 }
+      rw (word-same (given .sheet) 16, word-same (given .bank)) record { least = omega (arith, within .0); most = omega (arith, within .1) }
 
   module _ (frame : List ℕ) (kept-back : KeptBack (byte frame 0)) where
     not-ours : OurStation given frame → ⊥
