@@ -3,11 +3,11 @@ use Prim.Native.Nat.{ℕ}
 use mathlib.Core.List.{List}
 use Rattle.lists.specs.Cases.{Case, mapped, firstCase}
 use Rattle.refusals.specs.declared.Refusal.{Refusal}
-use Rattle.refusals.specs.declared.Refusal.the-variants.{BrokenSheet, MisfittingBank, UnsoundBank, SmallBuffer, NotReadOnly, BadInput}
+use Rattle.refusals.specs.declared.Refusal.the-variants.{BrokenSheet, MisfittingBank, UnsoundBank, SmallBuffer, NotReadOnly, BadInput, BadRing}
 use Rattle.refusals.specs.declared.Answer.{Answer}
 use Rattle.refusals.specs.declared.Answer.the-variants.{Done, Refused}
 
--- rules N2 to N7 and F4
+-- rules N2 to N8 and F4
 abbrev pub refusalNumber : Refusal → ℕ
 refusalNumber BrokenSheet = 2
 refusalNumber MisfittingBank = 3
@@ -15,6 +15,7 @@ refusalNumber UnsoundBank = 4
 refusalNumber SmallBuffer = 5
 refusalNumber NotReadOnly = 6
 refusalNumber BadInput = 7
+refusalNumber BadRing = 8
 
 -- rule N0, done
 abbrev pub answerNumber : Answer → ℕ

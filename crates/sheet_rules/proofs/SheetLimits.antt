@@ -10,7 +10,7 @@ use Rattle.words.specs.Words.{wordAt, bytesOf}
 use Rattle.words.specs.Changes.{Change, at, changed}
 use Rattle.range.specs.Range.{inRange}
 use Rattle.sheet_rules.specs.Rows.{areas, items}
-use Rattle.sheet_rules.specs.Rules.{sound, headerSound, areasSound, itemsSound, settingsSound, itemPlaces, writablePlaces, placesFollow, areasAscend, lengthsSum}
+use Rattle.sheet_rules.specs.Rules.{sound, headerSound, areasSound, itemsSound, settingsSound, recordsSound, itemPlaces, writablePlaces, placesFollow, areasAscend, lengthsSum}
 use Rattle.lists.specs.Lists.{each, some, upFrom, samePlaces}
 
 -- ---- the sheet that is changed: three areas, six items, nine words of the bank, all functions, clear address 0040
@@ -303,5 +303,5 @@ table =
 
 -- every row is right
 pub sheet-limits : each right table ≡ true
-unfolding table right changed bytesOf built builtAreas builtBehind builtItems sound headerSound areasSound itemsSound settingsSound each some upFrom samePlaces itemPlaces writablePlaces placesFollow areasAscend lengthsSum areas items wordAt inRange
+unfolding table right changed bytesOf built builtAreas builtBehind builtItems sound headerSound areasSound itemsSound settingsSound recordsSound each some upFrom samePlaces itemPlaces writablePlaces placesFollow areasAscend lengthsSum areas items wordAt inRange
 sheet-limits = refl

@@ -8,9 +8,9 @@ use native.Mathlib.Omega.{arith}
 use lib.Dec.{leb}
 use lib.ListN.{length}
 use borrow.Author.Tests.{leb-true, eqb-true, not-false}
-use Rattle.sheet_rules.specs.Rows.{areas, items, areaCount, itemCount, bankWords, functions, sheetWords, rowsEnd, itemEnd}
+use Rattle.sheet_rules.specs.Rows.{areas, items, areaCount, itemCount, bankWords, functions, sheetWords, recordAreas, sheetEnd, itemEnd}
 use Rattle.lists.specs.Lists.{between, each}
-use Rattle.sheet_rules.specs.Rules.{versionRule, areaCountRule, areaOffsetRule, itemCountRule, itemOffsetRule, bankWordsRule, functionsRule, sheetWordsRule, spareWordRule, byteLengthRule, kindRule, boundsRule, lowHighRule, coverRule, pairRule, accessRule, firstLastRule, areasAscend, placesFollow, lengthsSumRule, clearAddressRule, headerSound, areasSound, itemsSound, settingsSound, sound, sheetRefusals, sheetAnswer}
+use Rattle.sheet_rules.specs.Rules.{versionRule, areaCountRule, areaOffsetRule, itemCountRule, itemOffsetRule, bankWordsRule, functionsRule, sheetWordsRule, recordAreasRule, byteLengthRule, kindRule, boundsRule, lowHighRule, coverRule, pairRule, accessRule, firstLastRule, areasAscend, placesFollow, lengthsSumRule, clearAddressRule, headerSound, areasSound, itemsSound, settingsSound, recordsSound, sound, sheetRefusals, sheetAnswer}
 use Rattle.lists.specs.Cases.{when, firstCase}
 use Rattle.refusals.specs.declared.Refusal.the-variants.{BrokenSheet}
 use Rattle.refusals.specs.declared.Answer.the-variants.{Done, Refused}
@@ -78,17 +78,18 @@ module _ (sheet : List ℕ) where
   pub follows : areasSound sheet ≡ true → placesFollow 0 (areas sheet) ≡ true
   follows e = areas-rules e .follow
 
-  pub rest-of : headerSound sheet ≡ true → areasSound sheet ≡ true → sound sheet ≡ (itemsSound sheet && settingsSound sheet)
+  pub rest-of : headerSound sheet ≡ true → areasSound sheet ≡ true → sound sheet ≡ (itemsSound sheet && settingsSound sheet && recordsSound sheet)
   unfolding sound
   rest-of header area-rows =
-      ap₂ (λ (x y : Bool). x && y && itemsSound sheet && settingsSound sheet) header area-rows
+      ap₂ (λ (x y : Bool). x && y && itemsSound sheet && settingsSound sheet && recordsSound sheet) header area-rows
 
-  -- the four parts of a sound sheet
+  -- the five parts of a sound sheet
   pub record SoundParts : Type 0 where
     pub header : headerSound sheet ≡ true
     pub area-rows : areasSound sheet ≡ true
     pub item-rows : itemsSound sheet ≡ true
     pub settings : settingsSound sheet ≡ true
+    pub records : recordsSound sheet ≡ true
 
   pub sound-parts : sound sheet ≡ true → SoundParts
   unfolding sound
@@ -96,13 +97,16 @@ module _ (sheet : List ℕ) where
       let h = headerSound sheet in
       let a = areasSound sheet in
       let i = itemsSound sheet in
-      let e3 = first-of (h && a && i) (settingsSound sheet) e in
+      let s = settingsSound sheet in
+      let e4 = first-of (h && a && i && s) (recordsSound sheet) e in
+      let e3 = first-of (h && a && i) s e4 in
       let e2 = first-of (h && a) i e3 in
       record {
         header = first-of h a e2;
         area-rows = second-of h a e2;
         item-rows = second-of (h && a) i e3;
-        settings = second-of (h && a && i) (settingsSound sheet) e;
+        settings = second-of (h && a && i) s e4;
+        records = second-of (h && a && i && s) (recordsSound sheet) e;
       }
 
   pub sound-areas : sound sheet ≡ true → AreasRules
@@ -126,14 +130,15 @@ module _ (sheet : List ℕ) where
     pub bank-low : 2 ≤ bankWords sheet
     pub bank-high : bankWords sheet ≤ 256
     pub functions-high : functions sheet ≤ 15
-    pub words : sheetWords sheet ≡ rowsEnd sheet
+    pub words : sheetWords sheet ≡ sheetEnd sheet
+    pub record-areas : recordAreas sheet ≤ 1
     pub bytes : length sheet ≡ 2 * sheetWords sheet
 
   pub header-numbers : headerSound sheet ≡ true → HeaderNumbers
   unfolding headerSound
   header-numbers e =
       let rules = ten (versionRule sheet) (areaCountRule sheet) (areaOffsetRule sheet) (itemCountRule sheet) (itemOffsetRule sheet)
-      (bankWordsRule sheet) (functionsRule sheet) (sheetWordsRule sheet) (spareWordRule sheet) (byteLengthRule sheet) e in
+      (bankWordsRule sheet) (functionsRule sheet) (sheetWordsRule sheet) (recordAreasRule sheet) (byteLengthRule sheet) e in
       record {
         areas-low = between-low 1 8 (areaCount sheet) (rules .1);
         areas-high = between-high 1 8 (areaCount sheet) (rules .1);
@@ -142,12 +147,13 @@ module _ (sheet : List ℕ) where
         bank-low = between-low 2 256 (bankWords sheet) (rules .5);
         bank-high = between-high 2 256 (bankWords sheet) (rules .5);
         functions-high = between-high 0 15 (functions sheet) (rules .6);
-        words = eqb-true (sheetWords sheet) (rowsEnd sheet) (rules .7);
+        words = eqb-true (sheetWords sheet) (sheetEnd sheet) (rules .7);
+        record-areas = between-high 0 1 (recordAreas sheet) (rules .8);
         bytes = eqb-true (length sheet) (2 * sheetWords sheet) (rules .9);
       }
 
-  -- the rows that the header counts end where the sheet ends
-  pub rows-length : headerSound sheet ≡ true → length sheet ≡ 2 * rowsEnd sheet
+  -- the rows that the header counts, and the record area's, end where the sheet ends
+  pub rows-length : headerSound sheet ≡ true → length sheet ≡ 2 * sheetEnd sheet
   rows-length e =
       let n = header-numbers e in
       n .bytes ∙ ap (λ (words : ℕ). 2 * words) (n .words)
@@ -155,23 +161,23 @@ module _ (sheet : List ℕ) where
   pub sound-numbers : sound sheet ≡ true → HeaderNumbers
   sound-numbers e = header-numbers (sound-parts e .header)
 
-  -- rule S12: at most 856 bytes
-  pub length-bound : sound sheet ≡ true → length sheet ≤ 856
+  -- rule S12: at most 862 bytes
+  pub length-bound : sound sheet ≡ true → length sheet ≤ 862
   length-bound e =
       let n = sound-numbers e in
-      omega (arith, n .words, n .bytes, n .areas-high, n .items-high)
+      omega (arith, n .words, n .bytes, n .areas-high, n .items-high, n .record-areas)
 
 -- an item row of a sound sheet is one that the header counts just where it is inside the sheet
 module _ (sheet : List ℕ) (keeps : sound sheet ≡ true) (k : ℕ) {before end : ℕ} (count : before ≡ areaCount sheet) (says : end ≡ itemEnd before k) where
   pub row-counted : end ≤ length sheet → k < itemCount sheet
   row-counted inside =
       let numbers = sound-numbers sheet keeps in
-      omega (arith, numbers .words, numbers .bytes, inside, says, count)
+      omega (arith, numbers .words, numbers .bytes, numbers .record-areas, inside, says, count)
 
   pub row-past : length sheet < end → itemCount sheet ≤ k
   row-past past =
       let numbers = sound-numbers sheet keeps in
-      omega (arith, numbers .words, numbers .bytes, past, says, count)
+      omega (arith, numbers .words, numbers .bytes, numbers .record-areas, past, says, count)
 
 -- ---- what the check of a sheet answers, by whether it is sound, and read back
 

@@ -6,6 +6,7 @@ use lib.Dec.{eqb}
 use Rattle.sheet_rules.specs.declared.Area.{Area}
 use Rattle.sheet_rules.specs.declared.Item.{Item}
 use Rattle.sheet_rules.specs.declared.Lies.{Lies}
+use Rattle.sheet_rules.specs.declared.RecordArea.{RecordArea}
 use Rattle.sheet_rules.specs.declared.Lies.the-variants.{At, Nowhere}
 use Rattle.sheet_rules.specs.Rules.{inArea, placeInArea, isPair}
 
@@ -25,6 +26,10 @@ unfoldable pub addressOf : List Area → ℕ → ℕ
 addressOf [] place = 0x10000
 addressOf (area ∷ behind) place =
     cond (placeInArea place area) (area .first + (place - area .place)) (addressOf behind place)
+
+-- rule S86: the number of the record at an address of a record area; the first has 1
+abbrev pub recordNumber : RecordArea → ℕ → ℕ
+recordNumber records address = address + 1 - records .first
 
 -- rule S45: a place is one of an item's
 abbrev pub holds : Item → ℕ → Bool

@@ -1,11 +1,14 @@
 -- The words of a sheet's header, and its area and item rows, read from the bytes. Total on any bytes: a word past the end is 0. Assumes
 -- nothing.
 use Prim.Native.Nat.{ℕ, zero, suc, _+_, _*_, _-_}
+use mathlib.Core.Bool.{Bool, cond}
 use mathlib.Core.List.{List, [], _∷_}
+use lib.Dec.{eqb}
 use Rattle.words.specs.Words.{wordAt}
 use Rattle.sheet_rules.specs.declared.Area.{Area}
 use Rattle.sheet_rules.specs.declared.Header.{Header}
 use Rattle.sheet_rules.specs.declared.Item.{Item}
+use Rattle.sheet_rules.specs.declared.RecordArea.{RecordArea}
 use Rattle.lists.specs.Lists.{rows}
 
 -- a word of the sheet, counted from 0: rule G7
@@ -60,9 +63,9 @@ ratePlace sheet = word sheet 9
 abbrev pub clearAddress : List ℕ → ℕ
 clearAddress sheet = word sheet 10
 
--- rule S11: the word without a meaning
-abbrev pub spareWord : List ℕ → ℕ
-spareWord sheet = word sheet 11
+-- rule S11: how many record areas there are
+abbrev pub recordAreas : List ℕ → ℕ
+recordAreas sheet = word sheet 11
 
 -- the header as one value
 abbrev pub headerOf : List ℕ → Header
@@ -79,7 +82,7 @@ headerOf sheet =
       address = addressPlace sheet;
       rate = ratePlace sheet;
       clear = clearAddress sheet;
-      spare = spareWord sheet;
+      «record_areas» = recordAreas sheet;
     }
 
 -- where rows are read, and where they end: rules S2, S4, S7 and S14
@@ -91,6 +94,10 @@ itemRows sheet = 12 + 4 * areaCount sheet
 
 abbrev pub rowsEnd : List ℕ → ℕ
 rowsEnd sheet = 12 + 4 * areaCount sheet + 6 * itemCount sheet
+
+-- rules S7 and S80: where the sheet ends, behind the item rows and the three words of a record area
+abbrev pub sheetEnd : List ℕ → ℕ
+sheetEnd sheet = rowsEnd sheet + 3 * recordAreas sheet
 
 -- rule S20: an area row
 unfoldable pub areaAt : List ℕ → ℕ → Area
@@ -134,3 +141,26 @@ areas sheet = rows (areaAt sheet) 0 (areaCount sheet)
 unfoldable pub items : List ℕ → List Item
 unfolding rows itemFrom
 items sheet = rows (itemAt sheet) 0 (itemCount sheet)
+
+-- ---- the record area
+
+-- rule S11: there is one
+abbrev pub hasRecords : List ℕ → Bool
+hasRecords sheet = eqb (recordAreas sheet) 1
+
+-- rule S80: its row, the three words behind the item rows
+abbrev pub recordRow : List ℕ → RecordArea
+recordRow sheet =
+    record {
+      first = word sheet (rowsEnd sheet);
+      records = word sheet (rowsEnd sheet + 1);
+      words = word sheet (rowsEnd sheet + 2);
+    }
+
+-- an area without records
+abbrev pub noRecords : RecordArea
+noRecords = record { first = 0; records = 0; words = 0 }
+
+-- rules S11 and S80: the record area of a sheet; one without records where the sheet has none
+unfoldable pub recordArea : List ℕ → RecordArea
+recordArea sheet = cond (hasRecords sheet) (recordRow sheet) noRecords

@@ -7,12 +7,13 @@ use lib.ListN.{length}
 use Rattle.range.specs.Range.{unsignedWord, unsignedPair, notAbove, inRange}
 use Rattle.sheet_rules.specs.declared.Area.{Area}
 use Rattle.sheet_rules.specs.declared.Item.{Item}
+use Rattle.sheet_rules.specs.declared.RecordArea.{RecordArea}
 use Rattle.lists.specs.Cases.{Case, when}
 use Rattle.refusals.specs.declared.Refusal.{Refusal}
 use Rattle.refusals.specs.declared.Refusal.the-variants.{BrokenSheet}
 use Rattle.refusals.specs.declared.Answer.{Answer}
 use Rattle.refusals.specs.Answers.{answerBy}
-use Rattle.sheet_rules.specs.Rows.{version, areaCount, areaOffset, itemCount, itemOffset, bankWords, functions, sheetWords, addressPlace, ratePlace, clearAddress, spareWord, areaRows, itemRows, rowsEnd, areas, items}
+use Rattle.sheet_rules.specs.Rows.{version, areaCount, areaOffset, itemCount, itemOffset, bankWords, functions, sheetWords, addressPlace, ratePlace, clearAddress, recordAreas, areaRows, itemRows, sheetEnd, areas, items, hasRecords, recordArea}
 use Rattle.lists.specs.Lists.{between, each, samePlaces, some, upFrom}
 
 -- ---- the header
@@ -47,11 +48,11 @@ functionsRule sheet = between 0 15 (functions sheet)
 
 -- rule S7
 abbrev pub sheetWordsRule : List ℕ → Bool
-sheetWordsRule sheet = eqb (sheetWords sheet) (rowsEnd sheet)
+sheetWordsRule sheet = eqb (sheetWords sheet) (sheetEnd sheet)
 
 -- rule S11
-abbrev pub spareWordRule : List ℕ → Bool
-spareWordRule sheet = eqb (spareWord sheet) 0
+abbrev pub recordAreasRule : List ℕ → Bool
+recordAreasRule sheet = between 0 1 (recordAreas sheet)
 
 -- rule S12
 abbrev pub byteLengthRule : List ℕ → Bool
@@ -60,7 +61,7 @@ byteLengthRule sheet = eqb (length sheet) (2 * sheetWords sheet)
 unfoldable pub headerSound : List ℕ → Bool
 headerSound sheet =
     versionRule sheet && areaCountRule sheet && areaOffsetRule sheet && itemCountRule sheet && itemOffsetRule sheet
-    && bankWordsRule sheet && functionsRule sheet && sheetWordsRule sheet && spareWordRule sheet && byteLengthRule sheet
+    && bankWordsRule sheet && functionsRule sheet && sheetWordsRule sheet && recordAreasRule sheet && byteLengthRule sheet
 
 -- ---- the functions allowed: rule S13
 abbrev pub bitOf03 : ℕ
@@ -220,9 +221,45 @@ settingsSound sheet =
     not (eqb (addressPlace sheet) (ratePlace sheet)) && some (addressItem (addressPlace sheet)) (items sheet)
     && some (rateItem (ratePlace sheet)) (items sheet)
 
+-- ---- the record area
+
+-- rule S81
+abbrev pub recordCountRule : RecordArea → Bool
+recordCountRule records = between 1 6600 (records .records)
+
+-- rule S82
+abbrev pub recordWordsRule : RecordArea → Bool
+recordWordsRule records = between 1 47 (records .words)
+
+-- rule S83: one past the last record's address
+abbrev pub recordsEnd : RecordArea → ℕ
+recordsEnd records = records .first + records .records
+
+abbrev pub recordsEndRule : RecordArea → Bool
+recordsEndRule records = leb (recordsEnd records) 0x10000
+
+-- rule S86: an address is a record's
+abbrev pub inRecords : ℕ → RecordArea → Bool
+inRecords address records = leb (records .first) address && ltb address (recordsEnd records)
+
+-- rule S84: an area ends in front of the first record's address, or begins behind the last one's
+abbrev pub apartRule : RecordArea → Area → Bool
+apartRule records area = ltb (area .last) (records .first) || leb (recordsEnd records) (area .first)
+
+-- rule S85
+abbrev pub recordClearRule : List ℕ → Bool
+recordClearRule sheet = not (allowed sheet bitOf05 && inRecords (clearAddress sheet) (recordArea sheet))
+
+-- rules S81 to S85, where there is a record area
+unfoldable pub recordsSound : List ℕ → Bool
+recordsSound sheet =
+    not (hasRecords sheet)
+    || (recordCountRule (recordArea sheet) && recordWordsRule (recordArea sheet) && recordsEndRule (recordArea sheet)
+    && each (apartRule (recordArea sheet)) (areas sheet) && recordClearRule sheet)
+
 -- ---- rule S70: a sheet that breaks no rule
 unfoldable pub sound : List ℕ → Bool
-sound sheet = headerSound sheet && areasSound sheet && itemsSound sheet && settingsSound sheet
+sound sheet = headerSound sheet && areasSound sheet && itemsSound sheet && settingsSound sheet && recordsSound sheet
 
 -- rule N2
 abbrev pub brokenSheet : List ℕ → Bool

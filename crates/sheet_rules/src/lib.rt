@@ -13,7 +13,7 @@ pub struct Header {
     pub address: u16,
     pub rate: u16,
     pub clear: u16,
-    pub spare: u16,
+    pub record_areas: u16,
 }
 
 // An area row: rule S20.
@@ -30,6 +30,13 @@ pub struct Item {
     pub place: u16,
     pub low: u32,
     pub high: u32,
+}
+
+// The record area: rule S80. It is one without records where a sheet has none.
+pub struct RecordArea {
+    pub first: u16,
+    pub records: u16,
+    pub words: u16,
 }
 
 // What lies at an address: rule S29.

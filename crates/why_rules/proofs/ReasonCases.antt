@@ -12,7 +12,7 @@ use Rattle.words.specs.Changes.{Change, at, changed}
 use Rattle.check_value.specs.Check.{valueOf}
 use Rattle.range.specs.Range.{inRange}
 use Rattle.sheet_rules.specs.Rows.{areas, items}
-use Rattle.sheet_rules.specs.Rules.{sound, headerSound, areasSound, itemsSound, settingsSound, itemPlaces, writablePlaces, placesFollow, areasAscend, lengthsSum}
+use Rattle.sheet_rules.specs.Rules.{sound, headerSound, areasSound, itemsSound, settingsSound, recordsSound, itemPlaces, writablePlaces, placesFollow, areasAscend, lengthsSum}
 use Rattle.lists.specs.Lists.{each, some, upFrom, samePlaces}
 use Rattle.lists.specs.Cases.{firstCase}
 use Rattle.sheet_rules.specs.Lookup.{liesIn, addressOf}
@@ -381,5 +381,5 @@ table =
 
 -- every row is right
 pub reason-cases : each right table ≡ true
-unfolding table right changed bytesOf explanation checkAnswer reasonOf firstCase firstShut allOpen addressOf stopPlace stopIn badItem someBad goodBy bankSound valueOf sound headerSound areasSound itemsSound settingsSound each some upFrom samePlaces itemPlaces writablePlaces placesFollow areasAscend lengthsSum areas items liesIn wordAt withWord inRange
+unfolding table right changed bytesOf explanation checkAnswer reasonOf firstCase firstShut allOpen addressOf stopPlace stopIn badItem someBad goodBy bankSound valueOf sound headerSound areasSound itemsSound settingsSound recordsSound each some upFrom samePlaces itemPlaces writablePlaces placesFollow areasAscend lengthsSum areas items liesIn wordAt withWord inRange
 reason-cases = refl
