@@ -104,14 +104,14 @@
 extern "C" {
 #endif
 
-#define CEDARSKEIN_VERSION_MAJOR 1
-#define CEDARSKEIN_VERSION_MINOR 3
+#define CEDARSKEIN_VERSION_MAJOR 2
+#define CEDARSKEIN_VERSION_MINOR 0
 #define CEDARSKEIN_VERSION_PATCH 0
-#define CEDARSKEIN_VERSION "1.3.0"
+#define CEDARSKEIN_VERSION "2.0.0"
 
 #define CEDARSKEIN_LONGEST_FRAME 100 /* bytes, its check included; a longer frame gets silence */
 #define CEDARSKEIN_LEAST_OUT 100     /* bytes that out must have at least, for the longest reply */
-#define CEDARSKEIN_LONGEST_SHEET 856 /* bytes of a sheet with 8 areas and 64 items */
+#define CEDARSKEIN_LONGEST_SHEET 862 /* bytes of a sheet with 8 areas, 64 items and a record area */
 #define CEDARSKEIN_LONGEST_BANK 514  /* bytes of a bank with 256 words and the mark */
 
 /* The numbers that a call hands back, and what the firmware does then. With any number but 0 the bank and out are as they
@@ -139,7 +139,9 @@ enum cedarskein_number {
      * number of words. */
     CEDARSKEIN_NOT_READ_ONLY = 6,
     /* The posted bytes are none or odd, or the mark is neither 0 nor 1. Mend the call. */
-    CEDARSKEIN_BAD_INPUT = 7
+    CEDARSKEIN_BAD_INPUT = 7,
+    /* The ring does not go with the sheet or is not sound. */
+    CEDARSKEIN_BAD_RING = 8
 };
 
 /* Why a frame gets silence or an error: the first that holds, in this order. */
@@ -198,8 +200,9 @@ uint32_t cedarskein_set_mark(const uint8_t *sheet, size_t sheet_n, uint8_t *bank
  *   the first of 2, 3, 4 and 5: the same.
  * *length and *rate are written by every call. *rate is a rate only where the number is 0: 1 for 9600, 0 for 4800.
  * The sheet and the frame are only read. */
-uint32_t cedarskein_answer(const uint8_t *sheet, size_t sheet_n, uint8_t *bank, size_t bank_n, const uint8_t *frame,
-                           size_t frame_n, uint8_t *out, size_t out_n, uint32_t *length, uint32_t *rate);
+uint32_t cedarskein_answer(const uint8_t *sheet, size_t sheet_n, uint8_t *bank, size_t bank_n, const uint8_t *ring,
+                           size_t ring_n, const uint8_t *frame, size_t frame_n, uint8_t *out, size_t out_n,
+                           uint32_t *length, uint32_t *rate);
 
 /* Tells why cedarskein_answer gives silence or an error to a frame, with the bank as it is before the frame. Gives back 0,
  * else the first of 2, 3 and 4. With 0, *reason is a number of enum cedarskein_reason, and *address is
@@ -208,8 +211,15 @@ uint32_t cedarskein_answer(const uint8_t *sheet, size_t sheet_n, uint8_t *bank, 
  *   for CEDARSKEIN_ITEM: the first address of the first bad item, also where the frame writes only its lower half;
  *   for every other reason: 0.
  * *reason and *address are written by every call, zeros with a refusal. The sheet, the bank and the frame are only read. */
-uint32_t cedarskein_why(const uint8_t *sheet, size_t sheet_n, const uint8_t *bank, size_t bank_n, const uint8_t *frame,
-                        size_t frame_n, uint32_t *reason, uint32_t *address);
+uint32_t cedarskein_why(const uint8_t *sheet, size_t sheet_n, const uint8_t *bank, size_t bank_n, const uint8_t *ring,
+                        size_t ring_n, const uint8_t *frame, size_t frame_n, uint32_t *reason, uint32_t *address);
+
+/* Takes a sheet and what may be a ring of it, as at start-up. Gives back 0, else the first of 2 and 8. Writes nothing. */
+uint32_t cedarskein_ring_check(const uint8_t *sheet, size_t sheet_n, const uint8_t *ring, size_t ring_n);
+
+/* Adds one whole record to a ring. Gives back 0, else the first of 2, 8 and 7; the ring is then as it was. */
+uint32_t cedarskein_add_record(const uint8_t *sheet, size_t sheet_n, uint8_t *ring, size_t ring_n, const uint8_t *record,
+                               size_t record_n);
 
 #ifdef __cplusplus
 }
