@@ -30,6 +30,7 @@ fn header_sound(sheet: &[u8], header: Header) -> bool
     let areas = header.areas;
     let items = header.items;
     let words = header.words;
+    let record_areas = header.record_areas;
     header.version == 1
         && between(1, 8, areas)
         && header.area_offset == 12
@@ -37,8 +38,8 @@ fn header_sound(sheet: &[u8], header: Header) -> bool
         && header.item_offset as u32 == 12 + 4 * (areas as u32)
         && between(2, 256, header.bank)
         && between(0, 15, header.functions)
-        && words as u32 == 12 + 4 * (areas as u32) + 6 * (items as u32)
-        && header.spare == 0
+        && words as u32 == 12 + 4 * (areas as u32) + 6 * (items as u32) + 3 * (record_areas as u32)
+        && between(0, 1, record_areas)
         && sheet.len() == 2 * (words as usize)
 }
 

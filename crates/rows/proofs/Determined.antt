@@ -16,6 +16,8 @@ use Rattle.rows.proofs.clear_address.Kinds as clear-address
 use Rattle.rows.proofs.clear_address.Reads as clear-address-reads
 use Rattle.rows.proofs.header.Kinds as header
 use Rattle.rows.proofs.header.Reads as header-reads
+use Rattle.rows.proofs.record_area.Kinds as record-area
+use Rattle.rows.proofs.record_area.Reads as record-area-reads
 use Rattle.rows.proofs.area_row.Kinds as area-row
 use Rattle.rows.proofs.area_row.Reads as area-row-reads
 use Rattle.rows.proofs.item_end.Kinds as item-end
@@ -60,3 +62,6 @@ item-row-determined κs a x y = read-off (λ r. (r, x .1))
 
 pub item-place-determined : Determined 1 item-place.ps item-place.r item-place-reads.Post
 item-place-determined κs a x y = read-off (λ r. (r, x .1))
+
+pub record-area-determined : Determined 1 record-area.ps record-area.r record-area-reads.Post
+record-area-determined κs a x y = read-off (λ r. (r, x .1))

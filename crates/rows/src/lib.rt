@@ -2,10 +2,11 @@
 ghost use mathlib.Core.Path.{_≡_};
 ghost use Prim.Native.Nat.{_+_, _*_, _/_, _%_, _≤_, _<_};
 ghost use lib.ListN.{length};
-ghost use Rattle.sheet_rules.specs.Rows.{word, areaCount, itemCount, bankWords, functions, addressPlace, ratePlace, clearAddress, headerOf, areaAt, itemFrom, itemStart, itemEnd, itemRow};
+ghost use Rattle.sheet_rules.specs.Rows.{word, areaCount, itemCount, bankWords, functions, addressPlace, ratePlace, clearAddress, headerOf, recordArea, areaAt, itemFrom, itemStart, itemEnd, itemRow};
 use sheet_rules::Area;
 use sheet_rules::Header;
 use sheet_rules::Item;
+use sheet_rules::RecordArea;
 
 // Area rows begin behind the header: rule S2.
 const AREA_ROWS: usize = 12;
@@ -72,7 +73,7 @@ pub fn header(sheet: &[u8]) -> Header
     ensures { λ r. ⌜ r ≡ headerOf (now (sheet .entry)) ⌝ }
 {
     Header {
-        spare: word(sheet, 11),
+        record_areas: word(sheet, 11),
         version: word(sheet, 0),
         areas: word(sheet, 1),
         area_offset: word(sheet, 2),
@@ -176,4 +177,23 @@ pub fn item_place(sheet: &[u8], areas: u16, k: u16) -> u16
     ensures { λ r. ⌜ r ≡ itemRow (now (sheet .entry)) areas k .place ⌝ }
 {
     word(sheet, item_start(areas, k) + 1)
+}
+
+// The record area: rules S11 and S80. One without records where the sheet has none.
+pub fn record_area(sheet: &[u8]) -> RecordArea
+    ensures { λ r. ⌜ r ≡ recordArea (now (sheet .entry)) ⌝ }
+{
+    if word(sheet, 11) != 1 {
+        return RecordArea {
+            first: 0,
+            records: 0,
+            words: 0,
+        };
+    }
+    let n = item_start(area_count(sheet), item_count(sheet));
+    RecordArea {
+        first: word(sheet, n),
+        records: word(sheet, n + 1),
+        words: word(sheet, n + 2),
+    }
 }

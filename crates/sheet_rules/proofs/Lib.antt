@@ -3,6 +3,7 @@ pub mod Rows
 pub mod Within
 pub mod Sound
 pub mod Addresses
+pub mod Records
 pub mod Places
 pub mod Terms
 pub mod Sides

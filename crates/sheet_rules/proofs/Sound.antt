@@ -53,10 +53,10 @@ ten a b c d e f g h i j p =
       second-of (a && b && c && d && e && f && g && h && i) j p,
     )
 
-between-low : (low high n : ℕ) → between low high n ≡ true → low ≤ n
+pub between-low : (low high n : ℕ) → between low high n ≡ true → low ≤ n
 between-low low high n e = leb-true low n (first-of (leb low n) (leb n high) e)
 
-between-high : (low high n : ℕ) → between low high n ≡ true → n ≤ high
+pub between-high : (low high n : ℕ) → between low high n ≡ true → n ≤ high
 between-high low high n e = leb-true n high (second-of (leb low n) (leb n high) e)
 
 module _ (sheet : List ℕ) where

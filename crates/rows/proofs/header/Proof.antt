@@ -53,7 +53,7 @@ returns c =
       address = c .before .before .word10 .ensures i;
       rate = c .before .word11 .ensures i;
       clear = c .word12 .ensures i;
-      spare = c .before .before .before .before .before .before .before .before .before .before .before .word .ensures i;
+      «record_areas» = c .before .before .before .before .before .before .before .before .before .before .before .word .ensures i;
     }
 
 pub header-spec : {M : Type 1} → statement M
