@@ -16,6 +16,12 @@ use Rattle.one_row.proofs.address_found.Kinds as address-found
 use Rattle.one_row.proofs.address_found.Reads as address-found-reads
 use Rattle.one_row.proofs.rate_found.Kinds as rate-found
 use Rattle.one_row.proofs.rate_found.Reads as rate-found-reads
+use Rattle.one_row.proofs.records_sound.Kinds as records-sound
+use Rattle.one_row.proofs.records_sound.Reads as records-sound-reads
+use Rattle.one_row.proofs.in_records.Kinds as in-records
+use Rattle.one_row.proofs.in_records.Reads as in-records-reads
+use Rattle.one_row.proofs.apart.Kinds as apart
+use Rattle.one_row.proofs.apart.Reads as apart-reads
 
 pub in-area-determined : Determined 0 in-area.ps in-area.r in-area-reads.Post
 in-area-determined κs a x y = read-off (λ r. (r, x .1))
@@ -40,3 +46,12 @@ address-found-determined κs a x y = read-off (λ r. (r, x .1))
 
 pub rate-found-determined : Determined 0 rate-found.ps rate-found.r rate-found-reads.Post
 rate-found-determined κs a x y = read-off (λ r. (r, x .1))
+
+pub records-sound-determined : Determined 0 records-sound.ps records-sound.r records-sound-reads.Post
+records-sound-determined κs a x y = read-off (λ r. (r, x .1))
+
+pub in-records-determined : Determined 0 in-records.ps in-records.r in-records-reads.Post
+in-records-determined κs a x y = read-off (λ r. (r, x .1))
+
+pub apart-determined : Determined 0 apart.ps apart.r apart-reads.Post
+apart-determined κs a x y = read-off (λ r. (r, x .1))

@@ -1,10 +1,12 @@
-// One area row or item row by itself, wherever it was read: the rules that need no other row, and whether an address lies in an area.
+// One row by itself, of an area, an item or the record area, wherever it was read: the rules that need no other row, and whether an address
+// lies in an area or is a record's.
 ghost use mathlib.Core.Path.{_≡_};
 ghost use mathlib.Core.Bool.{not, cond, _&&_, _||_};
 ghost use lib.Dec.{leb, eqb};
-ghost use Rattle.sheet_rules.specs.Rules.{readable, accessRule, firstLastRule, inArea, lengthOf, isPair, kindRule, boundsRule, lowHighRule, settingAt, addressItem, rateItem};
+ghost use Rattle.sheet_rules.specs.Rules.{readable, accessRule, firstLastRule, inArea, lengthOf, isPair, kindRule, boundsRule, lowHighRule, settingAt, addressItem, rateItem, recordCountRule, recordWordsRule, recordsEndRule, inRecords, apartRule};
 use sheet_rules::Area;
 use sheet_rules::Item;
+use sheet_rules::RecordArea;
 
 // The stations that a meter may have: rule S63.
 const LOWEST_STATION: u32 = 1;
@@ -152,4 +154,48 @@ pub fn rate_found(before: bool, item: Item, place: u16) -> bool
         return before;
     }
     true
+}
+
+// The most records that a record area has, and the most words of one: rules S81 and S82.
+const MOST_RECORDS: u16 = 6600;
+
+const MOST_WORDS: u16 = 47;
+
+// The rules of a record area by itself: rules S81 to S83.
+pub fn records_sound(records: RecordArea) -> bool
+    ensures { λ r. ⌜ r ≡ (recordCountRule records && recordWordsRule records && recordsEndRule records) ⌝ }
+{
+    if records.records < 1 {
+        return false;
+    }
+    if MOST_RECORDS < records.records {
+        return false;
+    }
+    if records.words < 1 {
+        return false;
+    }
+    if MOST_WORDS < records.words {
+        return false;
+    }
+    records.first as u32 + records.records as u32 <= 0x10000
+}
+
+// Whether an address is a record's: rule S86.
+pub fn in_records(address: u32, records: RecordArea) -> bool
+    ensures { λ r. ⌜ r ≡ inRecords address records ⌝ }
+{
+    if address < records.first as u32 {
+        return false;
+    }
+    address < records.first as u32 + records.records as u32
+}
+
+// Rule S84, for one area.
+pub fn apart(records: RecordArea, area: Area) -> bool
+    ensures { λ r. ⌜ r ≡ apartRule records area ⌝ }
+{
+    if area.last < records.first {
+        return true;
+    }
+    records.first as u32 + records.records as u32 <= area.first as u32
 }

@@ -118,3 +118,22 @@ module _ (sheet : List ℕ) where
           let found = lies-found (areas sheet) address place access e in
           let rules = records-rules keeps (in-records-has sheet address inside) in
           absurd (shared (found .area) address (each-among (apartRule (recordArea sheet)) (found .among) (rules .apart)) inside (found .low) (found .high))
+
+-- ---- its rules, one by one
+
+module _ (sheet : List ℕ) where
+  pub records-unasked : (recordAreas sheet ≡ 1 → ⊥) → recordsSound sheet ≡ true
+  unfolding recordsSound
+  records-unasked other = simp (ne-eqb (recordAreas sheet) 1 other)
+
+  -- where there is a record area, read as one value: its numbers, its addresses apart from the areas', and the clear address
+  pub records-asked : (records : RecordArea) → records ≡ recordArea sheet → recordAreas sheet ≡ 1
+      → recordsSound sheet
+      ≡ (recordCountRule records && recordWordsRule records && recordsEndRule records && each (apartRule records) (areas sheet)
+      && not (allowed sheet bitOf05 && inRecords (clearAddress sheet) records))
+  unfolding recordsSound
+  records-asked records read one =
+      ap (λ (has : Bool). not has || (recordCountRule (recordArea sheet) && recordWordsRule (recordArea sheet) && recordsEndRule (recordArea sheet)
+      && each (apartRule (recordArea sheet)) (areas sheet) && recordClearRule sheet)) (eq-eqb (recordAreas sheet) 1 one)
+      ∙ sym (ap (λ (r : RecordArea). recordCountRule r && recordWordsRule r && recordsEndRule r && each (apartRule r) (areas sheet)
+      && not (allowed sheet bitOf05 && inRecords (clearAddress sheet) r)) read)

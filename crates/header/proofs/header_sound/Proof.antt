@@ -36,10 +36,10 @@ module _ (h : Header) where
   rules-7 = rules-6 && between 0 15 (h .functions)
 
   abbrev rules-8 : Bool
-  rules-8 = rules-7 && eqb (h .words) (12 + 4 * h .areas + 6 * h .items)
+  rules-8 = rules-7 && eqb (h .words) (12 + 4 * h .areas + 6 * h .items + 3 * h .«record_areas»)
 
   abbrev rules-9 : Bool
-  rules-9 = rules-8 && eqb (h .spare) 0
+  rules-9 = rules-8 && between 0 1 (h .«record_areas»)
 
 between-requires : tie.Need-between-requires
 between-requires c κs = search needs
@@ -85,6 +85,18 @@ mul-if8-2 c = search needs
 
 add-if8-2 : tie.Need-add-if8-2
 add-if8-2 c = search needs
+
+cast-if8-4 : tie.Need-cast-if8-4
+cast-if8-4 c = search needs
+
+mul-if8-3 : tie.Need-mul-if8-3
+mul-if8-3 c = search needs
+
+add-if8-3 : tie.Need-add-if8-3
+add-if8-3 c = search needs
+
+between-requires-5 : tie.Need-between-requires-5
+between-requires-5 c κs = search needs
 
 cast-result : tie.Need-cast-result
 cast-result c = search needs
@@ -135,13 +147,13 @@ so-far-7 : (c : tie.Joined7) → c .if7 .if8 ≡ rules-8 (c .before .before .bef
 so-far-7 c =
     let h = c .before .before .before .before .before .before .before .before .before .args .header in
     ⊎-elim (λ w. tested (so-far-6 (c .before)) (w .0 .taken) (w .1))
-    (λ w. carried (eqb (h .words) (12 + 4 * h .areas + 6 * h .items)) (so-far-6 (c .before)) (w .0 .left) (w .1)) (c .if7 .came)
+    (λ w. carried (eqb (h .words) (12 + 4 * h .areas + 6 * h .items + 3 * h .«record_areas»)) (so-far-6 (c .before)) (w .0 .left) (w .1)) (c .if7 .came)
 
 so-far-8 : (c : tie.Joined8) → c .if8 .if9 ≡ rules-9 (c .before .before .before .before .before .before .before .before .before .before .args .header)
 so-far-8 c =
     let h = c .before .before .before .before .before .before .before .before .before .before .args .header in
-    ⊎-elim (λ w. tested (so-far-7 (c .before)) (w .0 .taken) (w .2))
-    (λ w. carried (eqb (h .spare) 0) (so-far-7 (c .before)) (w .0 .left) (w .1)) (c .if8 .came)
+    ⊎-elim (λ w. tested (so-far-7 (c .before)) (w .0 .taken) (w .2 ∙ w .1 .ensures))
+    (λ w. carried (between 0 1 (h .«record_areas»)) (so-far-7 (c .before)) (w .0 .left) (w .1)) (c .if8 .came)
 
 returns : tie.Need-returns
 unfolding headerSound
@@ -176,6 +188,10 @@ header-sound-spec =
     cast-if8-3
     mul-if8-2
     add-if8-2
+    cast-if8-4
+    mul-if8-3
+    add-if8-3
+    between-requires-5
     cast-result
     mul-result
     returns

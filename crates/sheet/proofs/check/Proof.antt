@@ -1,6 +1,6 @@
 -- `sheet::check` meets its contract: each return by the tests that led there. Assumes nothing.
 use mathlib.Core.Path.{_∙_}
-use mathlib.Core.Bool.{false}
+use mathlib.Core.Bool.{true, false}
 use denote.Ref.{now}
 use Rattle.sheet_rules.specs.Rules.{sound}
 use Rattle.lists.proofs.Tests.{refused, passed}
@@ -45,14 +45,27 @@ items-and-settings-sound-requires c κs = (
 returns-3 : tie.Need-returns-3
 returns-3 c =
     let s = now (c .before .before .before .before .before .before .before .before .before .args .sheet) in
-    sheet-answered s (rest-of s (sound-told s (c .before .before .before .before .before .before .before .check .ensures) (c .before .before .before .before .before .checked .given .1) .0)
-    (passed (c .before .before .before .areas-sound .ensures) (c .before .before .if1 .left)) ∙ refused (c .before .items-and-settings-sound .ensures) (c .if2 .taken))
+    sheet-answered s {right = false}
+    (rest-of s (sound-told s (c .before .before .before .before .before .before .before .check .ensures) (c .before .before .before .before .before .checked .given .1) .0) (passed (c .before .before .before .areas-sound .ensures) (c .before .before .if1 .left))
+    ∙ simp (refused (c .before .items-and-settings-sound .ensures) (c .if2 .taken)))
+
+records-sound-requires : tie.Need-records-sound-requires
+records-sound-requires c κs =
+    sound-told (now (c .before .before .before .before .before .before .before .before .before .args .sheet)) (c .before .before .before .before .before .before .before .check .ensures) (c .before .before .before .before .before .checked .given .1) .1
 
 returns-4 : tie.Need-returns-4
 returns-4 c =
-    let s = now (c .before .before .before .before .before .before .before .before .before .args .sheet) in
-    sheet-answered s (rest-of s (sound-told s (c .before .before .before .before .before .before .before .check .ensures) (c .before .before .before .before .before .checked .given .1) .0)
-    (passed (c .before .before .before .areas-sound .ensures) (c .before .before .if1 .left)) ∙ passed (c .before .items-and-settings-sound .ensures) (c .if2 .left))
+    let s = now (c .before .before .before .before .before .before .before .before .before .before .before .args .sheet) in
+    sheet-answered s {right = false}
+    (rest-of s (sound-told s (c .before .before .before .before .before .before .before .before .before .check .ensures) (c .before .before .before .before .before .before .before .checked .given .1) .0) (passed (c .before .before .before .before .before .areas-sound .ensures) (c .before .before .before .before .if1 .left))
+    ∙ simp (passed (c .before .before .before .items-and-settings-sound .ensures) (c .before .before .if2 .left), refused (c .before .records-sound .ensures) (c .if3 .taken)))
+
+returns-5 : tie.Need-returns-5
+returns-5 c =
+    let s = now (c .before .before .before .before .before .before .before .before .before .before .before .args .sheet) in
+    sheet-answered s {right = true}
+    (rest-of s (sound-told s (c .before .before .before .before .before .before .before .before .before .check .ensures) (c .before .before .before .before .before .before .before .checked .given .1) .0) (passed (c .before .before .before .before .before .areas-sound .ensures) (c .before .before .before .before .if1 .left))
+    ∙ simp (passed (c .before .before .before .items-and-settings-sound .ensures) (c .before .before .if2 .left), passed (c .before .records-sound .ensures) (c .if3 .left)))
 
 pub check-spec : {M : Type 1} → statement M
 check-spec =
@@ -66,4 +79,6 @@ check-spec =
     returns-2
     items-and-settings-sound-requires
     returns-3
-    returns-4)
+    records-sound-requires
+    returns-4
+    returns-5)
