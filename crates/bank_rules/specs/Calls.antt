@@ -13,13 +13,18 @@ use Rattle.sheet_rules.specs.Rules.{brokenSheet}
 use Rattle.bank_rules.specs.Stores.{Store, stored}
 use Rattle.bank_rules.specs.Bank.{fits, bankSound, freshStores, postedRun, allReadOnly, postStores, emptyOrOdd, markStores}
 
--- what a call is lent
+-- what a call is lent: sheet, bank, and the ring of records beside the bank
 pub record Lent : Type 0 where
   pub sheet : List ℕ
   pub bank : List ℕ
+  pub ring : List ℕ
+
+-- to a call with a frame, and to a call on a bank, which is lent no ring
+abbrev pub lentWith : List ℕ → List ℕ → List ℕ → Lent
+lentWith sheet bank ring = record { sheet = sheet; bank = bank; ring = ring }
 
 abbrev pub lent : List ℕ → List ℕ → Lent
-lent sheet bank = record { sheet = sheet; bank = bank }
+lent sheet bank = lentWith sheet bank []
 
 -- ---- what is refused; rule N2 is `brokenSheet`
 

@@ -18,7 +18,7 @@ use Rattle.bank_rules.specs.Stores.{stored}
 use Rattle.bank_rules.specs.Bank.{markPlace}
 use Rattle.bank_rules.specs.Calls.{Lent}
 use Rattle.meter_rules.specs.declared.Judged.{Judged}
-use Rattle.meter_rules.specs.declared.Judged.the-variants.{FailsCheck, OtherStation, FunctionNotAllowed, WrongLength, WrongCount, WrongAddress, WrongValue, BadItem, GoodRead, GoodClear, GoodWrite}
+use Rattle.meter_rules.specs.declared.Judged.the-variants.{FailsCheck, OtherStation, FunctionNotAllowed, WrongLength, WrongCount, WrongAddress, WrongValue, BadItem, GoodRead, GoodRecord, GoodClear, GoodWrite}
 use Rattle.meter_rules.specs.Write.{runStore, runStores}
 use Rattle.meter_rules.specs.Steps.{judgedFrame}
 use Rattle.meter_rules.specs.Reply.{replyTo, storesOf}
@@ -71,20 +71,22 @@ module _ (frame : List ℕ) (small : Bytes frame) where
       bytes-one (station frame) (reads ∷ (2 * many) ∷ words) (small 0)
       (bytes-one reads ((2 * many) ∷ words) (omega arith) (bytes-one (2 * many) words (omega (arith, few)) (bytes-words bank held (upFrom first many))))
 
-  reply-bytes : (judged : Judged) (bank : List ℕ) → Bytes bank → readFits judged ≡ true → Bytes (replyTo judged bank frame)
+  reply-bytes : (judged : Judged) (bank ring : List ℕ) → Bytes bank → Bytes ring → readFits judged ≡ true → Bytes (replyTo judged bank ring frame)
   unfolding replyTo
-  reply-bytes FailsCheck bank held fits = bytes-none
-  reply-bytes OtherStation bank held fits = bytes-none
-  reply-bytes FunctionNotAllowed bank held fits = closed-bytes (errorReply frame 1) (error-bytes 1 (omega arith))
-  reply-bytes WrongLength bank held fits = bytes-none
-  reply-bytes WrongCount bank held fits = closed-bytes (errorReply frame 3) (error-bytes 3 (omega arith))
-  reply-bytes WrongAddress bank held fits = closed-bytes (errorReply frame 2) (error-bytes 2 (omega arith))
-  reply-bytes WrongValue bank held fits = closed-bytes (errorReply frame 3) (error-bytes 3 (omega arith))
-  reply-bytes (BadItem first stop) bank held fits = closed-bytes (errorReply frame 3) (error-bytes 3 (omega arith))
-  reply-bytes (GoodRead first many) bank held fits =
+  reply-bytes FailsCheck bank ring held kept fits = bytes-none
+  reply-bytes OtherStation bank ring held kept fits = bytes-none
+  reply-bytes FunctionNotAllowed bank ring held kept fits = closed-bytes (errorReply frame 1) (error-bytes 1 (omega arith))
+  reply-bytes WrongLength bank ring held kept fits = bytes-none
+  reply-bytes WrongCount bank ring held kept fits = closed-bytes (errorReply frame 3) (error-bytes 3 (omega arith))
+  reply-bytes WrongAddress bank ring held kept fits = closed-bytes (errorReply frame 2) (error-bytes 2 (omega arith))
+  reply-bytes WrongValue bank ring held kept fits = closed-bytes (errorReply frame 3) (error-bytes 3 (omega arith))
+  reply-bytes (BadItem first stop) bank ring held kept fits = closed-bytes (errorReply frame 3) (error-bytes 3 (omega arith))
+  reply-bytes (GoodRead first many) bank ring held kept fits =
       closed-bytes (readReply bank frame first many) (read-bytes bank held first many (leb-true many mostRead fits))
-  reply-bytes GoodClear bank held fits = closed-bytes (echo frame) (echo-bytes (function frame) (small 1))
-  reply-bytes (GoodWrite first many) bank held fits = closed-bytes (writeReply frame) write-bytes
+  reply-bytes (GoodRecord first many) bank ring held kept fits =
+      closed-bytes (readReply ring frame first many) (read-bytes ring kept first many (leb-true many mostRead fits))
+  reply-bytes GoodClear bank ring held kept fits = closed-bytes (echo frame) (echo-bytes (function frame) (small 1))
+  reply-bytes (GoodWrite first many) bank ring held kept fits = closed-bytes (writeReply frame) write-bytes
 
   -- ---- the bank
 
@@ -106,21 +108,22 @@ module _ (frame : List ℕ) (small : Bytes frame) where
   stored-bytes WrongValue sheet bank held = held
   stored-bytes (BadItem first stop) sheet bank held = run-bytes first (upFrom 0 (stop - first)) bank held
   stored-bytes (GoodRead first many) sheet bank held = held
+  stored-bytes (GoodRecord first many) sheet bank held = held
   stored-bytes GoodClear sheet bank held = bytes-stored bank (2 * markPlace sheet) 0 (omega arith) held
   stored-bytes (GoodWrite first many) sheet bank held = run-bytes first (upFrom 0 (first + many - first)) bank held
 
 -- ---- the call
 
-pub answer-bytes : (given : Lent) (frame buffer : List ℕ) → Bytes (given .bank) → Bytes frame → Bytes buffer
+pub answer-bytes : (given : Lent) (frame buffer : List ℕ) → Bytes (given .bank) → Bytes (given .ring) → Bytes frame → Bytes buffer
     → Bytes (answerOutcome given frame buffer .bank) × Bytes (answerOutcome given frame buffer .buffer)
 unfolding actedOn
-answer-bytes given frame buffer held small room =
+answer-bytes given frame buffer held kept small room =
     outcome-cases given frame buffer (λ (o : Outcome). Bytes (o .bank) × Bytes (o .buffer)) (λ refusal. (held, room))
-    (λ found.
+    (λ found ringed.
     let judged : Judged = judgedFrame given frame in
-    let reply : List ℕ = replyTo judged (given .bank) frame in (
+    let reply : List ℕ = replyTo judged (given .bank) (given .ring) frame in (
       stored-bytes frame small judged (given .sheet) (given .bank) held,
       bytes-both reply (drop (length reply) buffer)
-          (reply-bytes frame small judged (given .bank) held (judged-fits given frame))
+          (reply-bytes frame small judged (given .bank) (given .ring) held kept (judged-fits given frame (found .right)))
           (bytes-behind (length reply) buffer room),
     ))

@@ -12,7 +12,7 @@ use Rattle.bank_rules.specs.Calls.{Lent}
 use Rattle.lists.specs.Cases.{Case, firstCase}
 use Rattle.sheet_rules.specs.declared.Purpose.the-variants.{Read, Write}
 use Rattle.frame.specs.Frame.{reads, clears, writesOne, writesMany, function, start, second, isWrite, count, run, mostRead}
-use Rattle.meter_rules.specs.Steps.{codeAllowed, wrongAddress, wrongValue, badWrite}
+use Rattle.meter_rules.specs.Steps.{codeAllowed, startsInRecords, beyondStored, wrongRead, wrongAddress, wrongValue, badWrite}
 use Rattle.sheet_rules.specs.Runs.{allOpen}
 use Rattle.meter_rules.specs.Write.{someBad}
 
@@ -72,14 +72,14 @@ module _ (frame : List ℕ) {read clear one many : Bool} (asks : Asks frame read
   pub many-is : count frame ≡ cond one 1 (second frame)
   many-is = ap (λ (b : Bool). cond b 1 (second frame)) (asks .isOne)
 
-  pub address-is : (sheet : List ℕ) → wrongAddress sheet frame
-      ≡ (read && (ltb mostRead (second frame) || not (allOpen Read sheet (run frame))) || (one || many) && not (allOpen Write sheet (run frame))
-      || clear && not (eqb (start frame) (clearAddress sheet)))
-  address-is sheet =
-      ap₂ (λ (r w : Bool). r && (ltb mostRead (second frame) || not (allOpen Read sheet (run frame))) || w && not (allOpen Write sheet (run frame))
-      || eqb (function frame) clears && not (eqb (start frame) (clearAddress sheet))) (asks .isRead) write-is
-      ∙ ap (λ (c : Bool). read && (ltb mostRead (second frame) || not (allOpen Read sheet (run frame)))
-      || (one || many) && not (allOpen Write sheet (run frame)) || c && not (eqb (start frame) (clearAddress sheet))) (asks .isClear)
+  pub address-is : (given : Lent) → wrongAddress given frame
+      ≡ (read && wrongRead given frame || (one || many) && not (allOpen Write (given .sheet) (run frame))
+      || clear && not (eqb (start frame) (clearAddress (given .sheet))))
+  address-is given =
+      ap₂ (λ (r w : Bool). r && wrongRead given frame || w && not (allOpen Write (given .sheet) (run frame))
+      || eqb (function frame) clears && not (eqb (start frame) (clearAddress (given .sheet)))) (asks .isRead) write-is
+      ∙ ap (λ (c : Bool). read && wrongRead given frame
+      || (one || many) && not (allOpen Write (given .sheet) (run frame)) || c && not (eqb (start frame) (clearAddress (given .sheet)))) (asks .isClear)
 
   pub value-is : wrongValue frame ≡ (clear && not (eqb (second frame) 0))
   value-is = ap (λ (c : Bool). c && not (eqb (second frame) 0)) (asks .isClear)
@@ -111,15 +111,22 @@ code-none sheet code read clear one many =
 -- ---- by function
 
 module _ (frame : List ℕ) where
-  pub read-address : (sheet : List ℕ) → function frame ≡ reads
-      → wrongAddress sheet frame ≡ (ltb mostRead (second frame) || not (allOpen Read sheet (run frame)))
-  read-address sheet e =
-      address-is frame (asks-for frame reads e) sheet
-      ∙ or-false ((ltb mostRead (second frame) || not (allOpen Read sheet (run frame))) || false)
-      ∙ or-false (ltb mostRead (second frame) || not (allOpen Read sheet (run frame)))
+  pub read-address : (given : Lent) → function frame ≡ reads → wrongAddress given frame ≡ wrongRead given frame
+  read-address given e =
+      address-is frame (asks-for frame reads e) given ∙ or-false (wrongRead given frame || false) ∙ or-false (wrongRead given frame)
 
-  pub clear-address : (sheet : List ℕ) → function frame ≡ clears → wrongAddress sheet frame ≡ not (eqb (start frame) (clearAddress sheet))
-  clear-address sheet e = address-is frame (asks-for frame clears e) sheet
+  -- a read of registers, and of a record
+  pub registers-wrong : (given : Lent) → startsInRecords (given .sheet) frame ≡ false
+      → wrongRead given frame ≡ (ltb mostRead (second frame) || not (allOpen Read (given .sheet) (run frame)))
+  registers-wrong given outside =
+      ap (λ (b : Bool). cond b (beyondStored given frame) (ltb mostRead (second frame) || not (allOpen Read (given .sheet) (run frame)))) outside
+
+  pub record-wrong : (given : Lent) → startsInRecords (given .sheet) frame ≡ true → wrongRead given frame ≡ beyondStored given frame
+  record-wrong given inside =
+      ap (λ (b : Bool). cond b (beyondStored given frame) (ltb mostRead (second frame) || not (allOpen Read (given .sheet) (run frame)))) inside
+
+  pub clear-address : (given : Lent) → function frame ≡ clears → wrongAddress given frame ≡ not (eqb (start frame) (clearAddress (given .sheet)))
+  clear-address given e = address-is frame (asks-for frame clears e) given
 
   pub clear-value : function frame ≡ clears → wrongValue frame ≡ not (eqb (second frame) 0)
   clear-value e = value-is frame (asks-for frame clears e)
@@ -138,11 +145,11 @@ module _ (frame : List ℕ) where
           record { isRead = asks .isRead; isClear = asks .isClear; isOne = refl; isMany = refl }
 
   module _ (write : isWrite frame ≡ true) where
-    pub write-address : (sheet : List ℕ) → wrongAddress sheet frame ≡ not (allOpen Write sheet (run frame))
-    write-address sheet =
-        address-is frame (asks-write write) sheet
-        ∙ ap (λ (w : Bool). w && not (allOpen Write sheet (run frame)) || false) write
-        ∙ or-false (not (allOpen Write sheet (run frame)))
+    pub write-address : (given : Lent) → wrongAddress given frame ≡ not (allOpen Write (given .sheet) (run frame))
+    write-address given =
+        address-is frame (asks-write write) given
+        ∙ ap (λ (w : Bool). w && not (allOpen Write (given .sheet) (run frame)) || false) write
+        ∙ or-false (not (allOpen Write (given .sheet) (run frame)))
 
     pub write-value : wrongValue frame ≡ false
     write-value = value-is frame (asks-write write)

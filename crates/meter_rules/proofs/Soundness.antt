@@ -6,7 +6,7 @@ use Prim.Native.Nat.{ℕ, _+_, _≤_}
 use native.Mathlib.Omega.{arith}
 use lib.Dec.{ltb, eqb}
 use borrow.Author.Tests.{eq-eqb, eqb-false, ltb-false}
-use Rattle.sheet_rules.specs.Rows.{items, clearAddress}
+use Rattle.sheet_rules.specs.Rows.{items, clearAddress, recordArea}
 use Rattle.lists.proofs.Tests.{first-of}
 use Rattle.bank_rules.specs.Stores.{stored}
 use Rattle.bank_rules.specs.Bank.{bankSound}
@@ -14,10 +14,10 @@ use Rattle.bank_rules.specs.Calls.{Lent}
 use Rattle.bank_rules.proofs.Changes.{Passed}
 use Rattle.lists.specs.Cases.{when, firstCase}
 use Rattle.meter_rules.specs.declared.Judged.{Judged}
-use Rattle.meter_rules.specs.declared.Judged.the-variants.{FailsCheck, OtherStation, FunctionNotAllowed, WrongLength, WrongCount, WrongAddress, WrongValue, BadItem, GoodRead, GoodClear, GoodWrite}
+use Rattle.meter_rules.specs.declared.Judged.the-variants.{FailsCheck, OtherStation, FunctionNotAllowed, WrongLength, WrongCount, WrongAddress, WrongValue, BadItem, GoodRead, GoodRecord, GoodClear, GoodWrite}
 use Rattle.sheet_rules.specs.declared.Purpose.the-variants.{Read, Write}
 use Rattle.frame.specs.Frame.{reads, clears, writesOne, writesMany, function, start, second, isWrite, count, run, mostRead}
-use Rattle.meter_rules.specs.Steps.{functionAllowed, failsCheck, otherStation, wrongLength, wrongCount, wrongAddress, wrongValue, badWrite, goodFrame, judgedFrame}
+use Rattle.meter_rules.specs.Steps.{startsInRecords, askedStart, wrongRead, goodRead, functionAllowed, failsCheck, otherStation, wrongLength, wrongCount, wrongAddress, wrongValue, badWrite, goodFrame, judgedFrame}
 use Rattle.sheet_rules.specs.Runs.{allOpen}
 use Rattle.meter_rules.specs.Write.{firstPlace, someBad, stopIn, stopPlace, runStores}
 use Rattle.meter_rules.specs.Reply.{storesOf}
@@ -40,15 +40,15 @@ open-of false w true c e f = refl
 open-of false true false c e f = absurd (true≢false e)
 open-of false false false c e f = f
 
-module _ (sheet frame : List ℕ) where
-  pub open-write : isWrite frame ≡ true → wrongAddress sheet frame ≡ false → OpenWrite sheet frame
-  open-write write right =
-      record {
-        write = write;
-        all = open-of (eqb (function frame) reads && (ltb mostRead (second frame) || not (allOpen Read sheet (run frame)))) (isWrite frame)
-            (allOpen Write sheet (run frame)) (eqb (function frame) clears && not (eqb (start frame) (clearAddress sheet))) right write;
-      }
+pub open-write : (given : Lent) (frame : List ℕ) → isWrite frame ≡ true → wrongAddress given frame ≡ false → OpenWrite (given .sheet) frame
+open-write given frame write right =
+    record {
+      write = write;
+      all = open-of (eqb (function frame) reads && wrongRead given frame) (isWrite frame) (allOpen Write (given .sheet) (run frame))
+          (eqb (function frame) clears && not (eqb (start frame) (clearAddress (given .sheet)))) right write;
+    }
 
+module _ (sheet frame : List ℕ) where
   -- a function that is allowed, and neither reads nor clears, writes
   pub writes : functionAllowed sheet frame ≡ true → eqb (function frame) reads ≡ false → eqb (function frame) clears ≡ false → isWrite frame ≡ true
   writes permitted read clear = go (eqb (function frame) writesOne) refl
@@ -69,22 +69,27 @@ module _ (given : Lent) (frame : List ℕ) where
       → P (judgedFrame given frame)
   unfolding judgedFrame firstCase
   judged-cases P nothing stops clears-mark stores =
-      go (failsCheck frame) (otherStation given frame) (functionAllowed (given .sheet) frame) (wrongLength frame) (wrongCount frame)
-      (wrongAddress (given .sheet) frame) (wrongValue frame) (badWrite given frame) refl refl refl
+      go (failsCheck frame) (otherStation given frame) (functionAllowed (given .sheet) frame) (wrongLength frame) (wrongCount (given .sheet) frame)
+      (wrongAddress given frame) (wrongValue frame) (badWrite given frame) refl refl refl
     where
+      reading : (inside : Bool) → P (cond inside (GoodRecord (askedStart given frame) (recordArea (given .sheet) .words))
+          (GoodRead (firstPlace (given .sheet) frame) (count frame)))
+      reading true = nothing (GoodRecord (askedStart given frame) (recordArea (given .sheet) .words)) refl
+      reading false = nothing (GoodRead (firstPlace (given .sheet) frame) (count frame)) refl
+
       good : (read clear : Bool) → eqb (function frame) reads ≡ read → eqb (function frame) clears ≡ clear
-          → functionAllowed (given .sheet) frame ≡ true → wrongAddress (given .sheet) frame ≡ false → badWrite given frame ≡ false
-          → P (cond read (GoodRead (firstPlace (given .sheet) frame) (count frame)) (cond clear GoodClear (GoodWrite (firstPlace (given .sheet) frame) (count frame))))
-      good true clear r c p f h = nothing (GoodRead (firstPlace (given .sheet) frame) (count frame)) refl
+          → functionAllowed (given .sheet) frame ≡ true → wrongAddress given frame ≡ false → badWrite given frame ≡ false
+          → P (cond read (goodRead given frame) (cond clear GoodClear (GoodWrite (firstPlace (given .sheet) frame) (count frame))))
+      good true clear r c p f h = reading (startsInRecords (given .sheet) frame)
       good false true r c p f h = clears-mark
       good false false r c p f h =
           let write = writes (given .sheet) frame p r c in
-          stores (open-write (given .sheet) frame write f) (ap (λ (b : Bool). b && someBad given frame) (sym write) ∙ h)
+          stores (open-write given frame write f) (ap (λ (b : Bool). b && someBad given frame) (sym write) ∙ h)
 
-      go : (a₁ a₂ a₃ a₄ a₅ a₆ a₇ a₈ : Bool) → functionAllowed (given .sheet) frame ≡ a₃ → wrongAddress (given .sheet) frame ≡ a₆ → badWrite given frame ≡ a₈
+      go : (a₁ a₂ a₃ a₄ a₅ a₆ a₇ a₈ : Bool) → functionAllowed (given .sheet) frame ≡ a₃ → wrongAddress given frame ≡ a₆ → badWrite given frame ≡ a₈
           → P (firstCase (when a₁ FailsCheck ∷ when a₂ OtherStation ∷ when (not a₃) FunctionNotAllowed ∷ when a₄ WrongLength ∷ when a₅ WrongCount
           ∷ when a₆ WrongAddress ∷ when a₇ WrongValue ∷ when a₈ (BadItem (firstPlace (given .sheet) frame) (stopPlace given frame)) ∷ [])
-          (goodFrame (given .sheet) frame))
+          (goodFrame given frame))
       go true a₂ a₃ a₄ a₅ a₆ a₇ a₈ p f h = nothing FailsCheck refl
       go false true a₃ a₄ a₅ a₆ a₇ a₈ p f h = nothing OtherStation refl
       go false false false a₄ a₅ a₆ a₇ a₈ p f h = nothing FunctionNotAllowed refl
@@ -93,7 +98,7 @@ module _ (given : Lent) (frame : List ℕ) where
       go false false true false false true a₇ a₈ p f h = nothing WrongAddress refl
       go false false true false false false true a₈ p f h = nothing WrongValue refl
       go false false true false false false false true p f h =
-          stops (open-write (given .sheet) frame (first-of (isWrite frame) (someBad given frame) h) f)
+          stops (open-write given frame (first-of (isWrite frame) (someBad given frame) h) f)
       go false false true false false false false false p f h =
           good (eqb (function frame) reads) (eqb (function frame) clears) refl refl p f h
 
@@ -125,4 +130,4 @@ pub stays-sound : (given : Lent) (frame buffer : List ℕ) → bankSound (given 
     → bankSound (given .sheet) (answerOutcome given frame buffer .bank) ≡ true
 stays-sound given frame buffer whole =
     outcome-cases given frame buffer (λ o. bankSound (given .sheet) (o .bank) ≡ true) (λ refusal. whole)
-    (λ found. acted-sound given frame buffer found)
+    (λ found ringed. acted-sound given frame buffer found)

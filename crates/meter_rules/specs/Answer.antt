@@ -13,11 +13,12 @@ use Rattle.refusals.specs.declared.Answer.{Answer}
 use Rattle.refusals.specs.declared.Answer.the-variants as answer
 use Rattle.refusals.specs.declared.Answer.the-variants.{Done}
 use Rattle.refusals.specs.Answers.{refusalNumber, answerBy}
-use Rattle.bank_rules.specs.Calls.{Lent, checkRefusals, effectOf}
+use Rattle.bank_rules.specs.Calls.{Lent, effectOf}
 use Rattle.meter_rules.specs.declared.Answered.{Answered}
 use Rattle.meter_rules.specs.declared.Answered.the-variants.{Reply, Error, Silence, Refused}
 use Rattle.meter_rules.specs.declared.Judged.{Judged}
 use Rattle.meter_rules.specs.Steps.{judgedFrame}
+use Rattle.meter_rules.specs.Judgement.{lentRefusals}
 use Rattle.meter_rules.specs.Reply.{errorCode, replyTo, storesOf}
 use Rattle.frame.specs.Reply.{errorLength, laid}
 
@@ -64,13 +65,13 @@ answeredBy code length rate = cond (eqb code 0) (cond (eqb length 0) Silence (Re
 -- what becomes of a judged frame; rule R7: the rate is the bank's before the frame
 unfoldable pub actedOn : Judged → Lent → List ℕ → List ℕ → Outcome
 actedOn judged given frame buffer =
-    outcome (answeredBy (errorCode judged) (length (replyTo judged (given .bank) frame)) (rateOf (given .sheet) (given .bank)))
+    outcome (answeredBy (errorCode judged) (length (replyTo judged (given .bank) (given .ring) frame)) (rateOf (given .sheet) (given .bank)))
     (stored (given .bank) (storesOf judged (given .sheet) frame))
-    (laid (replyTo judged (given .bank) frame) buffer)
+    (laid (replyTo judged (given .bank) (given .ring) frame) buffer)
 
 -- rules N50 and N51: whether the call is refused
 abbrev pub frameRefusals : Lent → List ℕ → List (Case Refusal)
-frameRefusals given buffer = checkRefusals given ++ (when (smallBuffer buffer) SmallBuffer ∷ [])
+frameRefusals given buffer = lentRefusals given ++ (when (smallBuffer buffer) SmallBuffer ∷ [])
 
 unfoldable pub frameCheck : Lent → List ℕ → Answer
 frameCheck given buffer = answerBy (frameRefusals given buffer)

@@ -5,16 +5,18 @@ use mathlib.Core.List.{List, [], _∷_}
 use lib.Dec.{ltb, eqb}
 use lib.ListN.{length}
 use Rattle.check_value.specs.Frame.{passes}
-use Rattle.sheet_rules.specs.Rows.{clearAddress}
+use Rattle.sheet_rules.specs.Rows.{clearAddress, recordArea}
 use Rattle.bank_rules.specs.Bank.{stationOf}
 use Rattle.bank_rules.specs.Calls.{Lent}
 use Rattle.lists.specs.Cases.{Case, when, firstCase}
 use Rattle.meter_rules.specs.declared.Judged.{Judged}
-use Rattle.meter_rules.specs.declared.Judged.the-variants.{FailsCheck, OtherStation, FunctionNotAllowed, WrongLength, WrongCount, WrongAddress, WrongValue, BadItem, GoodRead, GoodClear, GoodWrite}
+use Rattle.meter_rules.specs.declared.Judged.the-variants.{FailsCheck, OtherStation, FunctionNotAllowed, WrongLength, WrongCount, WrongAddress, WrongValue, BadItem, GoodRead, GoodRecord, GoodClear, GoodWrite}
 use Rattle.frame.specs.Frame.{reads, clears, writesOne, writesMany, mostRead, station, function, start, second, byteCount, isWrite, count, run}
-use Rattle.sheet_rules.specs.Rules.{allowed, bitOf03, bitOf05, bitOf06, bitOf10}
+use Rattle.sheet_rules.specs.Rules.{allowed, bitOf03, bitOf05, bitOf06, bitOf10, inRecords}
+use Rattle.sheet_rules.specs.Lookup.{recordNumber}
 use Rattle.sheet_rules.specs.declared.Purpose.the-variants.{Read, Write}
 use Rattle.sheet_rules.specs.Runs.{allOpen}
+use Rattle.ring_rules.specs.Ring.{storedCount, placeOf, recordStart}
 use Rattle.meter_rules.specs.Write.{firstPlace, someBad, stopPlace}
 
 -- step 1: rule J10
@@ -44,18 +46,35 @@ wrongLength frame =
     cond (eqb (function frame) writesMany) (ltb (length frame) 9 || not (eqb (length frame) (9 + byteCount frame)))
     (not (eqb (length frame) 8))
 
--- step 5: rules J50 to J52
-abbrev pub wrongCount : List ℕ → Bool
-wrongCount frame =
-    (eqb (function frame) reads && eqb (second frame) 0)
+-- rule J53: a frame's first address is a record's
+abbrev pub startsInRecords : List ℕ → List ℕ → Bool
+startsInRecords sheet frame = inRecords (start frame) (recordArea sheet)
+
+-- step 5: rules J50 to J53
+abbrev pub wrongCount : List ℕ → List ℕ → Bool
+wrongCount sheet frame =
+    (eqb (function frame) reads && (eqb (second frame) 0 || (startsInRecords sheet frame && not (eqb (second frame) 1))))
     || (eqb (function frame) writesMany && (eqb (second frame) 0 || not (eqb (byteCount frame) (2 * second frame))))
 
--- step 6: rules J60 to J65. The areas of a sheet of bytes end at FFFF at the most, so an address above it lies in none: rule J62.
-abbrev pub wrongAddress : List ℕ → List ℕ → Bool
-wrongAddress sheet frame =
-    (eqb (function frame) reads && (ltb mostRead (second frame) || not (allOpen Read sheet (run frame))))
-    || (isWrite frame && not (allOpen Write sheet (run frame)))
-    || (eqb (function frame) clears && not (eqb (start frame) (clearAddress sheet)))
+-- rules J66 and T20: the number of the record that a read asks for is beyond what is stored
+abbrev pub askedNumber : List ℕ → List ℕ → ℕ
+askedNumber sheet frame = recordNumber (recordArea sheet) (start frame)
+
+abbrev pub beyondStored : Lent → List ℕ → Bool
+beyondStored given frame = ltb (storedCount (given .ring)) (askedNumber (given .sheet) frame)
+
+-- rules J60 to J62, J64 and J66, of a read: of a record, or of registers
+abbrev pub wrongRead : Lent → List ℕ → Bool
+wrongRead given frame =
+    cond (startsInRecords (given .sheet) frame) (beyondStored given frame)
+    (ltb mostRead (second frame) || not (allOpen Read (given .sheet) (run frame)))
+
+-- step 6: rules J60 to J66. The areas of a sheet of bytes end at FFFF at the most, so an address above it lies in none: rule J62.
+abbrev pub wrongAddress : Lent → List ℕ → Bool
+wrongAddress given frame =
+    (eqb (function frame) reads && wrongRead given frame)
+    || (isWrite frame && not (allOpen Write (given .sheet) (run frame)))
+    || (eqb (function frame) clears && not (eqb (start frame) (clearAddress (given .sheet))))
 
 -- step 7 for a clear: rule J70
 abbrev pub wrongValue : List ℕ → Bool
@@ -72,18 +91,29 @@ steps given frame =
     ∷ when (otherStation given frame) OtherStation
     ∷ when (functionNotAllowed (given .sheet) frame) FunctionNotAllowed
     ∷ when (wrongLength frame) WrongLength
-    ∷ when (wrongCount frame) WrongCount
-    ∷ when (wrongAddress (given .sheet) frame) WrongAddress
+    ∷ when (wrongCount (given .sheet) frame) WrongCount
+    ∷ when (wrongAddress given frame) WrongAddress
     ∷ when (wrongValue frame) WrongValue
     ∷ when (badWrite given frame) (BadItem (firstPlace (given .sheet) frame) (stopPlace given frame))
     ∷ []
 
+-- rules T2 and T20: the word of the ring at which the record begins that a read asks for
+abbrev pub askedStart : Lent → List ℕ → ℕ
+askedStart given frame =
+    recordStart (recordArea (given .sheet)) (placeOf (recordArea (given .sheet)) (given .ring) (askedNumber (given .sheet) frame))
+
+-- a read that no step stops: of a record, or of registers
+abbrev pub goodRead : Lent → List ℕ → Judged
+goodRead given frame =
+    cond (startsInRecords (given .sheet) frame) (GoodRecord (askedStart given frame) (recordArea (given .sheet) .words))
+    (GoodRead (firstPlace (given .sheet) frame) (count frame))
+
 -- rule J80, a frame that no step stops: a read, a clear or a write
-abbrev pub goodFrame : List ℕ → List ℕ → Judged
-goodFrame sheet frame =
-    cond (eqb (function frame) reads) (GoodRead (firstPlace sheet frame) (count frame))
-    (cond (eqb (function frame) clears) GoodClear (GoodWrite (firstPlace sheet frame) (count frame)))
+abbrev pub goodFrame : Lent → List ℕ → Judged
+goodFrame given frame =
+    cond (eqb (function frame) reads) (goodRead given frame)
+    (cond (eqb (function frame) clears) GoodClear (GoodWrite (firstPlace (given .sheet) frame) (count frame)))
 
 -- rules J1 and J80: where a frame stops, or that it is good
 unfoldable pub judgedFrame : Lent → List ℕ → Judged
-judgedFrame given frame = firstCase (steps given frame) (goodFrame (given .sheet) frame)
+judgedFrame given frame = firstCase (steps given frame) (goodFrame given frame)

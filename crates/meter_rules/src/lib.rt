@@ -3,7 +3,7 @@
 use refusals::Refusal;
 
 // Where a frame stops in the order of judgement, or that it is good. `first` is the place of its first address, `stop` the place of
-// the first bad item, `many` the number of registers.
+// the first bad item, `many` the number of registers. Of a record, `first` is the word of the ring at which it begins, `many` its words.
 pub enum Judged {
     FailsCheck,
     OtherStation,
@@ -14,6 +14,7 @@ pub enum Judged {
     WrongValue,
     BadItem { first: u32, stop: u32 },
     GoodRead { first: u32, many: u32 },
+    GoodRecord { first: u32, many: u32 },
     GoodClear,
     GoodWrite { first: u32, many: u32 },
 }
