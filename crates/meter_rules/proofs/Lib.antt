@@ -1,5 +1,6 @@
 pub mod CaseSet
 pub mod Order
+pub mod Records
 pub mod Judging
 pub mod Stopping
 pub mod Placing

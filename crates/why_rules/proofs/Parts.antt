@@ -1,7 +1,7 @@
 -- The facts and the steps of judgement: step 1 is three facts, step 6 a part of the count and the address, and all other steps are facts
 -- themselves. Assumes nothing.
 use mathlib.Core.Path.{_≡_, refl, ap, ap₂, _∙_}
-use mathlib.Core.Bool.{Bool, true, false, not, cond, _&&_, _||_}
+use mathlib.Core.Bool.{Bool, true, false, not, cond, _&&_, _||_, true≢false}
 use mathlib.Core.List.{List}
 use mathlib.Core.Logic.{_⊎_, inl, inr}
 use Prim.Native.Nat.{ℕ}
@@ -13,10 +13,13 @@ use Rattle.frame.specs.Frame.{reads, clears, mostRead, function, start, second,
 use Rattle.sheet_rules.specs.Rows.{clearAddress}
 use Rattle.sheet_rules.specs.declared.Purpose.the-variants.{Read, Write}
 use Rattle.sheet_rules.specs.Runs.{allOpen}
-use Rattle.meter_rules.specs.Steps.{failsCheck, wrongAddress}
+use Rattle.sheet_rules.specs.Rules.{sound}
+use Rattle.bank_rules.specs.Calls.{Lent}
+use Rattle.meter_rules.specs.Steps.{failsCheck, startsInRecords, beyondStored, wrongCount, wrongAddress}
+use Rattle.meter_rules.proofs.Records.{record-count, record-shut}
 use Rattle.meter_rules.proofs.Order.{asks-for, asks-write, write-is}
 use Rattle.lists.proofs.Tests.{first-of, second-of}
-use Rattle.why_rules.specs.Facts.{tooShort, tooLong, checkDiffers, readsTooMany, shutAddress, firstShut, firstBadAddress}
+use Rattle.why_rules.specs.Facts.{tooShort, tooLong, checkDiffers, readsTooMany, shutRead, shutAddress, firstShut, firstBadAddress}
 
 -- at least a number, and below it
 not-below : (low n : ℕ) → leb low n ≡ not (ltb n low)
@@ -37,15 +40,24 @@ fails-check frame =
     go false true agrees = refl
     go false false agrees = refl
 
-pub wrong-address : (sheet frame : List ℕ) → wrongAddress sheet frame ≡ (readsTooMany frame || shutAddress sheet frame)
-wrong-address sheet frame =
-    go (eqb (function frame) reads) (ltb mostRead (second frame)) (not (allOpen Read sheet (run frame))) (isWrite frame && not (allOpen Write sheet (run frame)))
-    (eqb (function frame) clears && not (eqb (start frame) (clearAddress sheet)))
+-- where step 5 lets a frame through
+pub wrong-address : (given : Lent) (frame : List ℕ) → wrongCount (given .sheet) frame ≡ false
+    → wrongAddress given frame ≡ (readsTooMany frame || shutAddress given frame)
+wrong-address given frame right =
+    go (eqb (function frame) reads) (startsInRecords (given .sheet) frame) (ltb mostRead (second frame)) (beyondStored given frame)
+    (not (allOpen Read (given .sheet) (run frame))) (isWrite frame && not (allOpen Write (given .sheet) (run frame)))
+    (eqb (function frame) clears && not (eqb (start frame) (clearAddress (given .sheet)))) few
   where
-    go : (read many shut write clear : Bool) → (read && (many || shut) || write || clear) ≡ (read && many || (read && shut || write || clear))
-    go true true shut write clear = refl
-    go true false shut write clear = refl
-    go false many shut write clear = refl
+    few : eqb (function frame) reads ≡ true → startsInRecords (given .sheet) frame ≡ true → ltb mostRead (second frame) ≡ false
+    few read inside = ap (ltb mostRead) (record-count (given .sheet) frame (eqb-true (function frame) reads read) inside right)
+
+    go : (read record? many beyond shut write clear : Bool) → (read ≡ true → record? ≡ true → many ≡ false)
+        → (read && cond record? beyond (many || shut) || write || clear) ≡ (read && many || (read && cond record? beyond shut || write || clear))
+    go true true true beyond shut write clear one = absurd (true≢false (one refl refl))
+    go true true false beyond shut write clear one = refl
+    go true false true beyond shut write clear one = refl
+    go true false false beyond shut write clear one = refl
+    go false record? many beyond shut write clear one = refl
 
 -- ---- an address that is not open, function by function
 
@@ -54,28 +66,40 @@ one true b c e = inl refl
 one false true c e = inr (inl refl)
 one false false c e = inr (inr e)
 
-module _ (sheet frame : List ℕ) where
-  pub which-shut : shutAddress sheet frame ≡ true
-      → ((function frame ≡ reads) × (allOpen Read sheet (run frame) ≡ false)) ⊎ ((isWrite frame ≡ true) × (allOpen Write sheet (run frame) ≡ false))
-      ⊎ ((function frame ≡ clears) × (eqb (start frame) (clearAddress sheet) ≡ false))
-  which-shut e = go (one (eqb (function frame) reads && not (allOpen Read sheet (run frame))) (isWrite frame && not (allOpen Write sheet (run frame)))
-      (eqb (function frame) clears && not (eqb (start frame) (clearAddress sheet))) e)
+-- a record lies in no area, so its address is not open either
+module _ (given : Lent) (frame : List ℕ) (keeps : sound (given .sheet) ≡ true) (right : wrongCount (given .sheet) frame ≡ false) where
+  shut-read : function frame ≡ reads → shutRead given frame ≡ true → allOpen Read (given .sheet) (run frame) ≡ false
+  shut-read is shut = go (startsInRecords (given .sheet) frame) refl shut
+    where
+      go : (inside : Bool) → startsInRecords (given .sheet) frame ≡ inside
+          → cond inside (beyondStored given frame) (not (allOpen Read (given .sheet) (run frame))) ≡ true → allOpen Read (given .sheet) (run frame) ≡ false
+      go true e beyond = record-shut (given .sheet) frame is e keeps (record-count (given .sheet) frame is e right)
+      go false e closed = not-true (allOpen Read (given .sheet) (run frame)) closed
+
+  pub which-shut : shutAddress given frame ≡ true
+      → ((function frame ≡ reads) × (allOpen Read (given .sheet) (run frame) ≡ false))
+      ⊎ ((isWrite frame ≡ true) × (allOpen Write (given .sheet) (run frame) ≡ false))
+      ⊎ ((function frame ≡ clears) × (eqb (start frame) (clearAddress (given .sheet)) ≡ false))
+  which-shut e = go (one (eqb (function frame) reads && shutRead given frame) (isWrite frame && not (allOpen Write (given .sheet) (run frame)))
+      (eqb (function frame) clears && not (eqb (start frame) (clearAddress (given .sheet)))) e)
     where
       both : (a b : Bool) → (a && not b) ≡ true → (a ≡ true) × (b ≡ false)
       both a b e = (first-of a (not b) e, not-true b (second-of a (not b) e))
 
-      go : ((eqb (function frame) reads && not (allOpen Read sheet (run frame))) ≡ true) ⊎ ((isWrite frame && not (allOpen Write sheet (run frame))) ≡ true)
-          ⊎ ((eqb (function frame) clears && not (eqb (start frame) (clearAddress sheet))) ≡ true)
-          → ((function frame ≡ reads) × (allOpen Read sheet (run frame) ≡ false)) ⊎ ((isWrite frame ≡ true) × (allOpen Write sheet (run frame) ≡ false))
-          ⊎ ((function frame ≡ clears) × (eqb (start frame) (clearAddress sheet) ≡ false))
+      go : ((eqb (function frame) reads && shutRead given frame) ≡ true) ⊎ ((isWrite frame && not (allOpen Write (given .sheet) (run frame))) ≡ true)
+          ⊎ ((eqb (function frame) clears && not (eqb (start frame) (clearAddress (given .sheet)))) ≡ true)
+          → ((function frame ≡ reads) × (allOpen Read (given .sheet) (run frame) ≡ false))
+          ⊎ ((isWrite frame ≡ true) × (allOpen Write (given .sheet) (run frame) ≡ false))
+          ⊎ ((function frame ≡ clears) × (eqb (start frame) (clearAddress (given .sheet)) ≡ false))
       go (inl e) =
-          let is = both (eqb (function frame) reads) (allOpen Read sheet (run frame)) e in
-          inl (eqb-true (function frame) reads (is .0), is .1)
-      go (inr (inl e)) = inr (inl (both (isWrite frame) (allOpen Write sheet (run frame)) e))
+          let is = eqb-true (function frame) reads (first-of (eqb (function frame) reads) (shutRead given frame) e) in
+          inl (is, shut-read is (second-of (eqb (function frame) reads) (shutRead given frame) e))
+      go (inr (inl e)) = inr (inl (both (isWrite frame) (allOpen Write (given .sheet) (run frame)) e))
       go (inr (inr e)) =
-          let is = both (eqb (function frame) clears) (eqb (start frame) (clearAddress sheet)) e in
+          let is = both (eqb (function frame) clears) (eqb (start frame) (clearAddress (given .sheet))) e in
           inr (inr (eqb-true (function frame) clears (is .0), is .1))
 
+module _ (sheet frame : List ℕ) where
   pub read-told : function frame ≡ reads → firstBadAddress sheet frame ≡ firstShut Read sheet (run frame)
   read-told is =
       ap (λ (b : Bool). cond b (firstShut Read sheet (run frame)) (cond (isWrite frame) (firstShut Write sheet (run frame)) (start frame)))

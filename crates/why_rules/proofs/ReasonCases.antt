@@ -11,14 +11,16 @@ use Rattle.words.specs.Words.{wordAt, withWord, bytesOf}
 use Rattle.words.specs.Changes.{Change, at, changed}
 use Rattle.check_value.specs.Check.{valueOf}
 use Rattle.range.specs.Range.{inRange}
-use Rattle.sheet_rules.specs.Rows.{areas, items}
+use Rattle.sheet_rules.specs.Rows.{areas, items, recordArea}
 use Rattle.sheet_rules.specs.Rules.{sound, headerSound, areasSound, itemsSound, settingsSound, recordsSound, itemPlaces, writablePlaces, placesFollow, areasAscend, lengthsSum}
 use Rattle.lists.specs.Lists.{each, some, upFrom, samePlaces}
 use Rattle.lists.specs.Cases.{firstCase}
 use Rattle.sheet_rules.specs.Lookup.{liesIn, addressOf}
 use Rattle.sheet_rules.specs.Runs.{allOpen}
 use Rattle.bank_rules.specs.Bank.{bankSound, goodBy}
-use Rattle.bank_rules.specs.Calls.{lent, checkAnswer}
+use Rattle.bank_rules.specs.Calls.{lent}
+use Rattle.ring_rules.specs.Calls.{ringFits}
+use Rattle.meter_rules.specs.Judgement.{lentAnswer}
 use Rattle.meter_rules.specs.Write.{badItem, someBad, stopIn, stopPlace}
 use Rattle.meter_rules.proofs.FrameLimits.{Meter, small, allowing, wide, full, pairUpper, otherUpper, mark}
 use Rattle.why_rules.specs.Facts.{firstShut}
@@ -381,5 +383,5 @@ table =
 
 -- every row is right
 pub reason-cases : each right table ≡ true
-unfolding table right changed bytesOf explanation checkAnswer reasonOf firstCase firstShut allOpen addressOf stopPlace stopIn badItem someBad goodBy bankSound valueOf sound headerSound areasSound itemsSound settingsSound recordsSound each some upFrom samePlaces itemPlaces writablePlaces placesFollow areasAscend lengthsSum areas items liesIn wordAt withWord inRange
+unfolding table right changed bytesOf explanation lentAnswer ringFits recordArea reasonOf firstCase firstShut allOpen addressOf stopPlace stopIn badItem someBad goodBy bankSound valueOf sound headerSound areasSound itemsSound settingsSound recordsSound each some upFrom samePlaces itemPlaces writablePlaces placesFollow areasAscend lengthsSum areas items liesIn wordAt withWord inRange
 reason-cases = refl

@@ -15,7 +15,7 @@ use Rattle.sheet_rules.specs.declared.Purpose.the-variants.{Read, Write}
 use Rattle.sheet_rules.specs.Runs.{opens, allOpen}
 use Rattle.bank_rules.specs.Calls.{Lent}
 use Rattle.meter_rules.specs.Write.{stopPlace}
-use Rattle.meter_rules.specs.Steps.{wrongCount}
+use Rattle.meter_rules.specs.Steps.{startsInRecords, beyondStored, wrongCount}
 
 -- rule Y10
 abbrev pub tooShort : List ℕ → Bool
@@ -29,19 +29,25 @@ tooLong frame = ltb longest (length frame)
 abbrev pub checkDiffers : List ℕ → Bool
 checkDiffers frame = not (checkAgrees frame)
 
--- rule Y16: what step 5 tests, and a read of more registers than a reply has room for
+-- rule Y16: what step 5 tests, and a read of more registers than a reply has room for. A read over 47 that starts in the record area is stopped by
+-- step 5 already.
 abbrev pub readsTooMany : List ℕ → Bool
 readsTooMany frame = eqb (function frame) reads && ltb mostRead (second frame)
 
-abbrev pub badCount : List ℕ → Bool
-badCount frame = wrongCount frame || readsTooMany frame
+abbrev pub badCount : List ℕ → List ℕ → Bool
+badCount sheet frame = wrongCount sheet frame || readsTooMany frame
+
+-- rule Y17, of a read: a record beyond what is stored, or an address of the run that is not open to reading
+abbrev pub shutRead : Lent → List ℕ → Bool
+shutRead given frame =
+    cond (startsInRecords (given .sheet) frame) (beyondStored given frame) (not (allOpen Read (given .sheet) (run frame)))
 
 -- rule Y17: an address of the run is not open to the function; a clear elsewhere than at the clear address
-abbrev pub shutAddress : List ℕ → List ℕ → Bool
-shutAddress sheet frame =
-    (eqb (function frame) reads && not (allOpen Read sheet (run frame)))
-    || (isWrite frame && not (allOpen Write sheet (run frame)))
-    || (eqb (function frame) clears && not (eqb (start frame) (clearAddress sheet)))
+abbrev pub shutAddress : Lent → List ℕ → Bool
+shutAddress given frame =
+    (eqb (function frame) reads && shutRead given frame)
+    || (isWrite frame && not (allOpen Write (given .sheet) (run frame)))
+    || (eqb (function frame) clears && not (eqb (start frame) (clearAddress (given .sheet))))
 
 -- rule Y20, the first of some addresses that is not open to the purpose; 0 where each is. Nothing lies above FFFF in a sheet of bytes, so
 -- 10000 can be told.
@@ -50,7 +56,8 @@ firstShut purpose sheet [] = 0
 firstShut purpose sheet (address ∷ behind) =
     cond (opens purpose (liesIn (areas sheet) address)) (firstShut purpose sheet behind) address
 
--- rule Y20, the address that is told: the lowest that is not open of a run, which ascends, or the frame's own for a clear
+-- rule Y20, the address that is told: the lowest that is not open of a run, which ascends, or the frame's own for a clear. A record lies in no area,
+-- so of one that is beyond what is stored it is the record's own.
 abbrev pub firstBadAddress : List ℕ → List ℕ → ℕ
 firstBadAddress sheet frame =
     cond (eqb (function frame) reads) (firstShut Read sheet (run frame))

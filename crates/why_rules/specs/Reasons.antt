@@ -5,7 +5,8 @@ use Rattle.lists.specs.Cases.{Case, when, firstCase}
 use Rattle.refusals.specs.declared.Answer.{Answer}
 use Rattle.refusals.specs.declared.Answer.the-variants as answer
 use Rattle.refusals.specs.Answers.{refusalNumber}
-use Rattle.bank_rules.specs.Calls.{Lent, checkAnswer}
+use Rattle.bank_rules.specs.Calls.{Lent}
+use Rattle.meter_rules.specs.Judgement.{lentAnswer}
 use Rattle.meter_rules.specs.Steps.{otherStation, functionNotAllowed, wrongLength, wrongValue, badWrite}
 use Rattle.why_rules.specs.declared.Reason.{Reason}
 use Rattle.why_rules.specs.declared.Reason.the-variants.{None, TooShort, TooLong, Check, Station, Function, BodyLength, Count, Address, ClearValue, Item}
@@ -50,8 +51,8 @@ facts given frame =
     ∷ when (otherStation given frame) Station
     ∷ when (functionNotAllowed (given .sheet) frame) Function
     ∷ when (wrongLength frame) BodyLength
-    ∷ when (badCount frame) Count
-    ∷ when (shutAddress (given .sheet) frame) (Address (firstBadAddress (given .sheet) frame))
+    ∷ when (badCount (given .sheet) frame) Count
+    ∷ when (shutAddress given frame) (Address (firstBadAddress (given .sheet) frame))
     ∷ when (wrongValue frame) ClearValue
     ∷ when (badWrite given frame) (Item (firstBadItem given frame))
     ∷ []
@@ -60,13 +61,13 @@ facts given frame =
 unfoldable pub reasonOf : Lent → List ℕ → Reason
 reasonOf given frame = firstCase (facts given frame) None
 
--- rule Y2: sheet and bank are checked first
+-- rule Y2: sheet, bank and ring are checked first
 abbrev pub explainedBy : Answer → Reason → Explained
 explainedBy answer.Done reason = Because reason
 explainedBy (answer.Refused refusal) reason = Refused refusal
 
 unfoldable pub explanation : Lent → List ℕ → Explained
-explanation given frame = explainedBy (checkAnswer given) (reasonOf given frame)
+explanation given frame = explainedBy (lentAnswer given) (reasonOf given frame)
 
 -- rules Y2 and Y3, the numbers that are handed back: that of the call, of the reason, and the address; zeros with a refusal
 abbrev pub explainedNumber : Explained → ℕ
