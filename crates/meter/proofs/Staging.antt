@@ -3,15 +3,18 @@ use mathlib.Core.Path.{_≡_, refl, sym, ap, ap₂, _∙_}
 use mathlib.Core.Bool.{Bool, true, false, not, cond, _&&_, _||_}
 use mathlib.Core.List.{List}
 use mathlib.Core.Logic.{_⊎_, inl, inr}
-use Prim.Native.Nat.{ℕ, _*_}
+use Prim.Native.Nat.{ℕ, _+_, _-_, _*_, _%_, _≤_, _<_}
 use native.Mathlib.Omega.{arith}
 use lib.Dec.{ltb, eqb}
-use borrow.Author.Tests.{not-false}
+use borrow.Author.Tests.{not-false, lt-ltb, le-ltb}
 use Rattle.lists.specs.Lists.{upFrom}
 use Rattle.lists.specs.Cases.{when}
-use Rattle.sheet_rules.specs.Rows.{areas, clearAddress}
-use Rattle.sheet_rules.specs.Lookup.{liesIn, placeIn}
-use Rattle.sheet_rules.specs.Rules.{sound}
+use Rattle.sheet_rules.specs.declared.RecordArea.{RecordArea}
+use Rattle.sheet_rules.specs.Rows.{areas, clearAddress, recordArea}
+use Rattle.sheet_rules.specs.Lookup.{liesIn, placeIn, recordNumber}
+use Rattle.sheet_rules.specs.Rules.{sound, inRecords}
+use Rattle.sheet_rules.proofs.Records.{in-records}
+use Rattle.ring_rules.specs.Ring.{newestPlace, storedCount, placeOf, recordStart}
 use Rattle.bank_rules.specs.Bank.{stationOf}
 use Rattle.bank_rules.specs.Calls.{Lent}
 use Rattle.frame.specs.declared.Parts.{Parts}
@@ -19,12 +22,12 @@ use Rattle.frame.specs.declared.Passed.{Passed}
 use Rattle.frame.specs.declared.Passed.the-variants.{Frame, Fails}
 use Rattle.frame.proofs.Passing.{passed-parts, passed-true, passed-false}
 use Rattle.frame.specs.Frame.{reads, clears, writesOne, writesMany, function, start, second, isWrite, count, mostRead, partsOf, passedFrame}
-use Rattle.meter_rules.specs.declared.Judged.the-variants.{FailsCheck, OtherStation, FunctionNotAllowed, WrongLength, WrongCount, WrongAddress, WrongValue, BadItem, GoodRead, GoodClear, GoodWrite}
+use Rattle.meter_rules.specs.declared.Judged.the-variants.{FailsCheck, OtherStation, FunctionNotAllowed, WrongLength, WrongCount, WrongAddress, WrongValue, BadItem, GoodRead, GoodRecord, GoodClear, GoodWrite}
 use Rattle.sheet_rules.specs.declared.Purpose.the-variants.{Read}
 use Rattle.sheet_rules.specs.Runs.{allOpen}
 use Rattle.meter_rules.specs.Write.{firstPlace, someBad, stopPlace}
-use Rattle.meter_rules.specs.Steps.{failsCheck, otherStation, codeAllowed, functionAllowed, functionNotAllowed, wrongLength, wrongCount, wrongAddress, wrongValue, badWrite, goodFrame, judgedFrame}
-use Rattle.meter_rules.proofs.Order.{step-stops, step-passes, step-none, asks-for, value-is, bad-is, write-is, many-is, last-function, asks-write, read-address, clear-address, clear-value, write-value, write-bad}
+use Rattle.meter_rules.specs.Steps.{startsInRecords, askedNumber, askedStart, goodRead, failsCheck, otherStation, codeAllowed, functionAllowed, functionNotAllowed, wrongLength, wrongCount, wrongAddress, wrongValue, badWrite, goodFrame, judgedFrame}
+use Rattle.meter_rules.proofs.Order.{step-stops, step-passes, step-none, asks-for, value-is, bad-is, write-is, many-is, last-function, asks-write, read-address, registers-wrong, record-wrong, clear-address, clear-value, write-value, write-bad}
 use Rattle.meter.specs.declared.stages.Addressed.{Addressed}
 use Rattle.meter.specs.declared.stages.Addressed.the-variants.{Here, Elsewhere}
 use Rattle.meter.specs.Stages.{addressedTo, wrongLengthIn, judgedFrom, Known}
@@ -63,60 +66,72 @@ module _ (given : Lent) (frame : List ℕ) where
   unfolding judgedFrom
   passes-length e = sym (step-passes (when (wrongLength frame) WrongLength) _ _ e)
 
-  pub stops-count : wrongCount frame ≡ true → WrongCount ≡ judgedFrom 4 given frame
+  pub stops-count : wrongCount (given .sheet) frame ≡ true → WrongCount ≡ judgedFrom 4 given frame
   unfolding judgedFrom
-  stops-count e = sym (step-stops (when (wrongCount frame) WrongCount) _ _ e)
+  stops-count e = sym (step-stops (when (wrongCount (given .sheet) frame) WrongCount) _ _ e)
 
-  pub passes-count : wrongCount frame ≡ false → judgedFrom 5 given frame ≡ judgedFrom 4 given frame
+  pub passes-count : wrongCount (given .sheet) frame ≡ false → judgedFrom 5 given frame ≡ judgedFrom 4 given frame
   unfolding judgedFrom
-  passes-count e = sym (step-passes (when (wrongCount frame) WrongCount) _ _ e)
+  passes-count e = sym (step-passes (when (wrongCount (given .sheet) frame) WrongCount) _ _ e)
 
-  pub stops-address : wrongAddress (given .sheet) frame ≡ true → WrongAddress ≡ judgedFrom 5 given frame
+  pub stops-address : wrongAddress given frame ≡ true → WrongAddress ≡ judgedFrom 5 given frame
   unfolding judgedFrom
-  stops-address e = sym (step-stops (when (wrongAddress (given .sheet) frame) WrongAddress) _ _ e)
+  stops-address e = sym (step-stops (when (wrongAddress given frame) WrongAddress) _ _ e)
 
-  pub stops-value : wrongAddress (given .sheet) frame ≡ false → wrongValue frame ≡ true → WrongValue ≡ judgedFrom 5 given frame
+  pub stops-value : wrongAddress given frame ≡ false → wrongValue frame ≡ true → WrongValue ≡ judgedFrom 5 given frame
   unfolding judgedFrom
   stops-value p e =
-      sym (step-passes (when (wrongAddress (given .sheet) frame) WrongAddress) _ _ p ∙ step-stops (when (wrongValue frame) WrongValue) _ _ e)
+      sym (step-passes (when (wrongAddress given frame) WrongAddress) _ _ p ∙ step-stops (when (wrongValue frame) WrongValue) _ _ e)
 
-  pub stops-item : wrongAddress (given .sheet) frame ≡ false → wrongValue frame ≡ false → badWrite given frame ≡ true
+  pub stops-item : wrongAddress given frame ≡ false → wrongValue frame ≡ false → badWrite given frame ≡ true
       → BadItem (firstPlace (given .sheet) frame) (stopPlace given frame) ≡ judgedFrom 5 given frame
   unfolding judgedFrom
   stops-item p q e =
-      sym (step-passes (when (wrongAddress (given .sheet) frame) WrongAddress) _ _ p ∙ step-passes (when (wrongValue frame) WrongValue) _ _ q
+      sym (step-passes (when (wrongAddress given frame) WrongAddress) _ _ p ∙ step-passes (when (wrongValue frame) WrongValue) _ _ q
       ∙ step-stops (when (badWrite given frame) (BadItem (firstPlace (given .sheet) frame) (stopPlace given frame))) _ _ e)
 
-  pub stops-nowhere : wrongAddress (given .sheet) frame ≡ false → wrongValue frame ≡ false → badWrite given frame ≡ false
-      → goodFrame (given .sheet) frame ≡ judgedFrom 5 given frame
+  pub stops-nowhere : wrongAddress given frame ≡ false → wrongValue frame ≡ false → badWrite given frame ≡ false
+      → goodFrame given frame ≡ judgedFrom 5 given frame
   unfolding judgedFrom
   stops-nowhere p q e =
-      sym (step-passes (when (wrongAddress (given .sheet) frame) WrongAddress) _ _ p ∙ step-passes (when (wrongValue frame) WrongValue) _ _ q
+      sym (step-passes (when (wrongAddress given frame) WrongAddress) _ _ p ∙ step-passes (when (wrongValue frame) WrongValue) _ _ q
       ∙ step-passes (when (badWrite given frame) (BadItem (firstPlace (given .sheet) frame) (stopPlace given frame))) _ _ e
-      ∙ step-none (goodFrame (given .sheet) frame))
+      ∙ step-none (goodFrame given frame))
 
   -- ---- by function
 
-  pub good-read : function frame ≡ reads → wrongAddress (given .sheet) frame ≡ false
-      → GoodRead (firstPlace (given .sheet) frame) (second frame) ≡ judgedFrom 5 given frame
-  good-read e p =
-      ap₂ (λ (r o : Bool). cond r (GoodRead (firstPlace (given .sheet) frame) (cond o 1 (second frame)))
-      (cond (eqb (function frame) clears) GoodClear (GoodWrite (firstPlace (given .sheet) frame) (count frame))))
-      (sym (asks-for frame reads e .isRead)) (sym (asks-for frame reads e .isOne))
+  good-reading : function frame ≡ reads → wrongAddress given frame ≡ false → goodRead given frame ≡ judgedFrom 5 given frame
+  good-reading e p =
+      ap (λ (r : Bool). cond r (goodRead given frame) (cond (eqb (function frame) clears) GoodClear (GoodWrite (firstPlace (given .sheet) frame) (count frame))))
+      (sym (asks-for frame reads e .isRead))
       ∙ stops-nowhere p (value-is frame (asks-for frame reads e)) (bad-is frame (asks-for frame reads e) given)
 
-  pub good-clear : function frame ≡ clears → wrongAddress (given .sheet) frame ≡ false → wrongValue frame ≡ false
+  pub good-read : function frame ≡ reads → startsInRecords (given .sheet) frame ≡ false → wrongAddress given frame ≡ false
+      → GoodRead (firstPlace (given .sheet) frame) (second frame) ≡ judgedFrom 5 given frame
+  good-read e outside p =
+      ap₂ (λ (i o : Bool). cond i (GoodRecord (askedStart given frame) (recordArea (given .sheet) .words))
+      (GoodRead (firstPlace (given .sheet) frame) (cond o 1 (second frame)))) (sym outside) (sym (asks-for frame reads e .isOne))
+      ∙ good-reading e p
+
+  pub good-record : function frame ≡ reads → startsInRecords (given .sheet) frame ≡ true → wrongAddress given frame ≡ false
+      → GoodRecord (askedStart given frame) (recordArea (given .sheet) .words) ≡ judgedFrom 5 given frame
+  good-record e inside p =
+      ap (λ (i : Bool). cond i (GoodRecord (askedStart given frame) (recordArea (given .sheet) .words))
+      (GoodRead (firstPlace (given .sheet) frame) (count frame))) (sym inside)
+      ∙ good-reading e p
+
+  pub good-clear : function frame ≡ clears → wrongAddress given frame ≡ false → wrongValue frame ≡ false
       → GoodClear ≡ judgedFrom 5 given frame
   good-clear e p q =
-      ap₂ (λ (r c : Bool). cond r (GoodRead (firstPlace (given .sheet) frame) (count frame)) (cond c GoodClear (GoodWrite (firstPlace (given .sheet) frame) (count frame))))
+      ap₂ (λ (r c : Bool). cond r (goodRead given frame) (cond c GoodClear (GoodWrite (firstPlace (given .sheet) frame) (count frame))))
       (sym (asks-for frame clears e .isRead)) (sym (asks-for frame clears e .isClear))
       ∙ stops-nowhere p q (bad-is frame (asks-for frame clears e) given)
 
   module _ (write : isWrite frame ≡ true) where
-    pub good-write : wrongAddress (given .sheet) frame ≡ false → someBad given frame ≡ false
+    pub good-write : wrongAddress given frame ≡ false → someBad given frame ≡ false
         → GoodWrite (firstPlace (given .sheet) frame) (count frame) ≡ judgedFrom 5 given frame
     good-write p e =
-        ap₂ (λ (r c : Bool). cond r (GoodRead (firstPlace (given .sheet) frame) (count frame)) (cond c GoodClear (GoodWrite (firstPlace (given .sheet) frame) (count frame))))
+        ap₂ (λ (r c : Bool). cond r (goodRead given frame) (cond c GoodClear (GoodWrite (firstPlace (given .sheet) frame) (count frame))))
         (sym (asks-write frame write .isRead)) (sym (asks-write frame write .isClear))
         ∙ stops-nowhere p (write-value frame write) (write-bad frame write given ∙ e)
 
@@ -184,9 +199,9 @@ module _ (given : Lent) (frame : List ℕ) {first : Passed} (is : first ≡ pass
 -- ---- the steps in the parts of the frame
 
 -- step 4 and step 5
-abbrev pub countWrong : Parts → Bool
-countWrong parts =
-    eqb (parts .function) reads && eqb (parts .second) 0
+abbrev pub countWrong : List ℕ → Parts → Bool
+countWrong sheet parts =
+    eqb (parts .function) reads && (eqb (parts .second) 0 || (inRecords (parts .start) (recordArea sheet) && not (eqb (parts .second) 1)))
     || eqb (parts .function) writesMany && (eqb (parts .second) 0 || not (eqb (parts .bytes) (2 * parts .second)))
 
 module _ (given : Lent) (frame : List ℕ) {parts : Parts} (apart : parts ≡ partsOf frame) where
@@ -196,11 +211,11 @@ module _ (given : Lent) (frame : List ℕ) {parts : Parts} (apart : parts ≡ pa
   pub length-passes : wrongLengthIn parts ≡ false → judgedFrom 4 given frame ≡ judgedFrom 3 given frame
   length-passes e = passes-length given frame (ap wrongLengthIn (sym apart) ∙ e)
 
-  pub count-stops : countWrong parts ≡ true → WrongCount ≡ judgedFrom 4 given frame
-  count-stops e = stops-count given frame (ap countWrong (sym apart) ∙ e)
+  pub count-stops : countWrong (given .sheet) parts ≡ true → WrongCount ≡ judgedFrom 4 given frame
+  count-stops e = stops-count given frame (ap (countWrong (given .sheet)) (sym apart) ∙ e)
 
-  pub count-passes : countWrong parts ≡ false → judgedFrom 5 given frame ≡ judgedFrom 4 given frame
-  count-passes e = passes-count given frame (ap countWrong (sym apart) ∙ e)
+  pub count-passes : countWrong (given .sheet) parts ≡ false → judgedFrom 5 given frame ≡ judgedFrom 4 given frame
+  count-passes e = passes-count given frame (ap (countWrong (given .sheet)) (sym apart) ∙ e)
 
 module _ (frame : List ℕ) {parts : Parts} (apart : parts ≡ partsOf frame) where
   -- a function that is allowed and none of the first three is 10
@@ -217,25 +232,64 @@ module _ (frame : List ℕ) {parts : Parts} (apart : parts ≡ partsOf frame) wh
     read-function : function frame ≡ reads
     read-function = sym (ap (λ (p : Parts). p .function) apart) ∙ asks
 
-    pub read-of-parts : (sheet : List ℕ) → wrongAddress sheet frame ≡ (ltb mostRead (parts .second) || not (allOpen Read sheet (upFrom (parts .start) (parts .second))))
-    read-of-parts sheet =
-        read-address frame sheet read-function
-        ∙ ap (λ (n : ℕ). ltb mostRead (second frame) || not (allOpen Read sheet (upFrom (start frame) n)))
-        (many-is frame (asks-for frame reads read-function))
-        ∙ ap (λ (p : Parts). ltb mostRead (p .second) || not (allOpen Read sheet (upFrom (p .start) (p .second)))) (sym apart)
+    begins : {records : RecordArea} (given : Lent) → records ≡ recordArea (given .sheet) → inRecords (parts .start) records ≡ startsInRecords (given .sheet) frame
+    begins given area = ap₂ (λ (p : Parts) (r : RecordArea). inRecords (p .start) r) apart area
 
-    pub good-read-of-parts : (given : Lent) {first : ℕ} → first ≡ placeIn (liesIn (areas (given .sheet)) (parts .start)) → wrongAddress (given .sheet) frame ≡ false
+    pub read-of-parts : (given : Lent) → startsInRecords (given .sheet) frame ≡ false
+        → wrongAddress given frame ≡ (ltb mostRead (parts .second) || not (allOpen Read (given .sheet) (upFrom (parts .start) (parts .second))))
+    read-of-parts given outside =
+        read-address frame given read-function ∙ registers-wrong frame given outside
+        ∙ ap (λ (n : ℕ). ltb mostRead (second frame) || not (allOpen Read (given .sheet) (upFrom (start frame) n)))
+        (many-is frame (asks-for frame reads read-function))
+        ∙ ap (λ (p : Parts). ltb mostRead (p .second) || not (allOpen Read (given .sheet) (upFrom (p .start) (p .second)))) (sym apart)
+
+    pub good-read-of-parts : (given : Lent) {first : ℕ} → startsInRecords (given .sheet) frame ≡ false
+        → first ≡ placeIn (liesIn (areas (given .sheet)) (parts .start)) → wrongAddress given frame ≡ false
         → GoodRead first (parts .second) ≡ judgedFrom 5 given frame
-    good-read-of-parts given placed e =
+    good-read-of-parts given outside placed e =
         ap (λ (n : ℕ). GoodRead n (parts .second)) placed
-        ∙ ap (λ (p : Parts). GoodRead (placeIn (liesIn (areas (given .sheet)) (p .start))) (p .second)) apart ∙ good-read given frame read-function e
+        ∙ ap (λ (p : Parts). GoodRead (placeIn (liesIn (areas (given .sheet)) (p .start))) (p .second)) apart
+        ∙ good-read given frame read-function outside e
+
+    -- a read of a record, by how many are newer
+    module _ (given : Lent) (records : RecordArea) (area : records ≡ recordArea (given .sheet)) (inside : inRecords (parts .start) records ≡ true)
+        {newer : ℕ} (behind : newer ≡ parts .start - records .first) where
+      asked : newer + 1 ≡ askedNumber (given .sheet) frame
+      asked =
+          let low = in-records records (parts .start) inside .low in
+          let is : newer + 1 ≡ parts .start + 1 - records .first = omega (arith, behind, low) in
+          is ∙ ap₂ (λ (p : Parts) (r : RecordArea). recordNumber r (p .start)) apart area
+
+      starts : startsInRecords (given .sheet) frame ≡ true
+      starts = sym (begins given area) ∙ inside
+
+      beyond : wrongAddress given frame ≡ ltb (storedCount (given .ring)) (newer + 1)
+      beyond =
+          read-address frame given read-function ∙ record-wrong frame given starts
+          ∙ ap (ltb (storedCount (given .ring))) (sym asked)
+
+      pub record-beyond : {stored : ℕ} → stored ≡ storedCount (given .ring) → stored ≤ newer → WrongAddress ≡ judgedFrom 5 given frame
+      record-beyond says few = stops-address given frame (beyond ∙ lt-ltb (storedCount (given .ring)) (newer + 1) (omega (arith, says, few)))
+
+      pub record-stored : {stored newest first many : ℕ} → stored ≡ storedCount (given .ring) → newer < stored → newest ≡ newestPlace (given .ring)
+          → first ≡ 2 + ((newest + records .records - newer) % records .records) * records .words → many ≡ records .words
+          → GoodRecord first many ≡ judgedFrom 5 given frame
+      record-stored {newest = newest} says enough place begin words =
+          ap₂ GoodRecord
+          (begin
+          ∙ ap₂ (λ (n k : ℕ). 2 + ((n + records .records - k) % records .records) * records .words) place
+          (let back : newer ≡ newer + 1 - 1 = omega arith in back)
+          ∙ ap₂ (λ (r : RecordArea) (k : ℕ). recordStart r (placeOf r (given .ring) k)) area asked)
+          (words ∙ ap (λ (r : RecordArea). r .words) area)
+          ∙ good-record given frame read-function starts (beyond ∙ le-ltb (storedCount (given .ring)) (newer + 1) (omega (arith, says, enough)))
 
   module _ (asks : parts .function ≡ clears) where
     pub clear-function : function frame ≡ clears
     clear-function = sym (ap (λ (p : Parts). p .function) apart) ∙ asks
 
-    pub clear-of-parts : (sheet : List ℕ) → wrongAddress sheet frame ≡ not (eqb (parts .start) (clearAddress sheet))
-    clear-of-parts sheet = clear-address frame sheet clear-function ∙ ap (λ (p : Parts). not (eqb (p .start) (clearAddress sheet))) (sym apart)
+    pub clear-of-parts : (given : Lent) → wrongAddress given frame ≡ not (eqb (parts .start) (clearAddress (given .sheet)))
+    clear-of-parts given =
+        clear-address frame given clear-function ∙ ap (λ (p : Parts). not (eqb (p .start) (clearAddress (given .sheet)))) (sym apart)
 
     pub value-of-parts : wrongValue frame ≡ not (eqb (parts .second) 0)
     value-of-parts = clear-value frame clear-function ∙ ap (λ (p : Parts). not (eqb (p .second) 0)) (sym apart)

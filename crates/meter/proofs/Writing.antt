@@ -27,9 +27,9 @@ module _ (given : Lent) (frame : List ℕ) (write : isWrite frame ≡ true) (par
   counted : many ≡ count frame
   counted = counts ∙ ap (λ (p : Parts). manyOf (p .function) (p .second)) apart
 
-  address-is : wrongAddress (given .sheet) frame ≡ not (allOpen Write (given .sheet) (upFrom (parts .start) many))
+  address-is : wrongAddress given frame ≡ not (allOpen Write (given .sheet) (upFrom (parts .start) many))
   address-is =
-      write-address frame write (given .sheet)
+      write-address frame write given
       ∙ ap not (sym (ap₂ (λ (s n : ℕ). allOpen Write (given .sheet) (upFrom s n)) (ap (λ (p : Parts). p .start) apart) counted))
 
   -- an address is shut

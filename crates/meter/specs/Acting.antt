@@ -7,6 +7,6 @@ use Rattle.meter_rules.specs.declared.Judged.{Judged}
 use Rattle.meter_rules.specs.Reply.{errorCode, replyTo}
 use Rattle.meter_rules.specs.Answer.{Outcome, outcome, answeredBy}
 
-unfoldable pub replied : Judged → ℕ → List ℕ → List ℕ → List ℕ → Outcome
-replied judged rate bank frame buffer =
-    outcome (answeredBy (errorCode judged) (length (replyTo judged bank frame)) rate) bank (laid (replyTo judged bank frame) buffer)
+unfoldable pub replied : Judged → ℕ → List ℕ → List ℕ → List ℕ → List ℕ → Outcome
+replied judged rate bank ring frame buffer =
+    outcome (answeredBy (errorCode judged) (length (replyTo judged bank ring frame)) rate) bank (laid (replyTo judged bank ring frame) buffer)

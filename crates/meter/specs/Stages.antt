@@ -6,11 +6,13 @@ use mathlib.Core.List.{List}
 use lib.Dec.{ltb, eqb}
 use lib.ListN.{drop}
 use Rattle.lists.specs.Cases.{firstCase}
-use Rattle.sheet_rules.specs.Rules.{sound}
+use Rattle.sheet_rules.specs.declared.RecordArea.{RecordArea}
+use Rattle.sheet_rules.specs.Rows.{recordArea}
+use Rattle.sheet_rules.specs.Rules.{sound, inRecords}
 use Rattle.bank_rules.specs.Bank.{stationOf}
 use Rattle.bank_rules.specs.Calls.{Lent}
 use Rattle.frame.specs.declared.Parts.{Parts}
-use Rattle.frame.specs.Frame.{writesMany, partsOf}
+use Rattle.frame.specs.Frame.{reads, writesMany, partsOf}
 use Rattle.meter_rules.specs.declared.Judged.{Judged}
 use Rattle.meter_rules.specs.Steps.{functionAllowed, steps, goodFrame}
 use Rattle.meter.specs.declared.stages.Addressed.{Addressed}
@@ -27,10 +29,17 @@ wrongLengthIn parts =
 
 -- where a frame stops, or that it is good, once so many of these conditions have let it through
 unfoldable pub judgedFrom : ℕ → Lent → List ℕ → Judged
-judgedFrom passed given frame = firstCase (drop passed (steps given frame)) (goodFrame (given .sheet) frame)
+judgedFrom passed given frame = firstCase (drop passed (steps given frame)) (goodFrame given frame)
 
 -- the sheet is sound, the parts are the frame's, and its function is allowed
 pub record Known (sheet frame : List ℕ) (parts : Parts) : Type 0 where
   pub sheetSound : sound sheet ≡ true
   pub apart : parts ≡ partsOf frame
   pub allowed : functionAllowed sheet frame ≡ true
+
+-- the frame asks for one record: what is known of every frame, and that it is a read of one address, which is a record's
+pub record AsksRecord (sheet frame : List ℕ) (parts : Parts) (records : RecordArea) : Type 0 where
+  pub known : Known sheet frame parts
+  pub asks : parts .function ≡ reads
+  pub area : records ≡ recordArea sheet
+  pub inside : inRecords (parts .start) records ≡ true

@@ -3,7 +3,7 @@ ghost use mathlib.Core.Path.{_≡_};
 ghost use Prim.Native.Nat.{_-_};
 ghost use mathlib.Core.Bool.{true};
 ghost use Rattle.bank_rules.specs.Stores.{stored};
-ghost use Rattle.bank_rules.specs.Calls.{lent};
+ghost use Rattle.bank_rules.specs.Calls.{lentWith};
 ghost use Rattle.frame.specs.Reply.{hasRoom};
 ghost use Rattle.meter_rules.specs.Reply.{errorCode, replyTo, storesOf};
 ghost use Rattle.meter_rules.specs.Answer.{outcome, actedOn};
@@ -26,15 +26,23 @@ fn error_code(judged: Judged) -> u8
         Judged::WrongValue => 3,
         Judged::BadItem { first: _, stop: _ } => 3,
         Judged::GoodRead { first: _, many: _ } => 0,
+        Judged::GoodRecord { first: _, many: _ } => 0,
         Judged::GoodClear => 0,
         Judged::GoodWrite { first: _, many: _ } => 0,
     }
 }
 
 // Lays the reply to a judged frame in the buffer, to be sent at a rate: an error by its code, the reply to a good frame, or none.
-fn lay_reply(judged: Judged, rate: u16, bank: &[u8], frame: &[u8], buffer: &mut [u8]) -> Answered
-    requires { ⌜ hasRoom (replyTo judged (now bank) (now frame)) (now buffer) ≡ true ⌝ }
-    ensures { λ r. ⌜ outcome r (now (bank .entry)) (now (buffer .exit)) ≡ replied judged rate (now (bank .entry)) (now (frame .entry)) (now (buffer .entry)) ⌝ }
+fn lay_reply(
+    judged: Judged,
+    rate: u16,
+    bank: &[u8],
+    ring: &[u8],
+    frame: &[u8],
+    buffer: &mut [u8],
+) -> Answered
+    requires { ⌜ hasRoom (replyTo judged (now bank) (now ring) (now frame)) (now buffer) ≡ true ⌝ }
+    ensures { λ r. ⌜ outcome r (now (bank .entry)) (now (buffer .exit)) ≡ replied judged rate (now (bank .entry)) (now (ring .entry)) (now (frame .entry)) (now (buffer .entry)) ⌝ }
 {
     let code = error_code(judged);
     if code != 0 {
@@ -44,6 +52,10 @@ fn lay_reply(judged: Judged, rate: u16, bank: &[u8], frame: &[u8], buffer: &mut 
     match judged {
         Judged::GoodRead { first, many } => {
             let length = frame::reply_read(bank, frame, buffer, first, many);
+            Answered::Reply { length, rate }
+        }
+        Judged::GoodRecord { first, many } => {
+            let length = frame::reply_read(ring, frame, buffer, first, many);
             Answered::Reply { length, rate }
         }
         Judged::GoodClear | Judged::GoodWrite { first: _, many: _ } => {
@@ -85,13 +97,14 @@ pub(crate) fn acted(
     judged: Judged,
     sheet: &[u8],
     bank: &mut [u8],
+    ring: &[u8],
     frame: &[u8],
     buffer: &mut [u8],
 ) -> Answered
-    requires { ⌜ hasRoom (replyTo judged (now bank) (now frame)) (now buffer) ≡ true ⌝ }
-    ensures { λ r. ⌜ outcome r (now (bank .exit)) (now (buffer .exit)) ≡ actedOn judged (lent (now (sheet .entry)) (now (bank .entry))) (now (frame .entry)) (now (buffer .entry)) ⌝ }
+    requires { ⌜ hasRoom (replyTo judged (now bank) (now ring) (now frame)) (now buffer) ≡ true ⌝ }
+    ensures { λ r. ⌜ outcome r (now (bank .exit)) (now (buffer .exit)) ≡ actedOn judged (lentWith (now (sheet .entry)) (now (bank .entry)) (now (ring .entry))) (now (frame .entry)) (now (buffer .entry)) ⌝ }
 {
     let rate = words::word_at(bank, 2 * (rows::rate_place(sheet) as usize));
     make_stores(judged, sheet, bank, frame);
-    lay_reply(judged, rate, bank, frame, buffer)
+    lay_reply(judged, rate, bank, ring, frame, buffer)
 }

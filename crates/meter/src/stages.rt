@@ -1,17 +1,18 @@
 // The order of judgement for a frame, stage by stage: each answers where the frame stops, or hands it on to the next.
 ghost use mathlib.Core.Path.{_≡_};
-ghost use mathlib.Core.Bool.{true};
-ghost use Rattle.meter.specs.Stages.{addressedTo, wrongLengthIn, judgedFrom, Known};
+ghost use mathlib.Core.Bool.{true, false};
+ghost use Rattle.meter.specs.Stages.{addressedTo, wrongLengthIn, judgedFrom, Known, AsksRecord};
 ghost use Rattle.sheet_rules.specs.Rules.{sound};
-ghost use Rattle.bank_rules.specs.Calls.{lent};
+ghost use Rattle.bank_rules.specs.Calls.{lent, lentWith};
 ghost use Rattle.frame.specs.Frame.{reads, clears, isWrite, manyOf};
-ghost use Rattle.meter_rules.specs.Steps.{codeAllowed, judgedFrame};
+ghost use Rattle.meter_rules.specs.Steps.{codeAllowed, startsInRecords, judgedFrame};
 use crate::values;
 use crate::values::Write;
 use frame::Parts;
 use frame::Passed;
 use meter_rules::Judged;
 use sheet_rules::Purpose;
+use sheet_rules::RecordArea;
 
 // The bits that allow the functions 03, 05, 06 and 10, of whose sum the sheet has one word.
 const BIT_OF_03: u16 = 1;
@@ -60,9 +61,9 @@ fn function_allowed(sheet: &[u8], function: u8) -> bool
 }
 
 // Steps 1 to 3: a frame that does not pass, or is for another station, gets silence; a function that is not allowed, error 01.
-pub(crate) fn judged_frame(sheet: &[u8], bank: &[u8], frame: &[u8]) -> Judged
+pub(crate) fn judged_frame(sheet: &[u8], bank: &[u8], ring: &[u8], frame: &[u8]) -> Judged
     requires { ⌜ sound (now sheet) ≡ true ⌝ }
-    ensures { λ r. ⌜ r ≡ judgedFrame (lent (now (sheet .entry)) (now (bank .entry))) (now (frame .entry)) ⌝ }
+    ensures { λ r. ⌜ r ≡ judgedFrame (lentWith (now (sheet .entry)) (now (bank .entry)) (now (ring .entry))) (now (frame .entry)) ⌝ }
 {
     let Passed::Frame(passed) = frame::taken_apart(frame) else {
         return Judged::FailsCheck;
@@ -73,7 +74,7 @@ pub(crate) fn judged_frame(sheet: &[u8], bank: &[u8], frame: &[u8]) -> Judged
     if !function_allowed(sheet, parts.function) {
         return Judged::FunctionNotAllowed;
     }
-    judged_length(sheet, bank, frame, parts)
+    judged_length(sheet, bank, ring, frame, parts)
 }
 
 // Rules J40 and J41: a 10 has nine bytes and those that its byte count says, any other function eight.
@@ -90,32 +91,29 @@ fn has_wrong_length(parts: Parts) -> bool
 }
 
 // Step 4.
-fn judged_length(sheet: &[u8], bank: &[u8], frame: &[u8], parts: Parts) -> Judged
+fn judged_length(sheet: &[u8], bank: &[u8], ring: &[u8], frame: &[u8], parts: Parts) -> Judged
     requires { ⌜ Known (now sheet) (now frame) parts ⌝ }
-    ensures { λ r. ⌜ r ≡ judgedFrom 3 (lent (now (sheet .entry)) (now (bank .entry))) (now (frame .entry)) ⌝ }
+    ensures { λ r. ⌜ r ≡ judgedFrom 3 (lentWith (now (sheet .entry)) (now (bank .entry)) (now (ring .entry))) (now (frame .entry)) ⌝ }
 {
     if has_wrong_length(parts) {
         return Judged::WrongLength;
     }
-    judged_count(sheet, bank, frame, parts)
+    judged_count(sheet, bank, ring, frame, parts)
 }
 
 // Step 5: a count is not 0, and the byte count of 10 is twice its count.
-fn judged_count(sheet: &[u8], bank: &[u8], frame: &[u8], parts: Parts) -> Judged
+fn judged_count(sheet: &[u8], bank: &[u8], ring: &[u8], frame: &[u8], parts: Parts) -> Judged
     requires { ⌜ Known (now sheet) (now frame) parts ⌝ }
-    ensures { λ r. ⌜ r ≡ judgedFrom 4 (lent (now (sheet .entry)) (now (bank .entry))) (now (frame .entry)) ⌝ }
+    ensures { λ r. ⌜ r ≡ judgedFrom 4 (lentWith (now (sheet .entry)) (now (bank .entry)) (now (ring .entry))) (now (frame .entry)) ⌝ }
 {
     if parts.function == frame::READS {
-        if parts.second == 0 {
-            return Judged::WrongCount;
-        }
-        return judged_read(sheet, bank, frame, parts);
+        return judged_reading(sheet, bank, ring, frame, parts);
     }
     if parts.function == frame::CLEARS {
-        return judged_clear(sheet, bank, frame, parts);
+        return judged_clear(sheet, bank, ring, frame, parts);
     }
     if parts.function == frame::WRITES_ONE {
-        return judged_write(sheet, bank, frame, parts);
+        return judged_write(sheet, bank, ring, frame, parts);
     }
     if parts.second == 0 {
         return Judged::WrongCount;
@@ -123,14 +121,62 @@ fn judged_count(sheet: &[u8], bank: &[u8], frame: &[u8], parts: Parts) -> Judged
     if parts.bytes as u32 != 2 * (parts.second as u32) {
         return Judged::WrongCount;
     }
-    judged_write(sheet, bank, frame, parts)
+    judged_write(sheet, bank, ring, frame, parts)
 }
 
-// Step 6 for a read: at most 47 registers, and every address in an area.
-fn judged_read(sheet: &[u8], bank: &[u8], frame: &[u8], parts: Parts) -> Judged
+// Step 5 for a read, and whether it is of registers or of a record: records are read one at a time.
+fn judged_reading(sheet: &[u8], bank: &[u8], ring: &[u8], frame: &[u8], parts: Parts) -> Judged
     requires { ⌜ Known (now sheet) (now frame) parts ⌝ }
     requires { ⌜ parts .function ≡ reads ⌝ }
-    ensures { λ r. ⌜ r ≡ judgedFrom 5 (lent (now (sheet .entry)) (now (bank .entry))) (now (frame .entry)) ⌝ }
+    ensures { λ r. ⌜ r ≡ judgedFrom 4 (lentWith (now (sheet .entry)) (now (bank .entry)) (now (ring .entry))) (now (frame .entry)) ⌝ }
+{
+    if parts.second == 0 {
+        return Judged::WrongCount;
+    }
+    let records = rows::record_area(sheet);
+    if !one_row::in_records(parts.start as u32, records) {
+        return judged_read(sheet, bank, ring, frame, parts);
+    }
+    if parts.second != 1 {
+        return Judged::WrongCount;
+    }
+    judged_record(sheet, bank, ring, frame, parts, records)
+}
+
+// Step 6 for a read of a record: it is one of those that are stored. The newest is at its place, and each older one a place in front of the
+// one behind it, round from place 0 to the last.
+fn judged_record(
+    sheet: &[u8],
+    bank: &[u8],
+    ring: &[u8],
+    frame: &[u8],
+    parts: Parts,
+    records: RecordArea,
+) -> Judged
+    requires { ⌜ AsksRecord (now sheet) (now frame) parts records ⌝ }
+    ensures { λ r. ⌜ r ≡ judgedFrom 5 (lentWith (now (sheet .entry)) (now (bank .entry)) (now (ring .entry))) (now (frame .entry)) ⌝ }
+{
+    let newer = parts.start as u32 - records.first as u32;
+    let stored = words::word_at(ring, 2) as u32;
+    if stored <= newer {
+        return Judged::WrongAddress;
+    }
+    let all = records.records as u32;
+    let newest = words::word_at(ring, 0) as u32;
+    let place = (newest + all - newer) % all;
+    let words = records.words as u32;
+    Judged::GoodRecord {
+        first: 2 + place * words,
+        many: words,
+    }
+}
+
+// Step 6 for a read of registers: at most 47, and every address in an area.
+fn judged_read(sheet: &[u8], bank: &[u8], ring: &[u8], frame: &[u8], parts: Parts) -> Judged
+    requires { ⌜ Known (now sheet) (now frame) parts ⌝ }
+    requires { ⌜ parts .function ≡ reads ⌝ }
+    requires { ⌜ startsInRecords (now sheet) (now frame) ≡ false ⌝ }
+    ensures { λ r. ⌜ r ≡ judgedFrom 5 (lentWith (now (sheet .entry)) (now (bank .entry)) (now (ring .entry))) (now (frame .entry)) ⌝ }
 {
     if frame::MOST_READ < parts.second {
         return Judged::WrongAddress;
@@ -146,10 +192,10 @@ fn judged_read(sheet: &[u8], bank: &[u8], frame: &[u8], parts: Parts) -> Judged
 }
 
 // Steps 6 and 7 for a clear: at the clear address, with the value 0.
-fn judged_clear(sheet: &[u8], bank: &[u8], frame: &[u8], parts: Parts) -> Judged
+fn judged_clear(sheet: &[u8], bank: &[u8], ring: &[u8], frame: &[u8], parts: Parts) -> Judged
     requires { ⌜ Known (now sheet) (now frame) parts ⌝ }
     requires { ⌜ parts .function ≡ clears ⌝ }
-    ensures { λ r. ⌜ r ≡ judgedFrom 5 (lent (now (sheet .entry)) (now (bank .entry))) (now (frame .entry)) ⌝ }
+    ensures { λ r. ⌜ r ≡ judgedFrom 5 (lentWith (now (sheet .entry)) (now (bank .entry)) (now (ring .entry))) (now (frame .entry)) ⌝ }
 {
     if parts.start != rows::clear_address(sheet) {
         return Judged::WrongAddress;
@@ -172,10 +218,10 @@ fn many_of(parts: Parts) -> u16
 }
 
 // Steps 6 and 7 for a write: every address in an access 3 area, and no bad item.
-fn judged_write(sheet: &[u8], bank: &[u8], frame: &[u8], parts: Parts) -> Judged
+fn judged_write(sheet: &[u8], bank: &[u8], ring: &[u8], frame: &[u8], parts: Parts) -> Judged
     requires { ⌜ Known (now sheet) (now frame) parts ⌝ }
     requires { ⌜ isWrite (now frame) ≡ true ⌝ }
-    ensures { λ r. ⌜ r ≡ judgedFrom 5 (lent (now (sheet .entry)) (now (bank .entry))) (now (frame .entry)) ⌝ }
+    ensures { λ r. ⌜ r ≡ judgedFrom 5 (lentWith (now (sheet .entry)) (now (bank .entry)) (now (ring .entry))) (now (frame .entry)) ⌝ }
 {
     let many = many_of(parts);
     let run = lookup::reached(sheet, Purpose::Write, parts.start as u32);

@@ -1,6 +1,7 @@
 pub mod CaseSet
 pub mod Order
 pub mod Records
+pub mod Lending
 pub mod Judging
 pub mod Stopping
 pub mod Placing

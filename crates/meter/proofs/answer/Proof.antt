@@ -7,9 +7,10 @@ use borrow.Author.Tests.{lt-ltb, le-ltb}
 use denote.Ref.{now}
 use lib.ListN.{length}
 use Rattle.refusals.specs.declared.Answer.the-variants.{Done}
-use Rattle.bank_rules.specs.Calls.{Lent, lent, checkAnswer}
-use Rattle.bank_rules.proofs.Changes.{check-passed}
+use Rattle.bank_rules.specs.Calls.{Lent, lentWith}
+use Rattle.meter_rules.proofs.Lending.{lent-passed}
 use Rattle.meter_rules.specs.declared.Judged.{Judged}
+use Rattle.meter_rules.specs.Judgement.{lentAnswer}
 use Rattle.meter_rules.specs.Answer.{leastBuffer, actedOn}
 use Rattle.meter_rules.proofs.Closing.{judged-room}
 use Rattle.meter.proofs.Answering.{answer-refused, answer-small, answer-acted}
@@ -20,10 +21,10 @@ use Rattle.meter.proofs.answer.Tie as tie
 -- sheet and bank were checked
 module _ (c : tie.After-check) where
   abbrev start : tie.Start
-  start = c .before .before .before .before .before .before
+  start = c .before .before .before .before .before .before .before
 
   abbrev given : Lent
-  given = lent (now (start .args .sheet)) (now (start .args .bank))
+  given = lentWith (now (start .args .sheet)) (now (start .args .bank)) (now (start .args .ring))
 
   abbrev frame : List ℕ
   frame = now (start .args .frame)
@@ -31,7 +32,7 @@ module _ (c : tie.After-check) where
   abbrev buffer : List ℕ
   buffer = now (start .args .buffer)
 
-  checks : c .check .result ≡ checkAnswer given
+  checks : c .check .result ≡ lentAnswer given
   checks = c .check .ensures
 
 -- .. and pass, and the buffer is large enough
@@ -58,14 +59,14 @@ returns-2 c =
 judged-frame-requires : tie.Need-judged-frame-requires
 judged-frame-requires c κs =
     let at = checked (c .before) in
-    check-passed (given at) (sym (checks at) ∙ passes (c .before)) .right
+    lent-passed (given at) (sym (checks at) ∙ passes (c .before)) .0 .right
 
 acted-requires : tie.Need-acted-requires
 acted-requires c κs =
     let judging = c .before .before in
     let ready = judging .before .before in
     let at = checked ready in
-    judged-room (given at) (frame at) (buffer at) (judging .judged-frame .ensures) (enough ready)
+    judged-room (given at) (frame at) (buffer at) (lent-passed (given at) (sym (checks at) ∙ passes ready) .0 .right) (judging .judged-frame .ensures) (enough ready)
 
 returns-3 : tie.Need-returns-3
 returns-3 c =

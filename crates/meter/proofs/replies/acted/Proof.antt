@@ -3,7 +3,7 @@ use mathlib.Core.Path.{_≡_, _∙_, ap}
 use mathlib.Core.List.{List}
 use Prim.Native.Nat.{ℕ, _*_}
 use denote.Ref.{now}
-use Rattle.bank_rules.specs.Calls.{Lent, lent}
+use Rattle.bank_rules.specs.Calls.{Lent, lentWith}
 use Rattle.bank_rules.specs.Bank.{rateOf}
 use Rattle.words.specs.Words.{wordAt}
 use Rattle.meter.proofs.Acting.{room-same, acts}
@@ -17,10 +17,10 @@ module _ (c : tie.After-make-stores) where
   read = c .before .before
 
   abbrev start : tie.Start
-  start = read .before .before .before .before .before .before .before
+  start = read .before .before .before .before .before .before .before .before
 
   abbrev given : Lent
-  given = lent (now (start .args .sheet)) (now (start .args .bank))
+  given = lentWith (now (start .args .sheet)) (now (start .args .bank)) (now (start .args .ring))
 
   abbrev frame : List ℕ
   frame = now (start .args .frame)

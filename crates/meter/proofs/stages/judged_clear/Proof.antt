@@ -6,7 +6,7 @@ use mathlib.Core.List.{List}
 use lib.Dec.{eqb}
 use borrow.Author.Tests.{eq-eqb, ne-eqb}
 use denote.Ref.{now}
-use Rattle.bank_rules.specs.Calls.{Lent, lent}
+use Rattle.bank_rules.specs.Calls.{Lent, lentWith}
 use Rattle.frame.specs.declared.Parts.{Parts}
 use Rattle.meter_rules.specs.Steps.{wrongAddress, wrongValue}
 use Rattle.sheet_rules.specs.Rows.{clearAddress}
@@ -18,10 +18,10 @@ use Rattle.meter.proofs.stages.judged_clear.Tie as tie
 -- the clear address was read
 module _ (c : tie.After-clear-address) where
   abbrev start : tie.Start
-  start = c .before .before .before .before
+  start = c .before .before .before .before .before
 
   abbrev given : Lent
-  given = lent (now (start .args .sheet)) (now (start .args .bank))
+  given = lentWith (now (start .args .sheet)) (now (start .args .bank)) (now (start .args .ring))
 
   abbrev frame : List ℕ
   frame = now (start .args .frame)
@@ -29,8 +29,8 @@ module _ (c : tie.After-clear-address) where
   abbrev parts : Parts
   parts = start .args .parts
 
-  address : wrongAddress (given .sheet) frame ≡ not (eqb (parts .start) (clearAddress (given .sheet)))
-  address = clear-of-parts frame (start .pre .0 .apart) (start .pre .1) (given .sheet)
+  address : wrongAddress given frame ≡ not (eqb (parts .start) (clearAddress (given .sheet)))
+  address = clear-of-parts frame (start .pre .0 .apart) (start .pre .1) given
 
   value : wrongValue frame ≡ not (eqb (parts .second) 0)
   value = value-of-parts frame (start .pre .0 .apart) (start .pre .1)
@@ -40,7 +40,7 @@ module _ (c : tie.Else1) where
   abbrev read : tie.After-clear-address
   read = c .before .before
 
-  here : wrongAddress (given read .sheet) (frame read) ≡ false
+  here : wrongAddress (given read) (frame read) ≡ false
   here = address read ∙ simp (eq-eqb (parts read .start) (clearAddress (given read .sheet)) (c .if1 .left ∙ read .clear-address .ensures))
 
 returns : tie.Need-returns

@@ -5,7 +5,7 @@ use mathlib.Core.List.{List}
 use mathlib.Core.Logic.{inl, inr}
 use borrow.Author.Tests.{eq-eqb, ne-eqb}
 use denote.Ref.{now}
-use Rattle.bank_rules.specs.Calls.{Lent, lent}
+use Rattle.bank_rules.specs.Calls.{Lent, lentWith}
 use Rattle.frame.specs.declared.Parts.{Parts}
 use Rattle.frame.specs.Frame.{writesMany}
 use Rattle.meter.proofs.Staging.{last-of-parts, write-of-parts, count-stops, count-passes}
@@ -16,10 +16,10 @@ use Rattle.meter.proofs.stages.judged_count.Tie as tie
 -- in front of the first test
 module _ (c : tie.After-struct-known) where
   abbrev start : tie.Start
-  start = c .before .before .before .before
+  start = c .before .before .before .before .before
 
   abbrev given : Lent
-  given = lent (now (start .args .sheet)) (now (start .args .bank))
+  given = lentWith (now (start .args .sheet)) (now (start .args .bank)) (now (start .args .ring))
 
   abbrev frame : List ℕ
   frame = now (start .args .frame)
@@ -28,20 +28,10 @@ module _ (c : tie.After-struct-known) where
   parts = start .args .parts
 
 returns : tie.Need-returns
-returns c =
-    let reading = c .before .before in
-    let at = reading .before in
-    count-stops (given at) (frame at) (start at .pre .apart) (simp (reading .if1 .taken, eq-eqb (parts at .second) 0 (c .if2 .taken)))
+returns c = c .judged-reading .ensures
 
 returns-2 : tie.Need-returns-2
 returns-2 c =
-    let reading = c .before .before .before in
-    let at = reading .before in
-    c .judged-read .ensures
-    ∙ count-passes (given at) (frame at) (start at .pre .apart) (simp (reading .if1 .taken, ne-eqb (parts at .second) 0 (c .before .if2 .left)))
-
-returns-3 : tie.Need-returns-3
-returns-3 c =
     let at = c .before .before .before .before in
     c .judged-clear .ensures ∙ count-passes (given at) (frame at) (start at .pre .apart) (simp (c .before .if3 .taken))
 
@@ -54,8 +44,8 @@ judged-write-requires c κs =
     let at = at-first (c .before .before) in
     (start at .pre, write-of-parts (frame at) (start at .pre .apart) (inl (c .if4 .taken)))
 
-returns-4 : tie.Need-returns-4
-returns-4 c =
+returns-3 : tie.Need-returns-3
+returns-3 c =
     let at = at-first (c .before .before .before) in
     c .judged-write .ensures ∙ count-passes (given at) (frame at) (start at .pre .apart) (simp (c .before .if4 .taken))
 
@@ -69,14 +59,14 @@ module _ (c : tie.Else4) where
       last-of-parts (frame first) (start first .pre .apart) (now (start first .args .sheet)) (start first .pre .allowed)
       (c .before .before .before .before .if1 .left) (c .before .before .if3 .left) (c .if4 .left)
 
-returns-5 : tie.Need-returns-5
-returns-5 c =
+returns-4 : tie.Need-returns-4
+returns-4 c =
     let many = c .before .before in
     let at = first many in
     count-stops (given at) (frame at) (start at .pre .apart) (simp (ten many, eq-eqb (parts at .second) 0 (c .if5 .taken)))
 
-returns-6 : tie.Need-returns-6
-returns-6 c =
+returns-5 : tie.Need-returns-5
+returns-5 c =
     let some = c .before .before .before in
     let many = some .before .before in
     let at = first many in
@@ -89,8 +79,8 @@ judged-write-requires-2 c κs =
     let at = first many in
     (start at .pre, write-of-parts (frame at) (start at .pre .apart) (inr (ten many)))
 
-returns-7 : tie.Need-returns-7
-returns-7 c =
+returns-6 : tie.Need-returns-6
+returns-6 c =
     let some = c .before .before .before .before in
     let many = some .before .before in
     let at = first many in
@@ -102,17 +92,16 @@ pub judged-count-spec : {M : Type 1} → statement M
 judged-count-spec =
     tie.close
     (tie.spec
+    (λ c κs. search needs)
     returns
     (λ c κs. search needs)
     returns-2
-    (λ c κs. search needs)
-    returns-3
     judged-write-requires
+    returns-3
     returns-4
+    (λ c. search needs)
+    (λ c. search needs)
+    (λ c. search needs)
     returns-5
-    (λ c. search needs)
-    (λ c. search needs)
-    (λ c. search needs)
-    returns-6
     judged-write-requires-2
-    returns-7)
+    returns-6)

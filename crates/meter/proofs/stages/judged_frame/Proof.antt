@@ -4,7 +4,7 @@ use mathlib.Core.Bool.{true, false, not}
 use mathlib.Core.List.{List}
 use Prim.Native.Nat.{ℕ}
 use denote.Ref.{now}
-use Rattle.bank_rules.specs.Calls.{Lent, lent}
+use Rattle.bank_rules.specs.Calls.{Lent, lentWith}
 use Rattle.meter_rules.specs.declared.Judged.the-variants.{FunctionNotAllowed}
 use Rattle.meter_rules.specs.Steps.{judgedFrame}
 use Rattle.meter.specs.Stages.{judgedFrom}
@@ -16,10 +16,10 @@ use Rattle.meter.proofs.stages.judged_frame.Tie as tie
 -- the frame was taken apart
 module _ (c : tie.After-taken-apart) where
   abbrev start : tie.Start
-  start = c .before .before .before .before
+  start = c .before .before .before .before .before
 
   abbrev given : Lent
-  given = lent (now (start .args .sheet)) (now (start .args .bank))
+  given = lentWith (now (start .args .sheet)) (now (start .args .bank)) (now (start .args .ring))
 
   abbrev frame : List ℕ
   frame = now (start .args .frame)

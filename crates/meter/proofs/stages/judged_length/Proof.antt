@@ -3,7 +3,7 @@ use mathlib.Core.Path.{_∙_, sym}
 use Prim.Native.Nat.{ℕ}
 use mathlib.Core.List.{List}
 use denote.Ref.{now}
-use Rattle.bank_rules.specs.Calls.{Lent, lent}
+use Rattle.bank_rules.specs.Calls.{Lent, lentWith}
 use Rattle.meter.proofs.Staging.{length-stops, length-passes}
 use borrow.Author.Needs.{needs}
 use Rattle.meter.proofs.stages.judged_length.Statement.{statement}
@@ -12,10 +12,10 @@ use Rattle.meter.proofs.stages.judged_length.Tie as tie
 -- the length was tested
 module _ (c : tie.After-has-wrong-length) where
   abbrev start : tie.Start
-  start = c .before .before .before .before
+  start = c .before .before .before .before .before
 
   abbrev given : Lent
-  given = lent (now (start .args .sheet)) (now (start .args .bank))
+  given = lentWith (now (start .args .sheet)) (now (start .args .bank)) (now (start .args .ring))
 
   abbrev frame : List ℕ
   frame = now (start .args .frame)

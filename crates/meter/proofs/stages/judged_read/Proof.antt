@@ -6,7 +6,7 @@ use mathlib.Core.List.{List}
 use lib.Dec.{ltb}
 use borrow.Author.Tests.{lt-ltb, le-ltb}
 use denote.Ref.{now}
-use Rattle.bank_rules.specs.Calls.{Lent, lent}
+use Rattle.bank_rules.specs.Calls.{Lent, lentWith}
 use Rattle.lists.specs.Lists.{upFrom}
 use Rattle.sheet_rules.specs.Runs.{allOpen, runFrom}
 use Rattle.frame.specs.declared.Parts.{Parts}
@@ -23,10 +23,10 @@ use Rattle.meter.proofs.stages.judged_read.Tie as tie
 -- in front of the first test
 module _ (c : tie.After-struct-known) where
   abbrev start : tie.Start
-  start = c .before .before .before .before
+  start = c .before .before .before .before .before
 
   abbrev given : Lent
-  given = lent (now (start .args .sheet)) (now (start .args .bank))
+  given = lentWith (now (start .args .sheet)) (now (start .args .bank)) (now (start .args .ring))
 
   abbrev frame : List ℕ
   frame = now (start .args .frame)
@@ -34,8 +34,8 @@ module _ (c : tie.After-struct-known) where
   abbrev parts : Parts
   parts = start .args .parts
 
-  address : wrongAddress (given .sheet) frame ≡ (ltb mostRead (parts .second) || not (allOpen Read (given .sheet) (upFrom (parts .start) (parts .second))))
-  address = read-of-parts frame (start .pre .0 .apart) (start .pre .1) (given .sheet)
+  address : wrongAddress given frame ≡ (ltb mostRead (parts .second) || not (allOpen Read (given .sheet) (upFrom (parts .start) (parts .second))))
+  address = read-of-parts frame (start .pre .0 .apart) (start .pre .1 .0) given (start .pre .1 .1)
 
 -- at most 47 registers, and the run was looked up
 module _ (c : tie.After-reached) where
@@ -67,7 +67,7 @@ returns-3 : tie.Need-returns-3
 returns-3 c =
     let found = c .before .before .before .before .before in
     let at = first found in
-    good-read-of-parts (frame at) (start at .pre .0 .apart) (start at .pre .1) (given at) (ap (λ (r : Run). r .place) (run found))
+    good-read-of-parts (frame at) (start at .pre .0 .apart) (start at .pre .1 .0) (given at) (start at .pre .1 .1) (ap (λ (r : Run). r .place) (run found))
     (address at
     ∙ simp (below found, run-open (given at .sheet) (start at .pre .0 .sheetSound) Read (parts at .start) (run found) (parts at .second) (c .before .if2 .left)))
 

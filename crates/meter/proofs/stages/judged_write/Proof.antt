@@ -5,7 +5,7 @@ use mathlib.Core.Path.{_≡_, ap}
 use mathlib.Core.Bool.{true}
 use mathlib.Core.List.{List}
 use denote.Ref.{now}
-use Rattle.bank_rules.specs.Calls.{Lent, lent}
+use Rattle.bank_rules.specs.Calls.{Lent, lentWith}
 use borrow.Author.Needs.{needs}
 use Rattle.sheet_rules.specs.declared.Purpose.the-variants.{Write}
 use Rattle.sheet_rules.specs.declared.Run.{Run}
@@ -25,10 +25,10 @@ use Rattle.meter.proofs.stages.judged_write.Tie as tie
 -- the run was looked up
 module _ (c : tie.After-reached) where
   abbrev start : tie.Start
-  start = c .before .before .before .before .before .before
+  start = c .before .before .before .before .before .before .before
 
   abbrev given : Lent
-  given = lent (now (start .args .sheet)) (now (start .args .bank))
+  given = lentWith (now (start .args .sheet)) (now (start .args .bank)) (now (start .args .ring))
 
   abbrev frame : List ℕ
   frame = now (start .args .frame)
