@@ -1,2 +1,5 @@
 pub mod Sound
 pub mod Places
+pub mod Adding
+pub mod Kept
+pub mod Records
