@@ -61,6 +61,19 @@ module _ (records : RecordArea) (ring bytes : List ℕ) (whole : ringSound recor
           let over : leb (storedCount ring + 1) (records .records) ≡ false = lt-leb (storedCount ring + 1) (records .records) (omega arith) in
           stays-full (omega (arith, told .count)) ∙ sym (ap (λ (b : Bool). cond b (storedCount ring + 1) (records .records)) over)
 
+  -- there is one, and one behind each that was stored where there is room
+  pub some-stored : 1 ≤ storedCount (added records ring bytes)
+  some-stored = omega (arith, count-after, count-some records ring some)
+
+  pub next-stored : (k : ℕ) → k ≤ storedCount ring → k + 1 ≤ records .records → k + 1 ≤ storedCount (added records ring bytes)
+  next-stored k held room = go (ltb (storedCount ring) (records .records)) refl
+    where
+      go : (less : Bool) → ltb (storedCount ring) (records .records) ≡ less → k + 1 ≤ storedCount (added records ring bytes)
+      go true e = omega (arith, stores-one-more (ltb-true (storedCount ring) (records .records) e))
+      go false e =
+          let most = ltb-false (storedCount ring) (records .records) e in
+          omega (arith, stays-full (omega (arith, told .count)))
+
   -- ---- the place of the newest record
 
   pub first-at-zero : storedCount ring ≡ 0 → newestPlace (added records ring bytes) ≡ 0

@@ -3,3 +3,5 @@ pub mod Places
 pub mod Adding
 pub mod Kept
 pub mod Records
+pub mod History
+pub mod Calls
