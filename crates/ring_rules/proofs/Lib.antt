@@ -5,3 +5,4 @@ pub mod Kept
 pub mod Records
 pub mod History
 pub mod Calls
+pub mod RingLimits
