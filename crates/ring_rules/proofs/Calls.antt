@@ -27,13 +27,15 @@ use Rattle.ring_rules.proofs.Kept.{stays-sound}
 module _ (sheet ring : List ℕ) where
   -- ---- a ring that goes with a sheet
 
-  pub fits-sound : hasRecords sheet ≡ true → ringFits sheet ring ≡ true → ringSound (recordArea sheet) ring ≡ true
+  pub fits-by-records : hasRecords sheet ≡ true → ringFits sheet ring ≡ ringSound (recordArea sheet) ring
   unfolding ringFits
-  fits-sound has fitting = sym (ap (λ (b : Bool). cond b (ringSound (recordArea sheet) ring) (eqb (length ring) 0)) has) ∙ fitting
+  fits-by-records has = ap (λ (b : Bool). cond b (ringSound (recordArea sheet) ring) (eqb (length ring) 0)) has
+
+  pub fits-sound : hasRecords sheet ≡ true → ringFits sheet ring ≡ true → ringSound (recordArea sheet) ring ≡ true
+  fits-sound has fitting = sym (fits-by-records has) ∙ fitting
 
   pub sound-fits : hasRecords sheet ≡ true → ringSound (recordArea sheet) ring ≡ true → ringFits sheet ring ≡ true
-  unfolding ringFits
-  sound-fits has whole = ap (λ (b : Bool). cond b (ringSound (recordArea sheet) ring) (eqb (length ring) 0)) has ∙ whole
+  sound-fits has whole = fits-by-records has ∙ whole
 
   -- ---- the check of a ring
 
