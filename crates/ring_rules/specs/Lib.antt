@@ -1,2 +1,3 @@
 pub mod Ring
 pub mod Calls
+pub mod Theorems
