@@ -138,7 +138,7 @@ module _ (given : Lent) (frame : List ℕ) where
 -- ---- step 2, read back: the frame is for this station and its parts are these, or it is for another
 
 module _ (given : Lent) (frame : List ℕ) {passed : Parts} (apart : passed ≡ partsOf frame) {answer : Addressed}
-    (is : answer ≡ addressedTo given passed) where
+    (is : answer ≡ addressedTo (given .sheet) (given .bank) passed) where
   pub elsewhere : answer ≡ Elsewhere → otherStation given frame ≡ true
   unfolding addressedTo
   elsewhere told =
@@ -170,7 +170,7 @@ module _ (given : Lent) (frame : List ℕ) {first : Passed} (is : first ≡ pass
   pub fails-first : first ≡ Fails → FailsCheck ≡ judgedFrame given frame
   fails-first told = stops-check given frame (ap not (passed-false frame is told))
 
-  module _ {passed : Parts} (told : first ≡ Frame passed) {next : Addressed} (is-next : next ≡ addressedTo given passed) where
+  module _ {passed : Parts} (told : first ≡ Frame passed) {next : Addressed} (is-next : next ≡ addressedTo (given .sheet) (given .bank) passed) where
     passing : failsCheck frame ≡ false
     passing = ap not (passed-true frame is told)
 

@@ -19,8 +19,8 @@ use Rattle.meter.specs.declared.stages.Addressed.{Addressed}
 use Rattle.meter.specs.declared.stages.Addressed.the-variants.{Here, Elsewhere}
 
 -- what step 2 answers: a frame for the bank's station, taken apart, or that it is for another
-unfoldable pub addressedTo : Lent → Parts → Addressed
-addressedTo given parts = cond (eqb (parts .station) (stationOf (given .sheet) (given .bank))) (Here parts) Elsewhere
+unfoldable pub addressedTo : List ℕ → List ℕ → Parts → Addressed
+addressedTo sheet bank parts = cond (eqb (parts .station) (stationOf sheet bank)) (Here parts) Elsewhere
 
 -- what step 4 tests, by the parts of a frame
 abbrev pub wrongLengthIn : Parts → Bool

@@ -3,7 +3,7 @@ ghost use mathlib.Core.Path.{_≡_};
 ghost use mathlib.Core.Bool.{true, false};
 ghost use Rattle.meter.specs.Stages.{addressedTo, wrongLengthIn, judgedFrom, Known, AsksRecord};
 ghost use Rattle.sheet_rules.specs.Rules.{sound};
-ghost use Rattle.bank_rules.specs.Calls.{lent, lentWith};
+ghost use Rattle.bank_rules.specs.Calls.{lentWith};
 ghost use Rattle.frame.specs.Frame.{reads, clears, isWrite, manyOf};
 ghost use Rattle.meter_rules.specs.Steps.{codeAllowed, startsInRecords, judgedFrame};
 use crate::values;
@@ -31,7 +31,7 @@ pub enum Addressed {
 
 // Step 2: the station byte is the bank's address.
 fn for_station(sheet: &[u8], bank: &[u8], parts: Parts) -> Addressed
-    ensures { λ r. ⌜ r ≡ addressedTo (lent (now (sheet .entry)) (now (bank .entry))) parts ⌝ }
+    ensures { λ r. ⌜ r ≡ addressedTo (now (sheet .entry)) (now (bank .entry)) parts ⌝ }
 {
     let address = words::word_at(bank, 2 * (rows::address_place(sheet) as usize));
     if parts.station as u16 != address {
