@@ -1,37 +1,41 @@
+-- `meter::check` meets its contract: the refusals of the bank's check, then the ring's. Assumes nothing.
+use mathlib.Core.Path.{_∙_}
+use denote.Ref.{now}
+use Rattle.lists.proofs.Tests.{refused, passed}
+use Rattle.meter_rules.proofs.Lending.{lent-refused, lent-misfits, lent-done}
 use borrow.Author.Needs.{needs}
 use Rattle.meter.proofs.check.Statement.{statement}
 use Rattle.meter.proofs.check.Tie as tie
-use Rattle.meter.proofs.check.Reads as reads
-use Rattle.meter.proofs.check.Lts as lts
-use Rattle.bank.proofs.check.Reads as check-reads
-use Rattle.ring.proofs.fits.Reads as fits-reads
 
--- src/lib.rt:23:9
 check-requires : tie.Need-check-requires
 check-requires c κs = search needs
 
 enum-told : tie.Need-enum-told
 enum-told c = search needs
 
--- src/lib.rt:25:9
 enum-told-2 : tie.Need-enum-told-2
 enum-told-2 c = search needs
 
--- src/lib.rt:25:9
 returns : tie.Need-returns
-returns c = ?
+returns c =
+    let a = c .before .before .before .before .before .before .args in
+    let told = c .enum-told2 .given .1 in
+    told ∙ lent-refused (now (a .sheet)) (now (a .bank)) (now (a .ring)) (c .before .before .check .ensures) told
 
--- src/lib.rt:27:9
 fits-requires : tie.Need-fits-requires
 fits-requires c κs = search needs
 
--- src/lib.rt:28:9
 returns-2 : tie.Need-returns-2
-returns-2 c = ?
+returns-2 c =
+    let a = c .before .before .before .before .before .before .before .before .args in
+    lent-misfits (now (a .sheet)) (now (a .bank)) (now (a .ring)) (c .before .before .before .before .check .ensures) (c .before .before .enum-told .given .1)
+    (refused (c .before .fits2 .ensures) (c .if1 .taken))
 
--- src/lib.rt:20:1
 returns-3 : tie.Need-returns-3
-returns-3 c = ?
+returns-3 c =
+    let a = c .before .before .before .before .before .before .before .before .args in
+    lent-done (now (a .sheet)) (now (a .bank)) (now (a .ring)) (c .before .before .before .before .check .ensures) (c .before .before .enum-told .given .1)
+    (passed (c .before .fits2 .ensures) (c .if1 .left))
 
 pub check-spec : {M : Type 1} → statement M
 check-spec =
