@@ -16,6 +16,10 @@ use Rattle.cedarskein.proofs.cedarskein_post.Kinds as post
 use Rattle.cedarskein.proofs.cedarskein_post.Reads as post-reads
 use Rattle.cedarskein.proofs.cedarskein_set_mark.Kinds as set-mark
 use Rattle.cedarskein.proofs.cedarskein_set_mark.Reads as set-mark-reads
+use Rattle.cedarskein.proofs.cedarskein_ring_check.Kinds as ring-check
+use Rattle.cedarskein.proofs.cedarskein_ring_check.Reads as ring-check-reads
+use Rattle.cedarskein.proofs.cedarskein_add_record.Kinds as add-record
+use Rattle.cedarskein.proofs.cedarskein_add_record.Reads as add-record-reads
 use Rattle.cedarskein.proofs.cedarskein_answer.Kinds as answer
 use Rattle.cedarskein.proofs.cedarskein_answer.Reads as answer-reads
 use Rattle.cedarskein.proofs.cedarskein_why.Kinds as why
@@ -45,9 +49,15 @@ cedarskein-post-determined κs a x y = read-off (λ o. (o .number, (tt, (o .bank
 pub cedarskein-set-mark-determined : Determined 2 set-mark.ps set-mark.r set-mark-reads.Post
 cedarskein-set-mark-determined κs a x y = read-off (λ o. (o .number, (tt, (o .bank, (tt, tt)))))
 
-pub cedarskein-answer-determined : Determined 6 answer.ps answer.r answer-reads.Post
-cedarskein-answer-determined κs a x y p q =
-    read-off (λ o. (o .number, (tt, (o .bank, (tt, (o .buffer, (o .length, (o .rate, tt)))))))) (p .0) (q .0)
+pub cedarskein-ring-check-determined : Determined 2 ring-check.ps ring-check.r ring-check-reads.Post
+cedarskein-ring-check-determined κs a x y = read-off (λ r. (r, x .1))
 
-pub cedarskein-why-determined : Determined 5 why.ps why.r why-reads.Post
-cedarskein-why-determined κs a x y p q = read-off (λ s. (s .number, (tt, (tt, (tt, (s .reason, (s .address, tt))))))) (p .0) (q .0)
+pub cedarskein-add-record-determined : Determined 3 add-record.ps add-record.r add-record-reads.Post
+cedarskein-add-record-determined κs a x y = read-off (λ o. (o .number, (tt, (o .ring, (tt, tt)))))
+
+pub cedarskein-answer-determined : Determined 7 answer.ps answer.r answer-reads.Post
+cedarskein-answer-determined κs a x y p q =
+    read-off (λ o. (o .number, (tt, (o .bank, (tt, (tt, (o .buffer, (o .length, (o .rate, tt))))))))) (p .0) (q .0)
+
+pub cedarskein-why-determined : Determined 6 why.ps why.r why-reads.Post
+cedarskein-why-determined κs a x y p q = read-off (λ s. (s .number, (tt, (tt, (tt, (tt, (s .reason, (s .address, tt)))))))) (p .0) (q .0)

@@ -3,6 +3,7 @@ use Prim.Native.Nat.{ℕ}
 use mathlib.Core.List.{List}
 use Rattle.refusals.specs.Answers.{answerNumber}
 use Rattle.bank_rules.specs.Calls.{BankOutcome}
+use Rattle.ring_rules.specs.Calls.{RingOutcome}
 use Rattle.meter_rules.specs.Answer.{Outcome, answeredNumber, lengthIn, rateIn}
 use Rattle.why_rules.specs.declared.Explained.{Explained}
 use Rattle.why_rules.specs.Reasons.{explainedNumber, reasonIn, addressIn}
@@ -17,6 +18,17 @@ told number bank = record { number = number; bank = bank }
 
 abbrev pub toldOf : BankOutcome → Told
 toldOf outcome = told (answerNumber (outcome .answer)) (outcome .bank)
+
+-- rule N53: the number of a call that adds a record, and the ring afterwards
+pub record RingTold : Type 0 where
+  pub number : ℕ
+  pub ring : List ℕ
+
+abbrev pub ringTold : ℕ → List ℕ → RingTold
+ringTold number ring = record { number = number; ring = ring }
+
+abbrev pub ringToldOf : RingOutcome → RingTold
+ringToldOf outcome = ringTold (answerNumber (outcome .answer)) (outcome .ring)
 
 -- the number, the length and the rate of a call with one frame, and the bank and the answer buffer afterwards
 pub record Handed : Type 0 where

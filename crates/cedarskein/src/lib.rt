@@ -4,10 +4,11 @@ ghost use Rattle.words.specs.Words.{Bytes};
 ghost use Rattle.check_value.specs.Check.{startState, taken, valueOf};
 ghost use Rattle.refusals.specs.Answers.{answerNumber};
 ghost use Rattle.sheet_rules.specs.Rules.{sheetAnswer};
-ghost use Rattle.bank_rules.specs.Calls.{lent, checkAnswer, freshOutcome, postOutcome, markOutcome};
+ghost use Rattle.bank_rules.specs.Calls.{lent, lentWith, checkAnswer, freshOutcome, postOutcome, markOutcome};
+ghost use Rattle.ring_rules.specs.Calls.{ringAnswer, addOutcome};
 ghost use Rattle.meter_rules.specs.Answer.{answerOutcome};
 ghost use Rattle.why_rules.specs.Reasons.{explanation};
-ghost use Rattle.cedarskein.specs.Door.{told, toldOf, handed, handedOf, said, saidOf};
+ghost use Rattle.cedarskein.specs.Door.{told, toldOf, ringTold, ringToldOf, handed, handedOf, said, saidOf};
 
 mod numbers;
 
@@ -78,41 +79,59 @@ pub extern "C" fn cedarskein_set_mark(sheet: &[u8], bank: &mut [u8], mark: u32) 
     numbers::of_answer(bank::set_mark(sheet, bank, mark))
 }
 
-// Answers one frame: 0 with the length of the reply and the rate to send it at, 1 for silence, or 2, 3, 4, 5 in this order. Length
+// 0, or 2, 8 in this order.
+#[no_mangle]
+pub extern "C" fn cedarskein_ring_check(sheet: &[u8], ring: &[u8]) -> u32
+    ensures { λ r. ⌜ r ≡ answerNumber (ringAnswer (now (sheet .entry)) (now (ring .entry))) ⌝ }
+{
+    numbers::of_answer(ring::check(sheet, ring))
+}
+
+// Adds the bytes of one whole record to a ring: 0, or 2, 8, 7 in this order.
+#[no_mangle]
+pub extern "C" fn cedarskein_add_record(sheet: &[u8], ring: &mut [u8], bytes: &[u8]) -> u32
+    ensures { λ r. ⌜ ringTold r (now (ring .exit)) ≡ ringToldOf (addOutcome (now (sheet .entry)) (now (ring .entry)) (now (bytes .entry))) ⌝ }
+{
+    numbers::of_answer(ring::add(sheet, ring, bytes))
+}
+
+// Answers one frame: 0 with the length of the reply and the rate to send it at, 1 for silence, or 2, 3, 4, 8, 5 in this order. Length
 // and rate are written on every call, zeros where there is no reply. The second promise is the language's own rule for slices: what is lent
 // and what is left are bytes. It is said here so that the demands need not suppose it.
 #[no_mangle]
 pub extern "C" fn cedarskein_answer(
     sheet: &[u8],
     bank: &mut [u8],
+    ring: &[u8],
     frame: &[u8],
     out: &mut [u8],
     length: &mut u32,
     rate: &mut u32,
 ) -> u32
-    ensures { λ r. ⌜ handed r (now (length .exit)) (now (rate .exit)) (now (bank .exit)) (now (out .exit)) ≡ handedOf (answerOutcome (lent (now (sheet .entry)) (now (bank .entry))) (now (frame .entry)) (now (out .entry))) ⌝ }
-    ensures { λ r. ⌜ Bytes (now (sheet .entry)) × Bytes (now (bank .entry)) × Bytes (now (frame .entry)) × Bytes (now (out .entry)) × Bytes (now (bank .exit)) × Bytes (now (out .exit)) ⌝ }
+    ensures { λ r. ⌜ handed r (now (length .exit)) (now (rate .exit)) (now (bank .exit)) (now (out .exit)) ≡ handedOf (answerOutcome (lentWith (now (sheet .entry)) (now (bank .entry)) (now (ring .entry))) (now (frame .entry)) (now (out .entry))) ⌝ }
+    ensures { λ r. ⌜ Bytes (now (sheet .entry)) × Bytes (now (bank .entry)) × Bytes (now (ring .entry)) × Bytes (now (frame .entry)) × Bytes (now (out .entry)) × Bytes (now (bank .exit)) × Bytes (now (out .exit)) ⌝ }
 {
-    let answered = meter::answer(sheet, bank, frame, out);
+    let answered = meter::answer(sheet, bank, ring, frame, out);
     *length = numbers::length_of(answered);
     *rate = numbers::rate_of(answered);
     numbers::of_answered(answered)
 }
 
-// Tells why a frame gets silence or an error: 0 with the reason's number and its address, or 2, 3, 4 in this order. Reason and address are
+// Tells why a frame gets silence or an error: 0 with the reason's number and its address, or 2, 3, 4, 8 in this order. Reason and address are
 // written on every call, zeros with a refusal. The second promise is as above.
 #[no_mangle]
 pub extern "C" fn cedarskein_why(
     sheet: &[u8],
     bank: &[u8],
+    ring: &[u8],
     frame: &[u8],
     reason: &mut u32,
     address: &mut u32,
 ) -> u32
-    ensures { λ r. ⌜ said r (now (reason .exit)) (now (address .exit)) ≡ saidOf (explanation (lent (now (sheet .entry)) (now (bank .entry))) (now (frame .entry))) ⌝ }
-    ensures { λ r. ⌜ Bytes (now (sheet .entry)) × Bytes (now (bank .entry)) × Bytes (now (frame .entry)) ⌝ }
+    ensures { λ r. ⌜ said r (now (reason .exit)) (now (address .exit)) ≡ saidOf (explanation (lentWith (now (sheet .entry)) (now (bank .entry)) (now (ring .entry))) (now (frame .entry))) ⌝ }
+    ensures { λ r. ⌜ Bytes (now (sheet .entry)) × Bytes (now (bank .entry)) × Bytes (now (ring .entry)) × Bytes (now (frame .entry)) ⌝ }
 {
-    let explained = why::why(sheet, bank, frame);
+    let explained = why::why(sheet, bank, ring, frame);
     *reason = numbers::reason_in(explained);
     *address = numbers::address_in(explained);
     numbers::of_explained(explained)

@@ -1,4 +1,4 @@
-// The number of each case of the library's answers: rules N0 to N7, and Y0 to Y22 for the reasons.
+// The number of each case of the library's answers: rules N0 to N8, and Y0 to Y22 for the reasons.
 ghost use mathlib.Core.Path.{_≡_};
 ghost use Rattle.refusals.specs.Answers.{refusalNumber, answerNumber};
 ghost use Rattle.meter_rules.specs.Answer.{answeredNumber, lengthIn, rateIn};
@@ -19,6 +19,7 @@ fn of_refusal(refusal: Refusal) -> u32
         Refusal::SmallBuffer => 5,
         Refusal::NotReadOnly => 6,
         Refusal::BadInput => 7,
+        Refusal::BadRing => 8,
     }
 }
 

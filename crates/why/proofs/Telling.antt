@@ -9,15 +9,15 @@ use lib.Dec.{ltb, eqb}
 use borrow.Author.Tests.{eq-eqb, ne-eqb, eqb-true, eqb-false, lt-ltb, le-ltb, ltb-true, ltb-false}
 use Rattle.lists.specs.Cases.{when, firstCase}
 use Rattle.lists.proofs.Tests.{first-of, second-of}
-use Rattle.sheet_rules.specs.Rows.{areas, clearAddress}
+use Rattle.sheet_rules.specs.Rows.{areas, clearAddress, recordArea}
 use Rattle.sheet_rules.specs.Rules.{sound}
 use Rattle.sheet_rules.specs.Lookup.{addressOf}
 use Rattle.sheet_rules.specs.declared.Purpose.the-variants.{Read, Write}
 use Rattle.sheet_rules.specs.Runs.{allOpen, reach}
-use Rattle.bank_rules.specs.Calls.{Lent, checkAnswer}
+use Rattle.bank_rules.specs.Calls.{Lent}
 use Rattle.frame.specs.Frame.{reads, clears, mostRead, function, start, second, isWrite, count, run}
-use Rattle.meter_rules.specs.declared.Judged.the-variants.{FailsCheck, OtherStation, FunctionNotAllowed, WrongLength, WrongCount, WrongAddress, WrongValue, BadItem, GoodRead, GoodClear, GoodWrite}
-use Rattle.meter_rules.specs.Steps.{otherStation, functionNotAllowed, wrongLength, wrongCount, wrongValue, badWrite, goodFrame, judgedFrame}
+use Rattle.meter_rules.specs.declared.Judged.the-variants.{FailsCheck, OtherStation, FunctionNotAllowed, WrongLength, WrongCount, WrongAddress, WrongValue, BadItem, GoodRead, GoodRecord, GoodClear, GoodWrite}
+use Rattle.meter_rules.specs.Steps.{startsInRecords, askedStart, otherStation, functionNotAllowed, wrongLength, wrongCount, wrongAddress, wrongValue, badWrite, goodFrame, judgedFrame}
 use Rattle.meter_rules.specs.Write.{firstPlace, someBad, stopPlace}
 use Rattle.meter_rules.proofs.Order.{asks-write}
 use Rattle.why_rules.specs.declared.Reason.the-variants.{None, TooShort, TooLong, Check, Station, Function, BodyLength, Count, Address, ClearValue, Item}
@@ -28,10 +28,10 @@ use Rattle.why_rules.proofs.FirstAddress.{first-shut-reach}
 use Rattle.why_rules.proofs.FirstItem.{stop-small}
 use Rattle.refusals.specs.declared.Answer.{Answer}
 use Rattle.refusals.specs.declared.Answer.the-variants as answer
-use Rattle.bank_rules.proofs.Changes.{check-passed}
+use Rattle.meter_rules.proofs.Lending.{lent-passed}
 use Rattle.meter_rules.specs.declared.Judgement.{Judgement}
 use Rattle.meter_rules.specs.declared.Judgement.the-variants as stopped
-use Rattle.meter_rules.specs.Judgement.{judgement, judgementBy}
+use Rattle.meter_rules.specs.Judgement.{lentAnswer, judgement, judgementBy}
 use Rattle.why_rules.specs.declared.Explained.{Explained}
 use Rattle.why_rules.specs.declared.Explained.the-variants.{Refused, Because}
 use Rattle.why.specs.Told.{wronglyAddressed, reasonBy}
@@ -70,9 +70,9 @@ module _ (given : Lent) (keeps : sound (given .sheet) ≡ true) (frame : List �
       sym (told-count (given .sheet) frame is (ltb-true mostRead (second frame) (second-of (eqb (function frame) reads) (ltb mostRead (second frame)) many)))
 
   -- and an address else
-  address-shut : readsTooMany frame ≡ false → shutAddress (given .sheet) frame ≡ true
+  address-shut : wrongCount (given .sheet) frame ≡ false → readsTooMany frame ≡ false → shutAddress given frame ≡ true
       → Address (firstBadAddress (given .sheet) frame) ≡ wronglyAddressed (given .sheet) frame
-  address-shut few shut = go (which-shut (given .sheet) frame shut)
+  address-shut right few shut = go (which-shut given frame keeps right shut)
     where
       go : ((function frame ≡ reads) × (allOpen Read (given .sheet) (run frame) ≡ false))
           ⊎ ((isWrite frame ≡ true) × (allOpen Write (given .sheet) (run frame) ≡ false))
@@ -88,51 +88,70 @@ module _ (given : Lent) (keeps : sound (given .sheet) ≡ true) (frame : List �
           ∙ sym (told-write (given .sheet) frame (eqb-false (function frame) clears (asks .isClear)) (eqb-false (function frame) reads (asks .isRead)))
       go (inr (inr (is, elsewhere))) = ap Address (clear-told (given .sheet) frame is) ∙ sym (told-clear (given .sheet) frame is)
 
-  good-none : None ≡ reasonBy (goodFrame (given .sheet) frame) (given .sheet) frame
-  good-none = go (eqb (function frame) reads) (eqb (function frame) clears)
+  good-none : None ≡ reasonBy (goodFrame given frame) (given .sheet) frame
+  good-none = go (eqb (function frame) reads) (eqb (function frame) clears) (startsInRecords (given .sheet) frame)
     where
-      go : (read clear : Bool)
-          → None ≡ reasonBy (cond read (GoodRead (firstPlace (given .sheet) frame) (count frame))
+      go : (read clear inside : Bool)
+          → None ≡ reasonBy (cond read (cond inside (GoodRecord (askedStart given frame) (recordArea (given .sheet) .words))
+          (GoodRead (firstPlace (given .sheet) frame) (count frame)))
           (cond clear GoodClear (GoodWrite (firstPlace (given .sheet) frame) (count frame)))) (given .sheet) frame
-      go true clear = refl
-      go false true = refl
-      go false false = refl
+      go true clear true = refl
+      go true clear false = refl
+      go false true inside = refl
+      go false false inside = refl
 
-  -- the reason is told of where the frame stops
+  -- the reason is told of where the frame stops: from step 6 on, where step 5 lets the frame through
+  from-six : wrongCount (given .sheet) frame ≡ false
+      → firstCase (when (readsTooMany frame) Count ∷ when (shutAddress given frame) (Address (firstBadAddress (given .sheet) frame))
+      ∷ when (wrongValue frame) ClearValue ∷ when (badWrite given frame) (Item (firstBadItem given frame)) ∷ []) None
+      ≡ reasonBy (firstCase (when (wrongAddress given frame) WrongAddress ∷ when (wrongValue frame) WrongValue
+      ∷ when (badWrite given frame) (BadItem (firstPlace (given .sheet) frame) (stopPlace given frame)) ∷ []) (goodFrame given frame)) (given .sheet) frame
+  unfolding firstCase
+  from-six right =
+      go (readsTooMany frame) (shutAddress given frame) (wrongValue frame) (badWrite given frame) refl refl refl
+      ∙ sym (ap (λ (wrong : Bool). reasonBy (firstCase (when wrong WrongAddress ∷ when (wrongValue frame) WrongValue
+      ∷ when (badWrite given frame) (BadItem (firstPlace (given .sheet) frame) (stopPlace given frame)) ∷ []) (goodFrame given frame)) (given .sheet) frame)
+      (wrong-address given frame right))
+    where
+      go : (t s v h : Bool) → readsTooMany frame ≡ t → shutAddress given frame ≡ s → badWrite given frame ≡ h
+          → firstCase (when t Count ∷ when s (Address (firstBadAddress (given .sheet) frame)) ∷ when v ClearValue ∷ when h (Item (firstBadItem given frame)) ∷ []) None
+          ≡ reasonBy (firstCase (when (t || s) WrongAddress ∷ when v WrongValue
+          ∷ when h (BadItem (firstPlace (given .sheet) frame) (stopPlace given frame)) ∷ []) (goodFrame given frame)) (given .sheet) frame
+      go true s v h is-t is-s is-h = address-count is-t
+      go false true v h is-t is-s is-h = address-shut right is-t is-s
+      go false false true h is-t is-s is-h = refl
+      go false false false true is-t is-s is-h = ap (λ (place : ℕ). Item (addressOf (areas (given .sheet)) place)) whole
+        where
+          whole : stopPlace given frame ≡ stopPlace given frame % 65536
+          whole = omega (arith, stop-small given frame (second-of (isWrite frame) (someBad given frame) is-h) keeps)
+      go false false false false is-t is-s is-h = good-none
+
   pub told : reasonOf given frame ≡ reasonBy (judgedFrame given frame) (given .sheet) frame
   unfolding reasonOf judgedFrame firstCase
   told =
       go (tooShort frame) (tooLong frame) (checkDiffers frame) (otherStation given frame) (functionNotAllowed (given .sheet) frame) (wrongLength frame)
-      (wrongCount frame) (readsTooMany frame) (shutAddress (given .sheet) frame) (wrongValue frame) (badWrite given frame) refl refl refl refl refl
-      ∙ sym (ap₂ (λ (fails wrong : Bool). reasonBy
+      (wrongCount (given .sheet) frame) refl refl refl
+      ∙ sym (ap (λ (fails : Bool). reasonBy
       (firstCase (when fails FailsCheck ∷ when (otherStation given frame) OtherStation ∷ when (functionNotAllowed (given .sheet) frame) FunctionNotAllowed
-      ∷ when (wrongLength frame) WrongLength ∷ when (wrongCount frame) WrongCount ∷ when wrong WrongAddress ∷ when (wrongValue frame) WrongValue
-      ∷ when (badWrite given frame) (BadItem (firstPlace (given .sheet) frame) (stopPlace given frame)) ∷ []) (goodFrame (given .sheet) frame))
-      (given .sheet) frame) (fails-check frame) (wrong-address (given .sheet) frame))
+      ∷ when (wrongLength frame) WrongLength ∷ when (wrongCount (given .sheet) frame) WrongCount ∷ when (wrongAddress given frame) WrongAddress
+      ∷ when (wrongValue frame) WrongValue ∷ when (badWrite given frame) (BadItem (firstPlace (given .sheet) frame) (stopPlace given frame)) ∷ [])
+      (goodFrame given frame)) (given .sheet) frame) (fails-check frame))
     where
-      go : (a b c d e f g t s v h : Bool) → tooShort frame ≡ a → tooLong frame ≡ b → readsTooMany frame ≡ t → shutAddress (given .sheet) frame ≡ s
-          → badWrite given frame ≡ h
-          → firstCase (when a TooShort ∷ when b TooLong ∷ when c Check ∷ when d Station ∷ when e Function ∷ when f BodyLength ∷ when (g || t) Count
-          ∷ when s (Address (firstBadAddress (given .sheet) frame)) ∷ when v ClearValue ∷ when h (Item (firstBadItem given frame)) ∷ []) None
+      go : (a b c d e f g : Bool) → tooShort frame ≡ a → tooLong frame ≡ b → wrongCount (given .sheet) frame ≡ g
+          → firstCase (when a TooShort ∷ when b TooLong ∷ when c Check ∷ when d Station ∷ when e Function ∷ when f BodyLength ∷ when (g || readsTooMany frame) Count
+          ∷ when (shutAddress given frame) (Address (firstBadAddress (given .sheet) frame)) ∷ when (wrongValue frame) ClearValue
+          ∷ when (badWrite given frame) (Item (firstBadItem given frame)) ∷ []) None
           ≡ reasonBy (firstCase (when (a || b || c) FailsCheck ∷ when d OtherStation ∷ when e FunctionNotAllowed ∷ when f WrongLength ∷ when g WrongCount
-          ∷ when (t || s) WrongAddress ∷ when v WrongValue ∷ when h (BadItem (firstPlace (given .sheet) frame) (stopPlace given frame)) ∷ [])
-          (goodFrame (given .sheet) frame)) (given .sheet) frame
-      go true b c d e f g t s v h is-a is-b is-t is-s is-h = simp is-a
-      go false true c d e f g t s v h is-a is-b is-t is-s is-h = simp (is-a, is-b)
-      go false false true d e f g t s v h is-a is-b is-t is-s is-h = simp (is-a, is-b)
-      go false false false true e f g t s v h is-a is-b is-t is-s is-h = refl
-      go false false false false true f g t s v h is-a is-b is-t is-s is-h = refl
-      go false false false false false true g t s v h is-a is-b is-t is-s is-h = refl
-      go false false false false false false true t s v h is-a is-b is-t is-s is-h = refl
-      go false false false false false false false true s v h is-a is-b is-t is-s is-h = address-count is-t
-      go false false false false false false false false true v h is-a is-b is-t is-s is-h = address-shut is-t is-s
-      go false false false false false false false false false true h is-a is-b is-t is-s is-h = refl
-      go false false false false false false false false false false true is-a is-b is-t is-s is-h =
-          ap (λ (place : ℕ). Item (addressOf (areas (given .sheet)) place)) whole
-        where
-          whole : stopPlace given frame ≡ stopPlace given frame % 65536
-          whole = omega (arith, stop-small given frame (second-of (isWrite frame) (someBad given frame) is-h) keeps)
-      go false false false false false false false false false false false is-a is-b is-t is-s is-h = good-none
+          ∷ when (wrongAddress given frame) WrongAddress ∷ when (wrongValue frame) WrongValue
+          ∷ when (badWrite given frame) (BadItem (firstPlace (given .sheet) frame) (stopPlace given frame)) ∷ []) (goodFrame given frame)) (given .sheet) frame
+      go true b c d e f g is-a is-b is-g = simp is-a
+      go false true c d e f g is-a is-b is-g = simp (is-a, is-b)
+      go false false true d e f g is-a is-b is-g = simp (is-a, is-b)
+      go false false false true e f g is-a is-b is-g = refl
+      go false false false false true f g is-a is-b is-g = refl
+      go false false false false false true g is-a is-b is-g = refl
+      go false false false false false false true is-a is-b is-g = refl
+      go false false false false false false false is-a is-b is-g = from-six is-g
 
 -- ---- with what the call refuses
 
@@ -143,9 +162,9 @@ explainedOf (stopped.Stops judged) sheet frame = Because (reasonBy judged sheet 
 
 pub explained : (given : Lent) (frame : List ℕ) → explainedOf (judgement given frame) (given .sheet) frame ≡ explanation given frame
 unfolding judgement explanation
-explained given frame = go (checkAnswer given) refl
+explained given frame = go (lentAnswer given) refl
   where
-    go : (answer : Answer) → checkAnswer given ≡ answer
+    go : (answer : Answer) → lentAnswer given ≡ answer
         → explainedOf (judgementBy answer (judgedFrame given frame)) (given .sheet) frame ≡ explainedBy answer (reasonOf given frame)
-    go answer.Done e = ap Because (sym (told given (check-passed given e .right) frame))
+    go answer.Done e = ap Because (sym (told given (lent-passed given e .0 .right) frame))
     go (answer.Refused refusal) e = refl

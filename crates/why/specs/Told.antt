@@ -9,7 +9,7 @@ use Rattle.sheet_rules.specs.Lookup.{addressOf}
 use Rattle.sheet_rules.specs.Runs.{reach}
 use Rattle.sheet_rules.specs.declared.Purpose.the-variants.{Read, Write}
 use Rattle.meter_rules.specs.declared.Judged.{Judged}
-use Rattle.meter_rules.specs.declared.Judged.the-variants.{FailsCheck, OtherStation, FunctionNotAllowed, WrongLength, WrongCount, WrongAddress, WrongValue, BadItem, GoodRead, GoodClear, GoodWrite}
+use Rattle.meter_rules.specs.declared.Judged.the-variants.{FailsCheck, OtherStation, FunctionNotAllowed, WrongLength, WrongCount, WrongAddress, WrongValue, BadItem, GoodRead, GoodRecord, GoodClear, GoodWrite}
 use Rattle.why_rules.specs.declared.Reason.{Reason}
 use Rattle.why_rules.specs.declared.Reason.the-variants.{None, TooShort, TooLong, Check, Station, Function, BodyLength, Count, Address, ClearValue, Item}
 use Rattle.why_rules.specs.Facts.{tooShort, tooLong}
@@ -36,5 +36,6 @@ reasonBy WrongAddress sheet frame = wronglyAddressed sheet frame
 reasonBy WrongValue sheet frame = ClearValue
 reasonBy (BadItem first stop) sheet frame = Item (addressOf (areas sheet) (stop % 65536))
 reasonBy (GoodRead first many) sheet frame = None
+reasonBy (GoodRecord first many) sheet frame = None
 reasonBy GoodClear sheet frame = None
 reasonBy (GoodWrite first many) sheet frame = None

@@ -1,6 +1,6 @@
 // Why a meter gives silence or an error to a frame: the frame is judged as for an answer, and where it stops is told in the words of W1.
 ghost use mathlib.Core.Path.{_≡_};
-ghost use Rattle.bank_rules.specs.Calls.{lent};
+ghost use Rattle.bank_rules.specs.Calls.{lentWith};
 ghost use Rattle.why_rules.specs.Reasons.{explanation};
 ghost use Rattle.why.specs.Told.{unpassed, wronglyAddressed, reasonBy};
 use meter_rules::Judged;
@@ -22,7 +22,8 @@ fn unpassed(frame: &[u8]) -> Reason
     Reason::Check
 }
 
-// Which part of step 6 a frame fails: a read's count, or an address, and then which one.
+// Which part of step 6 a frame fails: a read's count, or an address, and then which one. A record lies in no area, so a run that begins at one
+// ends there.
 fn wrongly_addressed(sheet: &[u8], frame: &[u8]) -> Reason
     ensures { λ r. ⌜ r ≡ wronglyAddressed (now (sheet .entry)) (now (frame .entry)) ⌝ }
 {
@@ -58,16 +59,17 @@ fn reason_by(judged: Judged, sheet: &[u8], frame: &[u8]) -> Reason
             address: lookup::address_of(sheet, (stop % 0x10000) as u16),
         },
         Judged::GoodRead { first: _, many: _ } => Reason::None,
+        Judged::GoodRecord { first: _, many: _ } => Reason::None,
         Judged::GoodClear => Reason::None,
         Judged::GoodWrite { first: _, many: _ } => Reason::None,
     }
 }
 
-// Why a frame gets silence or an error, with nothing done: the refusals 2, 3 and 4 in this order, then the reason.
-pub fn why(sheet: &[u8], bank: &[u8], frame: &[u8]) -> Explained
-    ensures { λ r. ⌜ r ≡ explanation (lent (now (sheet .entry)) (now (bank .entry))) (now (frame .entry)) ⌝ }
+// Why a frame gets silence or an error, with nothing done: the refusals 2, 3, 4 and 8 in this order, then the reason.
+pub fn why(sheet: &[u8], bank: &[u8], ring: &[u8], frame: &[u8]) -> Explained
+    ensures { λ r. ⌜ r ≡ explanation (lentWith (now (sheet .entry)) (now (bank .entry)) (now (ring .entry))) (now (frame .entry)) ⌝ }
 {
-    match meter::judge(sheet, bank, frame) {
+    match meter::judge(sheet, bank, ring, frame) {
         Judgement::Refused(refusal) => Explained::Refused(refusal),
         Judgement::Stops(judged) => Explained::Because(reason_by(judged, sheet, frame)),
     }

@@ -30,13 +30,14 @@ returns : tie.Need-returns
 returns c =
     let d = c .before .before .before .before .before .before .before .answer in
     let e = c .before .before .before .before .before .before .before .before .before .before in (
-      ap₂ (λ (number length : ℕ). handed number length (c .before .rate-of .result) (d .last .1 .0) (d .last .1 .1 .1 .0)) (c .of-answered .ensures) (c .before .before .length-of .ensures)
-          ∙ ap (λ (rate : ℕ). handed (answeredNumber (d .result)) (lengthIn (d .result)) rate (d .last .1 .0) (d .last .1 .1 .1 .0)) (c .before .rate-of .ensures)
+      ap₂ (λ (number length : ℕ). handed number length (c .before .rate-of .result) (d .last .1 .0) (d .last .1 .1 .1 .1 .0)) (c .of-answered .ensures) (c .before .before .length-of .ensures)
+          ∙ ap (λ (rate : ℕ). handed (answeredNumber (d .result)) (lengthIn (d .result)) rate (d .last .1 .0) (d .last .1 .1 .1 .1 .0)) (c .before .rate-of .ensures)
           ∙ ap handedOf (d .ensures),
       (
-        λ i. e .before .before .before .shared-slice-known .given i .fits,
-        λ i. e .before .before .slice-known .given i .fits,
-        λ i. e .before .shared-slice-known2 .given i .fits,
+        λ i. e .before .before .before .before .shared-slice-known .given i .fits,
+        λ i. e .before .before .before .slice-known .given i .fits,
+        λ i. e .before .before .shared-slice-known2 .given i .fits,
+        λ i. e .before .shared-slice-known3 .given i .fits,
         λ i. e .slice-known2 .given i .fits,
         λ i. c .before .before .before .before .before .slice-known3 .given i .fits,
         λ i. c .before .before .before .slice-known4 .given i .fits,

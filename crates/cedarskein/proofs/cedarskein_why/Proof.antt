@@ -15,9 +15,10 @@ returns c =
           ∙ ap (said (explainedNumber (asked .why .result)) (reasonIn (asked .why .result))) (c .before .address-in .ensures)
           ∙ ap saidOf (asked .why .ensures),
       (
-        λ i. known .before .before .shared-slice-known .given i .fits,
-        λ i. known .before .shared-slice-known2 .given i .fits,
-        λ i. known .shared-slice-known3 .given i .fits,
+        λ i. known .before .before .before .shared-slice-known .given i .fits,
+        λ i. known .before .before .shared-slice-known2 .given i .fits,
+        λ i. known .before .shared-slice-known3 .given i .fits,
+        λ i. known .shared-slice-known4 .given i .fits,
       ),
     )
 

@@ -43,6 +43,7 @@ reason-by-spec =
     (λ c. search needs)
     (λ c. search needs)
     (λ c. search needs)
+    (λ c. search needs)
     returns
     (λ c. search needs)
     (λ c. search needs)
@@ -51,6 +52,7 @@ reason-by-spec =
     returns-6
     (λ c. search needs)
     returns-8
+    (λ c. search needs)
     (λ c. search needs)
     (λ c. search needs)
     (λ c. search needs))

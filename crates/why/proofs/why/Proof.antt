@@ -4,7 +4,7 @@ use mathlib.Core.Path.{_≡_, _∙_, sym, ap}
 use mathlib.Core.List.{List}
 use denote.Ref.{now}
 use borrow.Author.Needs.{needs}
-use Rattle.bank_rules.specs.Calls.{Lent, lent}
+use Rattle.bank_rules.specs.Calls.{Lent, lentWith}
 use Rattle.meter_rules.specs.declared.Judgement.{Judgement}
 use Rattle.why_rules.specs.declared.Explained.the-variants.{Because}
 use Rattle.why_rules.specs.Reasons.{explanation}
@@ -15,10 +15,10 @@ use Rattle.why.proofs.why.Tie as tie
 -- the frame was judged
 module _ (c : tie.After-judge) where
   abbrev start : tie.Start
-  start = c .before .before .before .before
+  start = c .before .before .before .before .before
 
   abbrev given : Lent
-  given = lent (now (start .args .sheet)) (now (start .args .bank))
+  given = lentWith (now (start .args .sheet)) (now (start .args .bank)) (now (start .args .ring))
 
   abbrev frame : List ℕ
   frame = now (start .args .frame)
