@@ -1,6 +1,6 @@
 -- The reason is what is told of the judgement. Assumes nothing.
 use mathlib.Core.Path.{_≡_, refl, sym, ap, ap₂, _∙_}
-use mathlib.Core.Bool.{Bool, true, false, cond, _&&_, _||_}
+use mathlib.Core.Bool.{Bool, true, false, cond, not, _&&_, _||_, and-true}
 use mathlib.Core.List.{List, [], _∷_}
 use mathlib.Core.Logic.{_⊎_, inl, inr}
 use Prim.Native.Nat.{ℕ, _%_, _≤_, _<_}
@@ -20,6 +20,7 @@ use Rattle.meter_rules.specs.declared.Judged.the-variants.{FailsCheck, OtherSta
 use Rattle.meter_rules.specs.Steps.{startsInRecords, askedStart, otherStation, functionNotAllowed, wrongLength, wrongCount, wrongAddress, wrongValue, badWrite, goodFrame, judgedFrame}
 use Rattle.meter_rules.specs.Write.{firstPlace, someBad, stopPlace}
 use Rattle.meter_rules.proofs.Order.{asks-write}
+use Rattle.meter_rules.proofs.Records.{record-count}
 use Rattle.why_rules.specs.declared.Reason.the-variants.{None, TooShort, TooLong, Check, Station, Function, BodyLength, Count, Address, ClearValue, Item}
 use Rattle.why_rules.specs.Facts.{tooShort, tooLong, checkDiffers, readsTooMany, shutAddress, firstBadAddress, firstBadItem}
 use Rattle.why_rules.specs.Reasons.{reasonOf, explainedBy, explanation}
@@ -64,24 +65,32 @@ module _ (sheet frame : List ℕ) where
 
 module _ (given : Lent) (keeps : sound (given .sheet) ≡ true) (frame : List ℕ) where
   -- a count is told where a read's is over 47
-  address-count : readsTooMany frame ≡ true → Count ≡ wronglyAddressed (given .sheet) frame
+  address-count : readsTooMany (given .sheet) frame ≡ true → Count ≡ wronglyAddressed (given .sheet) frame
   address-count many =
-      let is = eqb-true (function frame) reads (first-of (eqb (function frame) reads) (ltb mostRead (second frame)) many) in
-      sym (told-count (given .sheet) frame is (ltb-true mostRead (second frame) (second-of (eqb (function frame) reads) (ltb mostRead (second frame)) many)))
+      let over = first-of (eqb (function frame) reads && ltb mostRead (second frame)) (not (startsInRecords (given .sheet) frame)) many in
+      let is = eqb-true (function frame) reads (first-of (eqb (function frame) reads) (ltb mostRead (second frame)) over) in
+      sym (told-count (given .sheet) frame is (ltb-true mostRead (second frame) (second-of (eqb (function frame) reads) (ltb mostRead (second frame)) over)))
 
   -- and an address else
-  address-shut : wrongCount (given .sheet) frame ≡ false → readsTooMany frame ≡ false → shutAddress given frame ≡ true
+  address-shut : wrongCount (given .sheet) frame ≡ false → readsTooMany (given .sheet) frame ≡ false → shutAddress given frame ≡ true
       → Address (firstBadAddress (given .sheet) frame) ≡ wronglyAddressed (given .sheet) frame
   address-shut right few shut = go (which-shut given frame keeps right shut)
     where
+      -- a record's count is 1 behind step 5
+      few-read : function frame ≡ reads → ltb mostRead (second frame) ≡ false
+      few-read is = go (startsInRecords (given .sheet) frame) refl
+        where
+          go : (inside : Bool) → startsInRecords (given .sheet) frame ≡ inside → ltb mostRead (second frame) ≡ false
+          go true e = ap (ltb mostRead) (record-count (given .sheet) frame is e right)
+          go false e = simp (eq-eqb (function frame) reads is, e, and-true) at few
+
       go : ((function frame ≡ reads) × (allOpen Read (given .sheet) (run frame) ≡ false))
           ⊎ ((isWrite frame ≡ true) × (allOpen Write (given .sheet) (run frame) ≡ false))
           ⊎ ((function frame ≡ clears) × (eqb (start frame) (clearAddress (given .sheet)) ≡ false))
           → Address (firstBadAddress (given .sheet) frame) ≡ wronglyAddressed (given .sheet) frame
       go (inl (is, closed)) =
           ap Address (read-told (given .sheet) frame is ∙ first-shut-reach Read (given .sheet) keeps (start frame) (count frame) closed)
-          ∙ sym (told-shut (given .sheet) frame is (ltb-false mostRead (second frame)
-          (ap (λ (b : Bool). b && ltb mostRead (second frame)) (sym (eq-eqb (function frame) reads is)) ∙ few)))
+          ∙ sym (told-shut (given .sheet) frame is (ltb-false mostRead (second frame) (few-read is)))
       go (inr (inl (is, closed))) =
           let asks = asks-write frame is in
           ap Address (write-told (given .sheet) frame is ∙ first-shut-reach Write (given .sheet) keeps (start frame) (count frame) closed)
@@ -102,18 +111,18 @@ module _ (given : Lent) (keeps : sound (given .sheet) ≡ true) (frame : List �
 
   -- the reason is told of where the frame stops: from step 6 on, where step 5 lets the frame through
   from-six : wrongCount (given .sheet) frame ≡ false
-      → firstCase (when (readsTooMany frame) Count ∷ when (shutAddress given frame) (Address (firstBadAddress (given .sheet) frame))
+      → firstCase (when (readsTooMany (given .sheet) frame) Count ∷ when (shutAddress given frame) (Address (firstBadAddress (given .sheet) frame))
       ∷ when (wrongValue frame) ClearValue ∷ when (badWrite given frame) (Item (firstBadItem given frame)) ∷ []) None
       ≡ reasonBy (firstCase (when (wrongAddress given frame) WrongAddress ∷ when (wrongValue frame) WrongValue
       ∷ when (badWrite given frame) (BadItem (firstPlace (given .sheet) frame) (stopPlace given frame)) ∷ []) (goodFrame given frame)) (given .sheet) frame
   unfolding firstCase
   from-six right =
-      go (readsTooMany frame) (shutAddress given frame) (wrongValue frame) (badWrite given frame) refl refl refl
+      go (readsTooMany (given .sheet) frame) (shutAddress given frame) (wrongValue frame) (badWrite given frame) refl refl refl
       ∙ sym (ap (λ (wrong : Bool). reasonBy (firstCase (when wrong WrongAddress ∷ when (wrongValue frame) WrongValue
       ∷ when (badWrite given frame) (BadItem (firstPlace (given .sheet) frame) (stopPlace given frame)) ∷ []) (goodFrame given frame)) (given .sheet) frame)
-      (wrong-address given frame right))
+      (wrong-address given frame))
     where
-      go : (t s v h : Bool) → readsTooMany frame ≡ t → shutAddress given frame ≡ s → badWrite given frame ≡ h
+      go : (t s v h : Bool) → readsTooMany (given .sheet) frame ≡ t → shutAddress given frame ≡ s → badWrite given frame ≡ h
           → firstCase (when t Count ∷ when s (Address (firstBadAddress (given .sheet) frame)) ∷ when v ClearValue ∷ when h (Item (firstBadItem given frame)) ∷ []) None
           ≡ reasonBy (firstCase (when (t || s) WrongAddress ∷ when v WrongValue
           ∷ when h (BadItem (firstPlace (given .sheet) frame) (stopPlace given frame)) ∷ []) (goodFrame given frame)) (given .sheet) frame
@@ -138,7 +147,7 @@ module _ (given : Lent) (keeps : sound (given .sheet) ≡ true) (frame : List �
       (goodFrame given frame)) (given .sheet) frame) (fails-check frame))
     where
       go : (a b c d e f g : Bool) → tooShort frame ≡ a → tooLong frame ≡ b → wrongCount (given .sheet) frame ≡ g
-          → firstCase (when a TooShort ∷ when b TooLong ∷ when c Check ∷ when d Station ∷ when e Function ∷ when f BodyLength ∷ when (g || readsTooMany frame) Count
+          → firstCase (when a TooShort ∷ when b TooLong ∷ when c Check ∷ when d Station ∷ when e Function ∷ when f BodyLength ∷ when (g || readsTooMany (given .sheet) frame) Count
           ∷ when (shutAddress given frame) (Address (firstBadAddress (given .sheet) frame)) ∷ when (wrongValue frame) ClearValue
           ∷ when (badWrite given frame) (Item (firstBadItem given frame)) ∷ []) None
           ≡ reasonBy (firstCase (when (a || b || c) FailsCheck ∷ when d OtherStation ∷ when e FunctionNotAllowed ∷ when f WrongLength ∷ when g WrongCount

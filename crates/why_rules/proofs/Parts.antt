@@ -1,7 +1,7 @@
 -- The facts and the steps of judgement: step 1 is three facts, step 6 a part of the count and the address, and all other steps are facts
 -- themselves. Assumes nothing.
 use mathlib.Core.Path.{_≡_, refl, ap, ap₂, _∙_}
-use mathlib.Core.Bool.{Bool, true, false, not, cond, _&&_, _||_, true≢false}
+use mathlib.Core.Bool.{Bool, true, false, not, cond, _&&_, _||_}
 use mathlib.Core.List.{List}
 use mathlib.Core.Logic.{_⊎_, inl, inr}
 use Prim.Native.Nat.{ℕ}
@@ -40,24 +40,19 @@ fails-check frame =
     go false true agrees = refl
     go false false agrees = refl
 
--- where step 5 lets a frame through
-pub wrong-address : (given : Lent) (frame : List ℕ) → wrongCount (given .sheet) frame ≡ false
-    → wrongAddress given frame ≡ (readsTooMany frame || shutAddress given frame)
-wrong-address given frame right =
+pub wrong-address : (given : Lent) (frame : List ℕ) → wrongAddress given frame ≡ (readsTooMany (given .sheet) frame || shutAddress given frame)
+wrong-address given frame =
     go (eqb (function frame) reads) (startsInRecords (given .sheet) frame) (ltb mostRead (second frame)) (beyondStored given frame)
     (not (allOpen Read (given .sheet) (run frame))) (isWrite frame && not (allOpen Write (given .sheet) (run frame)))
-    (eqb (function frame) clears && not (eqb (start frame) (clearAddress (given .sheet)))) few
+    (eqb (function frame) clears && not (eqb (start frame) (clearAddress (given .sheet))))
   where
-    few : eqb (function frame) reads ≡ true → startsInRecords (given .sheet) frame ≡ true → ltb mostRead (second frame) ≡ false
-    few read inside = ap (ltb mostRead) (record-count (given .sheet) frame (eqb-true (function frame) reads read) inside right)
-
-    go : (read record? many beyond shut write clear : Bool) → (read ≡ true → record? ≡ true → many ≡ false)
-        → (read && cond record? beyond (many || shut) || write || clear) ≡ (read && many || (read && cond record? beyond shut || write || clear))
-    go true true true beyond shut write clear one = absurd (true≢false (one refl refl))
-    go true true false beyond shut write clear one = refl
-    go true false true beyond shut write clear one = refl
-    go true false false beyond shut write clear one = refl
-    go false record? many beyond shut write clear one = refl
+    go : (read inside many beyond shut write clear : Bool)
+        → (read && cond inside beyond (many || shut) || write || clear) ≡ (read && many && not inside || (read && cond inside beyond shut || write || clear))
+    go true true true beyond shut write clear = refl
+    go true true false beyond shut write clear = refl
+    go true false true beyond shut write clear = refl
+    go true false false beyond shut write clear = refl
+    go false inside many beyond shut write clear = refl
 
 -- ---- an address that is not open, function by function
 

@@ -29,13 +29,12 @@ tooLong frame = ltb longest (length frame)
 abbrev pub checkDiffers : List ℕ → Bool
 checkDiffers frame = not (checkAgrees frame)
 
--- rule Y16: what step 5 tests, and a read of more registers than a reply has room for. A read over 47 that starts in the record area is stopped by
--- step 5 already.
-abbrev pub readsTooMany : List ℕ → Bool
-readsTooMany frame = eqb (function frame) reads && ltb mostRead (second frame)
+-- rule Y16: what step 5 tests, and a read of more registers than a reply has room for, from an address that is no record's
+abbrev pub readsTooMany : List ℕ → List ℕ → Bool
+readsTooMany sheet frame = eqb (function frame) reads && ltb mostRead (second frame) && not (startsInRecords sheet frame)
 
 abbrev pub badCount : List ℕ → List ℕ → Bool
-badCount sheet frame = wrongCount sheet frame || readsTooMany frame
+badCount sheet frame = wrongCount sheet frame || readsTooMany sheet frame
 
 -- rule Y17, of a read: a record beyond what is stored, or an address of the run that is not open to reading
 abbrev pub shutRead : Lent → List ℕ → Bool
