@@ -11,6 +11,7 @@ use Rattle.check_value.specs.Check.{valueOf}
 use Rattle.bank_rules.specs.Calls.{Lent}
 use Rattle.plain.specs.Numbers.{byte, word, signedAndMore}
 use Rattle.plain.specs.Sheet.{ItemRow, LiesAt}
+use Rattle.plain.specs.Records.{RecordAt, AtRecord, howMany}
 
 -- ---- 1, rules J10 and C4 to C6: the length, and the last two bytes hold the check value of those before them, low byte first
 pub record Whole (frame : List ℕ) : Type 0 where
@@ -36,12 +37,14 @@ pub record RightLength (frame : List ℕ) : Type 0 where
   pub eight : (byte frame 1 ≡ 0x10 → ⊥) → length frame ≡ 8
   pub nineAndMore : byte frame 1 ≡ 0x10 → length frame ≡ 9 + byte frame 6
 
--- ---- 5, rules J50 to J52: a read and a 10 ask for at least one register, and the byte count of a 10 is twice its count
-pub record RightCount (frame : List ℕ) : Type 0 where
+-- ---- 5, rules J50 to J53: a read and a 10 ask for at least one register, a read from a record's address on for one, and the byte count of a 10 is
+-- twice its count
+pub record RightCount (sheet frame : List ℕ) : Type 0 where
   pub ofRead : byte frame 1 ≡ 0x03 → 1 ≤ word frame 4
+  pub ofRecord : byte frame 1 ≡ 0x03 → AtRecord sheet (word frame 2) → word frame 4 ≡ 1
   pub ofMany : byte frame 1 ≡ 0x10 → (1 ≤ word frame 4) × (byte frame 6 ≡ 2 * word frame 4)
 
--- ---- 6, rules J60 to J65: the addresses
+-- ---- 6, rules J60 to J66: the addresses, and the number of a record
 
 -- how many registers a read or a write is for, from the address in its third and fourth byte on: one for 06, for 03 and 10 the count in its fifth
 -- and sixth byte. (Those bytes of a 05 are its value: nothing asks how many registers it is for.)
@@ -64,11 +67,13 @@ pub record Writable (sheet : List ℕ) (at : ℕ) : Type 0 where
   pub place : ℕ
   pub lies : LiesAt sheet at place 3
 
-pub record RightAddress (sheet frame : List ℕ) : Type 0 where
-  pub atMost47 : byte frame 1 ≡ 0x03 → word frame 4 ≤ 47
-  pub read : byte frame 1 ≡ 0x03 → (k : ℕ) → k < registers frame → Readable sheet (address frame k)
-  pub written : (byte frame 1 ≡ 0x06) ⊎ (byte frame 1 ≡ 0x10) → (k : ℕ) → k < registers frame → Writable sheet (address frame k)
-  pub cleared : byte frame 1 ≡ 0x05 → word frame 2 ≡ word sheet 20
+-- a read from no record's address on asks for at most 47 registers, each of which can be read; a record that is read is one of those stored
+pub record RightAddress (given : Lent) (frame : List ℕ) : Type 0 where
+  pub atMost47 : byte frame 1 ≡ 0x03 → (AtRecord (given .sheet) (word frame 2) → ⊥) → word frame 4 ≤ 47
+  pub read : byte frame 1 ≡ 0x03 → (AtRecord (given .sheet) (word frame 2) → ⊥) → (k : ℕ) → k < registers frame → Readable (given .sheet) (address frame k)
+  pub recorded : byte frame 1 ≡ 0x03 → (number many words : ℕ) → RecordAt (given .sheet) (word frame 2) number many words → number ≤ howMany (given .ring)
+  pub written : (byte frame 1 ≡ 0x06) ⊎ (byte frame 1 ≡ 0x10) → (k : ℕ) → k < registers frame → Writable (given .sheet) (address frame k)
+  pub cleared : byte frame 1 ≡ 0x05 → word frame 2 ≡ word (given .sheet) 20
 
 -- ---- 7, rules J70, J71 and K1 to K4: the value of a clear, and the items of a write
 
@@ -118,11 +123,11 @@ pub data Gets (given : Lent) (frame : List ℕ) : Fate → Type 0 where
   otherStation : Whole frame → (OurStation given frame → ⊥) → Gets given frame silence
   notAllowed : Whole frame → OurStation given frame → (Allowed (given .sheet) frame → ⊥) → Gets given frame (error 1)
   wrongLength : Whole frame → OurStation given frame → Allowed (given .sheet) frame → (RightLength frame → ⊥) → Gets given frame silence
-  wrongCount : Whole frame → OurStation given frame → Allowed (given .sheet) frame → RightLength frame → (RightCount frame → ⊥)
+  wrongCount : Whole frame → OurStation given frame → Allowed (given .sheet) frame → RightLength frame → (RightCount (given .sheet) frame → ⊥)
       → Gets given frame (error 3)
-  wrongAddress : Whole frame → OurStation given frame → Allowed (given .sheet) frame → RightLength frame → RightCount frame
-      → (RightAddress (given .sheet) frame → ⊥) → Gets given frame (error 2)
-  wrongValue : Whole frame → OurStation given frame → Allowed (given .sheet) frame → RightLength frame → RightCount frame → RightAddress (given .sheet) frame
+  wrongAddress : Whole frame → OurStation given frame → Allowed (given .sheet) frame → RightLength frame → RightCount (given .sheet) frame
+      → (RightAddress given frame → ⊥) → Gets given frame (error 2)
+  wrongValue : Whole frame → OurStation given frame → Allowed (given .sheet) frame → RightLength frame → RightCount (given .sheet) frame → RightAddress given frame
       → (RightValue given frame → ⊥) → Gets given frame (error 3)
-  allRight : Whole frame → OurStation given frame → Allowed (given .sheet) frame → RightLength frame → RightCount frame → RightAddress (given .sheet) frame
+  allRight : Whole frame → OurStation given frame → Allowed (given .sheet) frame → RightLength frame → RightCount (given .sheet) frame → RightAddress given frame
       → RightValue given frame → Gets given frame good

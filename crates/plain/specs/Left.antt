@@ -11,6 +11,7 @@ use Rattle.check_value.specs.Check.{valueOf}
 use Rattle.bank_rules.specs.Calls.{Lent}
 use Rattle.plain.specs.Numbers.{byte, word}
 use Rattle.plain.specs.Sheet.{ItemRow, LiesAt}
+use Rattle.plain.specs.Records.{RecordAt, AtRecord, StandsAt}
 use Rattle.plain.specs.Frame.{Whole, OurStation, Allowed, RightLength, RightCount, RightAddress, registers, address, sentWord, Goes, Touches, ValueWouldBe, Within, Fate, silence, error, good, Gets}
 
 -- the number, the length and the rate handed back, and bank and answer buffer afterwards
@@ -49,6 +50,14 @@ pub record ReadReply (given : Lent) (frame before after : List ℕ) : Type 0 whe
   pub words : (k place access : ℕ) → k < registers frame → LiesAt (given .sheet) (address frame k) place access
       → word after (3 + 2 * k) ≡ word (given .bank) (2 * place)
 
+-- rules R9 and R6: the words are the ring's, of the record's place; behind the ring's two words each place has as many as a record
+pub record RecordReply (ring frame before after : List ℕ) (number many words : ℕ) : Type 0 where
+  pub closed : Closed before after (5 + 2 * words)
+  pub station : byte after 0 ≡ byte frame 0
+  pub function : byte after 1 ≡ 0x03
+  pub bytes : byte after 2 ≡ 2 * words
+  pub itsWords : (k place : ℕ) → k < words → StandsAt ring many number place → word after (3 + 2 * k) ≡ word ring (4 + 2 * (place * words + k))
+
 -- rules R2, R3 and R6: the first six bytes as they came, and their check
 pub record Echo (frame before after : List ℕ) : Type 0 where
   pub closed : Closed before after 8
@@ -63,8 +72,11 @@ pub data HandsBack (given : Lent) (frame before : List ℕ) (left : Left) : Fate
   quiet : left ≡ record { number = 1; size = 0; rate = 0; bank = given .bank; buffer = before } → HandsBack given frame before left silence
   erred : {code : ℕ} → left .number ≡ 0 → left .size ≡ 5 → left .rate ≡ rateBefore given → ErrorReply frame before (left .buffer) code
       → HandsBack given frame before left (error code)
-  read : byte frame 1 ≡ 0x03 → left .number ≡ 0 → left .size ≡ 5 + 2 * registers frame → left .rate ≡ rateBefore given
-      → ReadReply given frame before (left .buffer) → HandsBack given frame before left good
+  read : byte frame 1 ≡ 0x03 → (AtRecord (given .sheet) (word frame 2) → ⊥) → left .number ≡ 0 → left .size ≡ 5 + 2 * registers frame
+      → left .rate ≡ rateBefore given → ReadReply given frame before (left .buffer) → HandsBack given frame before left good
+  recorded : byte frame 1 ≡ 0x03 → (number many words : ℕ) → RecordAt (given .sheet) (word frame 2) number many words → left .number ≡ 0
+      → left .size ≡ 5 + 2 * words → left .rate ≡ rateBefore given → RecordReply (given .ring) frame before (left .buffer) number many words
+      → HandsBack given frame before left good
   echoed : (byte frame 1 ≡ 0x03 → ⊥) → left .number ≡ 0 → left .size ≡ 8 → left .rate ≡ rateBefore given
       → Echo frame before (left .buffer) → HandsBack given frame before left good
 
@@ -76,8 +88,8 @@ pub record LetThrough (given : Lent) (frame : List ℕ) : Type 0 where
   pub ours : OurStation given frame
   pub allowed : Allowed (given .sheet) frame
   pub long : RightLength frame
-  pub counted : RightCount frame
-  pub addressed : RightAddress (given .sheet) frame
+  pub counted : RightCount (given .sheet) frame
+  pub addressed : RightAddress given frame
   pub writes : (byte frame 1 ≡ 0x06) ⊎ (byte frame 1 ≡ 0x10)
 
 -- rules K5 to K7, the k-th word sent is stored at a place: the write goes there, and the place stands in front of every item that it touches and would leave

@@ -1,5 +1,6 @@
 pub mod Numbers
 pub mod Sheet
+pub mod Records
 pub mod Frame
 pub mod Stations
 pub mod Damage

@@ -9,15 +9,16 @@ use Rattle.check_value.specs.Check.{valueOf}
 use Rattle.bank_rules.specs.Calls.{Lent}
 use Rattle.plain.specs.Numbers.{byte, word}
 use Rattle.plain.specs.Sheet.{ItemRow, LiesAt}
+use Rattle.plain.specs.Records.{RecordAt, AtRecord, howMany}
 use Rattle.plain.specs.Frame.{Whole, OurStation, Allowed, RightLength, RightCount, RightAddress, registers, address, Readable, Writable, Touches, ValueWouldBe, Within, silence, error, good, Gets}
 
 -- rule Y12: the last two bytes hold the check value of those in front of them, low byte first
 abbrev pub CheckAgrees : List ℕ → Type 0
 CheckAgrees frame = byte frame (length frame - 2) + 256 * byte frame (length frame - 1) ≡ valueOf (take (length frame - 2) frame)
 
--- rule Y16: a read of 48 registers or more
-abbrev pub ReadsTooMany : List ℕ → Type 0
-ReadsTooMany frame = (byte frame 1 ≡ 0x03) × (48 ≤ word frame 4)
+-- rule Y16: a read of 48 registers or more, from no record's address on
+abbrev pub ReadsTooMany : List ℕ → List ℕ → Type 0
+ReadsTooMany sheet frame = (byte frame 1 ≡ 0x03) × (48 ≤ word frame 4) × (AtRecord sheet (word frame 2) → ⊥)
 
 -- what must hold of a frame that reasons further on speak of: passed as far as its function, and as far as its count
 pub record AsFunction (given : Lent) (frame : List ℕ) : Type 0 where
@@ -28,20 +29,23 @@ pub record AsFunction (given : Lent) (frame : List ℕ) : Type 0 where
 pub record AsCount (given : Lent) (frame : List ℕ) : Type 0 where
   pub function : AsFunction given frame
   pub long : RightLength frame
-  pub counted : RightCount frame
-  pub few : ReadsTooMany frame → ⊥
+  pub counted : RightCount (given .sheet) frame
+  pub few : ReadsTooMany (given .sheet) frame → ⊥
 
 -- rules Y17 and Y20: a read's or a write's address is open to it
 pub record Opens (sheet frame : List ℕ) (at : ℕ) : Type 0 where
   pub read : byte frame 1 ≡ 0x03 → Readable sheet at
   pub written : (byte frame 1 ≡ 0x06) ⊎ (byte frame 1 ≡ 0x10) → Writable sheet at
 
--- rule Y20, the first bad address: one of the run that is not open, with every one in front of it open; a clear's own, elsewhere than at the clear
--- address
-pub data FirstBadAddress (sheet frame : List ℕ) : ℕ → Type 0 where
-  ofRun : (k : ℕ) → k < registers frame → (Opens sheet frame (address frame k) → ⊥)
-      → ((j : ℕ) → j < k → Opens sheet frame (address frame j)) → FirstBadAddress sheet frame (address frame k)
-  ofClear : byte frame 1 ≡ 0x05 → (word frame 2 ≡ word sheet 20 → ⊥) → FirstBadAddress sheet frame (word frame 2)
+-- rule Y20, the first bad address: of a run that reads or writes registers one that is not open, with every one in front of it open; a record's own,
+-- beyond what is stored; a clear's own, elsewhere than at the clear address
+pub data FirstBadAddress (given : Lent) (frame : List ℕ) : ℕ → Type 0 where
+  ofRun : (byte frame 1 ≡ 0x03 → AtRecord (given .sheet) (word frame 2) → ⊥) → (k : ℕ) → k < registers frame
+      → (Opens (given .sheet) frame (address frame k) → ⊥) → ((j : ℕ) → j < k → Opens (given .sheet) frame (address frame j))
+      → FirstBadAddress given frame (address frame k)
+  ofRecord : byte frame 1 ≡ 0x03 → (number many words : ℕ) → RecordAt (given .sheet) (word frame 2) number many words
+      → howMany (given .ring) < number → FirstBadAddress given frame (word frame 2)
+  ofClear : byte frame 1 ≡ 0x05 → (word frame 2 ≡ word (given .sheet) 20 → ⊥) → FirstBadAddress given frame (word frame 2)
 
 -- rules Y19 and Y21, the first bad item of a write: one that it touches and would leave out of range, with every such item in front of it in range;
 -- and the address that its first place has
@@ -69,15 +73,15 @@ pub data Why (given : Lent) (frame : List ℕ) : ℕ → ℕ → Type 0 where
   byStation : Whole frame → (OurStation given frame → ⊥) → Why given frame 4 0
   byFunction : Whole frame → OurStation given frame → (Allowed (given .sheet) frame → ⊥) → Why given frame 5 0
   byBodyLength : AsFunction given frame → (RightLength frame → ⊥) → Why given frame 6 0
-  byCount : AsFunction given frame → RightLength frame → (RightCount frame → ⊥) ⊎ ReadsTooMany frame → Why given frame 7 0
-  byAddress : AsCount given frame → {at : ℕ} → FirstBadAddress (given .sheet) frame at → Why given frame 8 at
-  byClearValue : AsCount given frame → RightAddress (given .sheet) frame → byte frame 1 ≡ 0x05 → (word frame 4 ≡ 0 → ⊥) → Why given frame 9 0
-  byItem : AsCount given frame → RightAddress (given .sheet) frame → {at : ℕ} → FirstBadItem given frame at → Why given frame 10 at
+  byCount : AsFunction given frame → RightLength frame → (RightCount (given .sheet) frame → ⊥) ⊎ ReadsTooMany (given .sheet) frame → Why given frame 7 0
+  byAddress : AsCount given frame → {at : ℕ} → FirstBadAddress given frame at → Why given frame 8 at
+  byClearValue : AsCount given frame → RightAddress given frame → byte frame 1 ≡ 0x05 → (word frame 4 ≡ 0 → ⊥) → Why given frame 9 0
+  byItem : AsCount given frame → RightAddress given frame → {at : ℕ} → FirstBadItem given frame at → Why given frame 10 at
 
 -- rule Y4: what goes out and the reason, both ways. It tells no more than the line does; which of several reasons it is, and the address, `Why` says.
 pub record GoesOut (given : Lent) (frame : List ℕ) (reason : ℕ) : Type 0 where
   pub noError : Gets given frame good ↔ (reason ≡ 0)
   pub silent : Gets given frame silence ↔ ((reason ≡ 1) ⊎ (reason ≡ 2) ⊎ (reason ≡ 3) ⊎ (reason ≡ 4) ⊎ (reason ≡ 6))
   pub errorOne : Gets given frame (error 1) ↔ (reason ≡ 5)
-  pub errorTwo : Gets given frame (error 2) ↔ ((reason ≡ 8) ⊎ ((reason ≡ 7) × ReadsTooMany frame))
-  pub errorThree : Gets given frame (error 3) ↔ (((reason ≡ 7) × (ReadsTooMany frame → ⊥)) ⊎ (reason ≡ 9) ⊎ (reason ≡ 10))
+  pub errorTwo : Gets given frame (error 2) ↔ ((reason ≡ 8) ⊎ ((reason ≡ 7) × ReadsTooMany (given .sheet) frame))
+  pub errorThree : Gets given frame (error 3) ↔ (((reason ≡ 7) × (ReadsTooMany (given .sheet) frame → ⊥)) ⊎ (reason ≡ 9) ⊎ (reason ≡ 10))
