@@ -1,7 +1,7 @@
 -- The calls on a ring: a sound sheet with a record area and a ring that fits it take a record of the right length, the ring fits again afterwards,
 -- and what is refused leaves it as it is. Assumes nothing.
 use mathlib.Core.Path.{_≡_, refl, sym, ap, subst, _∙_}
-use mathlib.Core.Bool.{Bool, true, false, not, cond, _||_}
+use mathlib.Core.Bool.{Bool, true, false, not, cond, _||_, true≢false}
 use mathlib.Core.List.{List, [], _∷_}
 use Prim.Native.Nat.{ℕ, _+_, _*_, _≤_}
 use lib.Dec.{eqb}
@@ -88,6 +88,13 @@ module _ (sheet ring bytes : List ℕ) where
   pub add-refused : (answerNumber (addAnswer sheet ring bytes) ≡ 0 → ⊥) → addOutcome sheet ring bytes .ring ≡ ring
   unfolding addOutcome
   add-refused refuses = refused-as-before ring (addStores (recordArea sheet) ring bytes) (addAnswer sheet ring bytes) refuses
+
+  -- so does a record of another length, whatever is refused then
+  pub add-wrong-length : eqb (length bytes) (2 * recordArea sheet .words) ≡ false → addOutcome sheet ring bytes .ring ≡ ring
+  unfolding addOutcome addAnswer
+  add-wrong-length other =
+      effect-either ring (addStores (recordArea sheet) ring bytes) (λ left. left ≡ ring) (addAnswer sheet ring bytes) refl
+      (λ done. absurd (true≢false (sym (ap not other) ∙ done-none (addRefusals sheet ring bytes) done .1 .1 .1 .0)))
 
   module _ (done : addAnswer sheet ring bytes ≡ Done) where
     none : NoneOf (conditions (addRefusals sheet ring bytes))
