@@ -1,6 +1,6 @@
 -- What adding a record leaves: the two words, the record's words at the next place, and every other byte and word as it was. Assumes nothing.
-use mathlib.Core.Path.{_≡_, refl, sym, ap, ap₂, _∙_}
-use mathlib.Core.List.{List, [], _∷_, _++_, map}
+use mathlib.Core.Path.{_≡_, refl, ap, ap₂, _∙_}
+use mathlib.Core.List.{List, [], _∷_, map}
 use mathlib.Core.Logic.{_⊎_, inl, inr, ⊎-elim}
 use Prim.Native.Nat.{ℕ, _+_, _*_, _≤_, _<_}
 use native.Mathlib.Omega.{arith}
@@ -15,7 +15,7 @@ use Rattle.bank_rules.proofs.Stores.{stored-length}
 use Rattle.bank_rules.proofs.Latest.{latest, StoresInside, words-left, latest-append, latest-agreed}
 use Rattle.bank_rules.proofs.Inside.{among-map, map-among, among-number, number-among}
 use Rattle.ring_rules.specs.Ring.{newestPlace, storedCount, ringBytes, recordStart, nextPlace, nextCount, recordStore, addStores, added}
-use Rattle.ring_rules.proofs.Places.{next-inside, before-start, word-inside}
+use Rattle.ring_rules.proofs.Places.{next-inside, word-inside}
 
 -- a byte that is in no store stays
 pub stored-byte-other : (ring : List ℕ) (stores : List Store) (at : ℕ)

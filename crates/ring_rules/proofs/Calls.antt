@@ -1,9 +1,9 @@
 -- The calls on a ring: a sound sheet with a record area and a ring that fits it take a record of the right length, the ring fits again afterwards,
 -- and what is refused leaves it as it is. Assumes nothing.
 use mathlib.Core.Path.{_≡_, refl, sym, ap, subst, _∙_}
-use mathlib.Core.Bool.{Bool, true, false, not, cond, _||_}
+use mathlib.Core.Bool.{Bool, true, false, not, cond, _||_, true≢false}
 use mathlib.Core.List.{List, [], _∷_}
-use Prim.Native.Nat.{ℕ, _*_}
+use Prim.Native.Nat.{ℕ, _+_, _*_, _≤_}
 use lib.Dec.{eqb}
 use lib.ListN.{length}
 use borrow.Author.Tests.{not-false, eqb-true, eq-eqb}
@@ -17,12 +17,12 @@ use Rattle.refusals.specs.Answers.{answerNumber, answerBy}
 use Rattle.refusals.proofs.Answers.{done-none, numbers-in-order}
 use Rattle.sheet_rules.specs.Rows.{hasRecords, recordArea}
 use Rattle.sheet_rules.specs.Rules.{sound, brokenSheet}
-use Rattle.bank_rules.specs.Stores.{stored}
-use Rattle.bank_rules.specs.Calls.{effectOf}
 use Rattle.bank_rules.proofs.Changes.{done-stores, effect-either, refused-as-before}
-use Rattle.ring_rules.specs.Ring.{ringSound, addStores, added, wrongRecord}
+use Rattle.ring_rules.specs.Ring.{storedCount, ringSound, recordOf, addStores, added, wrongRecord}
 use Rattle.ring_rules.specs.Calls.{ringFits, badRing, withoutRecords, ringRefusals, addRefusals, ringAnswer, addAnswer, addOutcome}
+use Rattle.ring_rules.specs.Theorems.{wordsIn}
 use Rattle.ring_rules.proofs.Kept.{stays-sound}
+use Rattle.ring_rules.proofs.Records.{newest-is-added, others-go-on}
 
 module _ (sheet ring : List ℕ) where
   -- ---- a ring that goes with a sheet
@@ -89,6 +89,13 @@ module _ (sheet ring bytes : List ℕ) where
   unfolding addOutcome
   add-refused refuses = refused-as-before ring (addStores (recordArea sheet) ring bytes) (addAnswer sheet ring bytes) refuses
 
+  -- so does a record of another length, whatever is refused then
+  pub add-wrong-length : eqb (length bytes) (2 * recordArea sheet .words) ≡ false → addOutcome sheet ring bytes .ring ≡ ring
+  unfolding addOutcome addAnswer
+  add-wrong-length other =
+      effect-either ring (addStores (recordArea sheet) ring bytes) (λ left. left ≡ ring) (addAnswer sheet ring bytes) refl
+      (λ done. absurd (true≢false (sym (ap not other) ∙ done-none (addRefusals sheet ring bytes) done .1 .1 .1 .0)))
+
   module _ (done : addAnswer sheet ring bytes ≡ Done) where
     none : NoneOf (conditions (addRefusals sheet ring bytes))
     unfolding addAnswer
@@ -120,6 +127,18 @@ module _ (sheet ring bytes : List ℕ) where
 
     pub ring-done-again : ringAnswer sheet (addOutcome sheet ring bytes .ring) ≡ Done
     ring-done-again = ring-done sheet (addOutcome sheet ring bytes .ring) add-sheet add-keeps-fitting
+
+    -- record 1 is the added one, and every other one has the next number
+    pub add-newest : recordOf (recordArea sheet) (addOutcome sheet ring bytes .ring) 1 ≡ wordsIn (recordArea sheet) bytes
+    add-newest =
+        ap (λ (left : List ℕ). recordOf (recordArea sheet) left 1) add-adds
+        ∙ newest-is-added (recordArea sheet) ring bytes (fits-sound sheet ring add-records add-fits)
+
+    pub add-others : (k : ℕ) → 1 ≤ k → k ≤ storedCount ring → k + 1 ≤ recordArea sheet .records
+        → recordOf (recordArea sheet) (addOutcome sheet ring bytes .ring) (k + 1) ≡ recordOf (recordArea sheet) ring k
+    add-others k least held room =
+        ap (λ (left : List ℕ). recordOf (recordArea sheet) left (k + 1)) add-adds
+        ∙ others-go-on (recordArea sheet) ring bytes (fits-sound sheet ring add-records add-fits) k least held room
 
   -- whatever is answered, a ring that fits does so afterwards
   pub add-stays-fitting : ringFits sheet ring ≡ true → ringFits sheet (addOutcome sheet ring bytes .ring) ≡ true

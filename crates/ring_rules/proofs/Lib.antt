@@ -3,6 +3,8 @@ pub mod Places
 pub mod Adding
 pub mod Kept
 pub mod Records
+pub mod Empty
 pub mod History
 pub mod Calls
+pub mod AddCalls
 pub mod RingLimits

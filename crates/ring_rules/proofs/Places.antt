@@ -3,15 +3,14 @@
 use mathlib.Core.Path.{_≡_, refl, sym, ap, _∙_}
 use mathlib.Core.Bool.{Bool, true, false, cond}
 use mathlib.Core.List.{List}
-use mathlib.Core.Logic.{_⊎_, inl, inr}
 use Prim.Native.Nat.{ℕ, _+_, _-_, _*_, _%_, _≤_, _<_}
 use native.Mathlib.Omega.{arith}
 use native.Mathlib.Nat.{mod-lt, mod-eq-of-lt, mod-self, add-mod-right, mul-le-mul-right, add-mul, one-mul}
 use lib.Dec.{eqb, ltb}
 use lib.ListN.{length}
-use borrow.Author.Tests.{eq-eqb, ne-eqb, lt-ltb, le-ltb, eqb-true, eqb-false, ltb-true, ltb-false}
+use borrow.Author.Tests.{eq-eqb, ne-eqb, lt-ltb, le-ltb, ltb-true, ltb-false}
 use Rattle.sheet_rules.specs.declared.RecordArea.{RecordArea}
-use Rattle.ring_rules.specs.Ring.{newestPlace, storedCount, ringBytes, placeOf, recordStart, nextPlace, nextCount}
+use Rattle.ring_rules.specs.Ring.{newestPlace, storedCount, ringBytes, recordStart, nextPlace, nextCount}
 
 -- ---- numbers of places
 
@@ -89,17 +88,6 @@ module _ (records : RecordArea) where
   pub before-start : (place other : ℕ) → place < other → recordStart records place + records .words ≤ recordStart records other
   before-start place other front =
       omega (arith, mul-le-mul-right {m = place + 1} {n = other} (records .words) (omega arith), add-mul place 1 (records .words), one-mul (records .words))
-
-  -- two places share no word
-  pub words-apart : (place other k at : ℕ) → (place ≡ other → ⊥) → k < records .words → recordStart records other ≤ at
-      → at < recordStart records other + records .words → recordStart records place + k ≡ at → ⊥
-  words-apart place other k at apart inside from to same = go (ltb place other) refl
-    where
-      go : (front : Bool) → ltb place other ≡ front → ⊥
-      go true e = omega (arith, before-start place other (ltb-true place other e))
-      go false e =
-          let less : other < place = let le = ltb-false place other e in omega (arith, apart) in
-          omega (arith, before-start other place less)
 
   -- a word of the record at a place lies inside a ring that has its size
   pub word-inside : (ring : List ℕ) → length ring ≡ ringBytes records → (place k : ℕ) → place < records .records → k < records .words

@@ -2,11 +2,11 @@
 -- nothing.
 use mathlib.Core.Path.{_≡_, refl, sym, ap, ap₂, _∙_}
 use mathlib.Core.Bool.{Bool, true, false}
-use mathlib.Core.List.{List, [], _∷_, map}
+use mathlib.Core.List.{List, _∷_, map}
 use mathlib.Core.Logic.{_⊎_, inl, inr}
 use Prim.Native.Nat.{ℕ, zero, suc, _+_, _-_, _*_, _%_, _≤_, _<_}
 use native.Mathlib.Omega.{arith}
-use native.Mathlib.Nat.{mod-lt, mod-eq-of-lt, add-mod-right}
+use native.Mathlib.Nat.{mod-eq-of-lt, add-mod-right}
 use lib.Dec.{ltb}
 use borrow.Author.Tests.{ltb-true, ltb-false}
 use Rattle.words.specs.Words.{wordAt}
@@ -15,7 +15,7 @@ use Rattle.sheet_rules.specs.declared.RecordArea.{RecordArea}
 use Rattle.bank_rules.specs.Stores.{wordOf}
 use Rattle.ring_rules.specs.Ring.{newestPlace, storedCount, ringSound, placeOf, recordStart, recordAt, recordOf, nextPlace, added}
 use Rattle.ring_rules.specs.Theorems.{wordsIn}
-use Rattle.ring_rules.proofs.Sound.{SoundRing, ring-told, some-record}
+use Rattle.ring_rules.proofs.Sound.{ring-told, some-record}
 use Rattle.ring_rules.proofs.Places.{back-straight, back-round, back-apart, behind-newest, round-to-first, next-inside, before-start}
 use Rattle.ring_rules.proofs.Adding.{other-words-stay, record-added}
 use Rattle.ring_rules.proofs.Kept.{newest-after}

@@ -1,12 +1,12 @@
 -- What a sound ring says, one by one, and that a ring of which all this holds is sound. Assumes nothing.
-use mathlib.Core.Path.{_≡_, refl, ap}
-use mathlib.Core.Bool.{Bool, true, false, not, _&&_, _||_, true≢false}
+use mathlib.Core.Path.{_≡_, refl}
+use mathlib.Core.Bool.{Bool, true, false, not, _&&_, _||_}
 use mathlib.Core.List.{List}
 use Prim.Native.Nat.{ℕ, _≤_, _<_}
 use native.Mathlib.Omega.{arith}
 use lib.Dec.{eqb}
 use lib.ListN.{length}
-use borrow.Author.Tests.{eqb-true, eqb-false, ltb-true, leb-true, eq-eqb, ne-eqb, lt-ltb, le-leb}
+use borrow.Author.Tests.{eqb-true, eqb-false, ltb-true, leb-true, eq-eqb, lt-ltb, le-leb}
 use Rattle.lists.proofs.Tests.{first-of, second-of}
 use Rattle.sheet_rules.specs.declared.RecordArea.{RecordArea}
 use Rattle.ring_rules.specs.Ring.{newestPlace, storedCount, ringBytes, sizeRule, placeRule, countRule, emptyRule, ringSound}

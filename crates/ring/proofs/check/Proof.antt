@@ -1,5 +1,5 @@
 -- `ring::check` meets its contract: the sheet first, then the ring. Assumes nothing.
-use mathlib.Core.Path.{_≡_, sym, ap, _∙_}
+use mathlib.Core.Path.{sym, ap, _∙_}
 use mathlib.Core.Bool.{not}
 use mathlib.Core.List.{List, [], _∷_}
 use Prim.Native.Nat.{ℕ}
@@ -9,7 +9,7 @@ use Rattle.lists.proofs.Tests.{refused, passed}
 use Rattle.refusals.specs.declared.Refusal.{Refusal}
 use Rattle.refusals.specs.declared.Refusal.the-variants.{BadRing}
 use Rattle.refusals.proofs.Answers.{front-refuses, front-passes, refused-here, passed-here}
-use Rattle.sheet_rules.specs.Rules.{sheetRefusals, sheetAnswer}
+use Rattle.sheet_rules.specs.Rules.{sheetRefusals}
 use Rattle.ring_rules.specs.Calls.{badRing, ringAnswer}
 use borrow.Author.Needs.{needs}
 use Rattle.ring.proofs.check.Statement.{statement}

@@ -1,5 +1,5 @@
 -- `ring::fits` meets its contract: no bytes where the sheet has no record area, else a sound ring. Assumes nothing.
-use mathlib.Core.Path.{_≡_, sym, ap, _∙_}
+use mathlib.Core.Path.{sym, ap, _∙_}
 use mathlib.Core.Bool.{Bool, cond}
 use lib.Dec.{eqb}
 use lib.ListN.{length}

@@ -1,12 +1,10 @@
 -- `ring::next_count` meets its contract. Assumes nothing.
-use mathlib.Core.Path.{_≡_, refl, sym, ap, _∙_}
+use mathlib.Core.Path.{_≡_, sym, ap, _∙_}
 use mathlib.Core.Bool.{Bool, true, false, cond}
 use Prim.Native.Nat.{ℕ, _+_}
 use lib.Dec.{ltb}
 use borrow.Author.Tests.{lt-ltb, le-ltb}
 use borrow.Author.Needs.{needs}
-use denote.Ref.{now}
-use Rattle.ring_rules.specs.Ring.{storedCount, nextCount}
 use Rattle.ring.proofs.next_count.Statement.{statement}
 use Rattle.ring.proofs.next_count.Tie as tie
 

@@ -1,11 +1,11 @@
 -- `ring::next_place` meets its contract: the first place of an empty ring, else the one behind the newest, or the first again behind the last.
 -- Assumes nothing.
-use mathlib.Core.Path.{_≡_, refl, sym, ap, _∙_}
-use Prim.Native.Nat.{ℕ, _+_, _<_}
+use mathlib.Core.Path.{_≡_, sym, ap, _∙_}
+use Prim.Native.Nat.{ℕ, _+_}
 use native.Mathlib.Omega.{arith}
 use borrow.Author.Needs.{needs}
 use denote.Ref.{now}
-use Rattle.ring_rules.specs.Ring.{newestPlace, storedCount, nextPlace}
+use Rattle.ring_rules.specs.Ring.{newestPlace}
 use Rattle.ring_rules.proofs.Sound.{ring-told}
 use Rattle.ring_rules.proofs.Places.{first-place, behind-newest, round-to-first}
 use Rattle.ring.proofs.next_place.Statement.{statement}
