@@ -9,22 +9,27 @@ use lib.Dec.{ltb, eqb}
 use borrow.Author.Tests.{eqb-true, eq-eqb, le-ltb, ltb-false, not-false}
 use Rattle.lists.specs.Lists.{each, upFrom}
 use Rattle.lists.proofs.Among.{up-among, each-among}
-use Rattle.sheet_rules.specs.Rows.{areas, clearAddress}
+use Rattle.sheet_rules.specs.Rows.{areas, clearAddress, recordArea}
 use Rattle.sheet_rules.specs.Rules.{sound}
 use Rattle.sheet_rules.specs.declared.Lies.{Lies}
 use Rattle.sheet_rules.specs.declared.Lies.the-variants.{At, Nowhere}
-use Rattle.sheet_rules.specs.Lookup.{liesIn}
+use Rattle.sheet_rules.specs.Lookup.{liesIn, recordNumber}
 use Rattle.sheet_rules.proofs.Addresses.{lies-word}
 use Rattle.sheet_rules.specs.declared.Purpose.{Purpose}
 use Rattle.sheet_rules.specs.declared.Purpose.the-variants.{Read, Write}
 use Rattle.sheet_rules.specs.Runs.{permits, opens, allOpen}
 use Rattle.frame.specs.Frame.{function, start, second, isWrite, count, run}
-use Rattle.meter_rules.specs.Steps.{wrongAddress}
-use Rattle.plain.specs.Numbers.{Bytes, byte}
+use Rattle.bank_rules.specs.Calls.{Lent}
+use Rattle.ring_rules.specs.Ring.{storedCount}
+use Rattle.meter_rules.specs.Steps.{startsInRecords, askedNumber, wrongRead, wrongAddress}
+use Rattle.meter_rules.proofs.Order.{registers-wrong, record-wrong}
+use Rattle.plain.specs.Numbers.{Bytes, byte, word}
+use Rattle.plain.specs.Records.{RecordAt, AtRecord}
 use Rattle.plain.specs.Sheet.{LiesAt}
 use Rattle.plain.specs.Frame.{registers, address, Readable, Writable, RightAddress}
 use Rattle.plain.proofs.Rows.{word-same, lies-plain, plain-lies}
-use Rattle.plain.proofs.Conditions.{Tells, neither-first, neither-second, neither, where-so, so-where}
+use Rattle.plain.proofs.Conditions.{Tells, neither-first, neither-second, neither, where-so, so-where, begins-so, so-begins, begins-not, not-begins}
+use Rattle.plain.proofs.Records.{so-record}
 
 -- a rule that holds of each number of a run
 pub each-up : (rule : ℕ → Bool) (first many : ℕ) → ((k : ℕ) → k < many → rule (first + k) ≡ true) → each rule (upFrom first many) ≡ true
@@ -127,57 +132,89 @@ module _ (sheet : List ℕ) (keeps : sound sheet ≡ true) (bytes : Bytes sheet)
   pub so-writable : {at : ℕ} → Writable sheet at → Open Write at
   so-writable one = record { small = one .small; place = one .place; access = 3; lies = one .lies; permitted = refl }
 
-  -- ---- the whole of step 6
+-- ---- the whole of step 6
 
-  module _ (frame : List ℕ) where
-    abbrev tooMany : Bool
-    tooMany = ltb 47 (second frame)
+module _ (given : Lent) (keeps : sound (given .sheet) ≡ true) (bytes : Bytes (given .sheet)) (frame : List ℕ) where
+  abbrev inside : Bool
+  inside = startsInRecords (given .sheet) frame
 
-    abbrev readClosed : Bool
-    readClosed = not (allOpen Read sheet (run frame))
+  abbrev tooMany : Bool
+  tooMany = ltb 47 (second frame)
 
-    abbrev writeClosed : Bool
-    writeClosed = not (allOpen Write sheet (run frame))
+  abbrev readClosed : Bool
+  readClosed = not (allOpen Read (given .sheet) (run frame))
 
-    abbrev elsewhere : Bool
-    elsewhere = not (eqb (start frame) (clearAddress sheet))
+  abbrev writeClosed : Bool
+  writeClosed = not (allOpen Write (given .sheet) (run frame))
 
-    abbrev ofRead : Bool
-    ofRead = eqb (function frame) 0x03 && (tooMany || readClosed)
+  abbrev elsewhere : Bool
+  elsewhere = not (eqb (start frame) (clearAddress (given .sheet)))
 
-    abbrev ofWrite : Bool
-    ofWrite = isWrite frame && writeClosed
+  abbrev ofRead : Bool
+  ofRead = eqb (function frame) 0x03 && wrongRead given frame
 
-    abbrev ofClear : Bool
-    ofClear = eqb (function frame) 0x05 && elsewhere
+  abbrev ofWrite : Bool
+  ofWrite = isWrite frame && writeClosed
 
-    address-so : wrongAddress sheet frame ≡ false → RightAddress sheet frame
-    address-so e =
-        let early = neither-first (ofRead || ofWrite) ofClear e in
-        let reading : byte frame 1 ≡ 0x03 → (tooMany || readClosed) ≡ false =
-        λ is. where-so (eqb (function frame) 0x03) (tooMany || readClosed) (neither-first ofRead ofWrite early) (eq-eqb (function frame) 0x03 is) in
-        record {
-          atMost47 = λ is. omega (arith, word-same frame 4, ltb-false 47 (second frame) (neither-first tooMany readClosed (reading is)));
-          read = λ is k less. readable-so (open-so Read frame
-              (not-false (allOpen Read sheet (run frame)) (neither-second tooMany readClosed (reading is))) k less);
-          written = λ is k less. writable-so (open-so Write frame
-              (not-false (allOpen Write sheet (run frame)) (where-so (isWrite frame) writeClosed (neither-second ofRead ofWrite early) (writes frame is))) k less);
-          cleared = λ is. word-same frame 2 ∙ eqb-true (start frame) (clearAddress sheet)
-              (not-false (eqb (start frame) (clearAddress sheet))
-              (where-so (eqb (function frame) 0x05) elsewhere (neither-second (ofRead || ofWrite) ofClear e) (eq-eqb (function frame) 0x05 is)))
-              ∙ sym (word-same sheet 20);
-        }
+  abbrev ofClear : Bool
+  ofClear = eqb (function frame) 0x05 && elsewhere
 
-    so-address : RightAddress sheet frame → wrongAddress sheet frame ≡ false
-    so-address right =
-        neither
-        (neither
-        (so-where (eqb (function frame) 0x03) (tooMany || readClosed) (λ is. let read = eqb-true (function frame) 0x03 is in
-        neither (le-ltb 47 (second frame) (omega (arith, word-same frame 4, right .atMost47 read)))
-        (ap not (so-open Read frame (λ k less. so-readable (right .read read k less))))))
-        (so-where (isWrite frame) writeClosed (λ is. ap not (so-open Write frame (λ k less. so-writable (right .written (which frame is) k less))))))
-        (so-where (eqb (function frame) 0x05) elsewhere (λ is.
-        ap not (eq-eqb (start frame) (clearAddress sheet) (sym (word-same frame 2) ∙ right .cleared (eqb-true (function frame) 0x05 is) ∙ word-same sheet 20))))
+  -- the number of a record that is asked for
+  asked : {number many words : ℕ} → RecordAt (given .sheet) (word frame 2) number many words → number ≡ askedNumber (given .sheet) frame
+  asked one =
+      so-record (given .sheet) one .itsNumber ∙ ap (recordNumber (recordArea (given .sheet))) (word-same frame 2)
 
-    pub address-tells : Tells (wrongAddress sheet frame) (RightAddress sheet frame)
-    address-tells = record { right = address-so; wrongly = so-address }
+  address-so : wrongAddress given frame ≡ false → RightAddress given frame
+  address-so e =
+      let early = neither-first (ofRead || ofWrite) ofClear e in
+      let reading : byte frame 1 ≡ 0x03 → wrongRead given frame ≡ false =
+      λ is. where-so (eqb (function frame) 0x03) (wrongRead given frame) (neither-first ofRead ofWrite early) (eq-eqb (function frame) 0x03 is) in
+      let registers-read : byte frame 1 ≡ 0x03 → (AtRecord (given .sheet) (word frame 2) → ⊥) → (tooMany || readClosed) ≡ false =
+      λ is none. sym (registers-wrong frame given (begins-not (given .sheet) frame none)) ∙ reading is in
+      record {
+        atMost47 = λ is none. omega (arith, word-same frame 4, ltb-false 47 (second frame) (neither-first tooMany readClosed (registers-read is none)));
+        read = λ is none k less. readable-so (given .sheet) keeps bytes (open-so (given .sheet) keeps bytes Read frame
+            (not-false (allOpen Read (given .sheet) (run frame)) (neither-second tooMany readClosed (registers-read is none))) k less);
+        recorded = λ is number many words one. omega (
+          arith,
+          asked one,
+          word-same (given .ring) 2,
+          ltb-false (storedCount (given .ring)) (askedNumber (given .sheet) frame)
+              (sym (record-wrong frame given (begins-so (given .sheet) frame (number, many, words, one))) ∙ reading is),
+        );
+        written = λ is k less. writable-so (given .sheet) keeps bytes (open-so (given .sheet) keeps bytes Write frame
+            (not-false (allOpen Write (given .sheet) (run frame)) (where-so (isWrite frame) writeClosed (neither-second ofRead ofWrite early) (writes frame is))) k less);
+        cleared = λ is. word-same frame 2 ∙ eqb-true (start frame) (clearAddress (given .sheet))
+            (not-false (eqb (start frame) (clearAddress (given .sheet)))
+            (where-so (eqb (function frame) 0x05) elsewhere (neither-second (ofRead || ofWrite) ofClear e) (eq-eqb (function frame) 0x05 is)))
+            ∙ sym (word-same (given .sheet) 20);
+      }
+
+  so-read : RightAddress given frame → byte frame 1 ≡ 0x03 → wrongRead given frame ≡ false
+  so-read right is = go inside refl
+    where
+      go : (b : Bool) → inside ≡ b → wrongRead given frame ≡ false
+      go true e =
+          let one = so-begins (given .sheet) frame e in
+          record-wrong frame given e
+          ∙ le-ltb (storedCount (given .ring)) (askedNumber (given .sheet) frame)
+          (omega (arith, asked (one .3), word-same (given .ring) 2, right .recorded is (one .0) (one .1) (one .2) (one .3)))
+      go false e =
+          let none = not-begins (given .sheet) frame e in
+          registers-wrong frame given e
+          ∙ neither (le-ltb 47 (second frame) (omega (arith, word-same frame 4, right .atMost47 is none)))
+          (ap not (so-open (given .sheet) keeps bytes Read frame (λ k less. so-readable (given .sheet) keeps bytes (right .read is none k less))))
+
+  so-address : RightAddress given frame → wrongAddress given frame ≡ false
+  so-address right =
+      neither
+      (neither
+      (so-where (eqb (function frame) 0x03) (wrongRead given frame) (λ is. so-read right (eqb-true (function frame) 0x03 is)))
+      (so-where (isWrite frame) writeClosed (λ is. ap not (so-open (given .sheet) keeps bytes Write frame
+      (λ k less. so-writable (given .sheet) keeps bytes (right .written (which frame is) k less))))))
+      (so-where (eqb (function frame) 0x05) elsewhere (λ is.
+      ap not (eq-eqb (start frame) (clearAddress (given .sheet))
+      (sym (word-same frame 2) ∙ right .cleared (eqb-true (function frame) 0x05 is) ∙ word-same (given .sheet) 20))))
+
+  pub address-tells : Tells (wrongAddress given frame) (RightAddress given frame)
+  address-tells = record { right = address-so; wrongly = so-address }

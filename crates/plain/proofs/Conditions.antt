@@ -11,16 +11,18 @@ use borrow.Author.Tests.{eqb-true, eqb-false, eq-eqb, ne-eqb, leb-true, le-leb, 
 use Rattle.words.specs.Words.{wordAt}
 use Rattle.check_value.specs.Check.{valueOf}
 use Rattle.check_value.specs.Frame.{passes, held, covered}
-use Rattle.sheet_rules.specs.Rows.{functions}
-use Rattle.sheet_rules.specs.Rules.{allowed}
+use Rattle.sheet_rules.specs.Rows.{functions, recordArea}
+use Rattle.sheet_rules.specs.Rules.{allowed, inRecords}
 use Rattle.bank_rules.specs.Bank.{stationOf}
 use Rattle.bank_rules.specs.Calls.{Lent}
 use Rattle.frame.specs.Frame.{station, function, second, byteCount}
-use Rattle.meter_rules.specs.Steps.{functionAllowed, failsCheck, otherStation, functionNotAllowed, wrongLength, wrongCount}
+use Rattle.meter_rules.specs.Steps.{functionAllowed, failsCheck, otherStation, functionNotAllowed, wrongLength, startsInRecords, wrongCount}
 use Rattle.lists.proofs.Tests.{first-of, second-of}
 use Rattle.plain.specs.Numbers.{byte, word}
+use Rattle.plain.specs.Records.{AtRecord}
 use Rattle.plain.specs.Frame.{Whole, OurStation, Set, Allowed, RightLength, RightCount}
 use Rattle.plain.proofs.Rows.{word-same}
+use Rattle.plain.proofs.Records.{so-record, at-record}
 
 -- a test tells of what must hold: it is false where that holds, and true where it does not
 pub record Tells (wrong : Bool) (Right : Type 0) : Type 0 where
@@ -180,7 +182,7 @@ so-where true b h = h refl
 so-where false b h = refl
 
 -- 5
-module _ (frame : List ℕ) where
+module _ (sheet frame : List ℕ) where
   abbrev isRead : Bool
   isRead = eqb (function frame) 0x03
 
@@ -189,6 +191,9 @@ module _ (frame : List ℕ) where
 
   abbrev none : Bool
   none = eqb (second frame) 0
+
+  abbrev several : Bool
+  several = startsInRecords sheet frame && not (eqb (second frame) 1)
 
   abbrev fitting : Bool
   fitting = eqb (byteCount frame) (2 * second frame)
@@ -206,11 +211,33 @@ module _ (frame : List ℕ) where
   so-some : 1 ≤ word frame 4 → none ≡ false
   so-some h = ne-eqb (second frame) 0 (λ zero. omega (arith, word-same frame 4, zero, h))
 
-  count-so : wrongCount frame ≡ false → RightCount frame
+  -- a frame begins at a record's address
+  pub begins-so : AtRecord sheet (word frame 2) → startsInRecords sheet frame ≡ true
+  begins-so one = ap (λ (n : ℕ). inRecords n (recordArea sheet)) (sym (word-same frame 2)) ∙ so-record sheet (one .3) .inside
+
+  pub so-begins : startsInRecords sheet frame ≡ true → AtRecord sheet (word frame 2)
+  so-begins e = at-record sheet (word frame 2) (ap (λ (n : ℕ). inRecords n (recordArea sheet)) (word-same frame 2) ∙ e)
+
+  pub begins-not : (AtRecord sheet (word frame 2) → ⊥) → startsInRecords sheet frame ≡ false
+  begins-not none-at = go (startsInRecords sheet frame) refl
+    where
+      go : (b : Bool) → startsInRecords sheet frame ≡ b → startsInRecords sheet frame ≡ false
+      go true e = absurd (none-at (so-begins e))
+      go false e = e
+
+  pub not-begins : startsInRecords sheet frame ≡ false → AtRecord sheet (word frame 2) → ⊥
+  not-begins e one = true≢false (sym (begins-so one) ∙ e)
+
+  count-so : wrongCount sheet frame ≡ false → RightCount sheet frame
   count-so e =
+      let reading : isRead ≡ true → (none || several) ≡ false =
+      where-so isRead (none || several) (neither-first (isRead && (none || several)) (isMany && (none || not fitting)) e) in
       record {
-        ofRead = λ is. some-so (where-so isRead none (neither-first (isRead && none) (isMany && (none || not fitting)) e) (eq-eqb (function frame) 0x03 is));
-        ofMany = λ is. let right = where-so isMany (none || not fitting) (neither-second (isRead && none) (isMany && (none || not fitting)) e)
+        ofRead = λ is. some-so (neither-first none several (reading (eq-eqb (function frame) 0x03 is)));
+        ofRecord = λ is one. word-same frame 4 ∙ eqb-true (second frame) 1 (not-false (eqb (second frame) 1)
+            (where-so (startsInRecords sheet frame) (not (eqb (second frame) 1)) (neither-second none several (reading (eq-eqb (function frame) 0x03 is)))
+            (begins-so one)));
+        ofMany = λ is. let right = where-so isMany (none || not fitting) (neither-second (isRead && (none || several)) (isMany && (none || not fitting)) e)
             (eq-eqb (function frame) 0x10 is) in (
               some-so (neither-first none (not fitting) right),
               eqb-true (byteCount frame) (2 * second frame) (not-false fitting (neither-second none (not fitting) right))
@@ -218,12 +245,15 @@ module _ (frame : List ℕ) where
             );
       }
 
-  so-count : RightCount frame → wrongCount frame ≡ false
+  so-count : RightCount sheet frame → wrongCount sheet frame ≡ false
   so-count right =
-      neither (so-where isRead none (λ is. so-some (right .ofRead (eqb-true (function frame) 0x03 is))))
+      neither (so-where isRead (none || several) (λ is. let read = eqb-true (function frame) 0x03 is in
+      neither (so-some (right .ofRead read))
+      (so-where (startsInRecords sheet frame) (not (eqb (second frame) 1)) (λ inside.
+      ap not (eq-eqb (second frame) 1 (sym (word-same frame 4) ∙ right .ofRecord read (so-begins inside)))))))
       (so-where isMany (none || not fitting) (λ is. let many = right .ofMany (eqb-true (function frame) 0x10 is) in
       neither (so-some (many .0))
       (ap not (eq-eqb (byteCount frame) (2 * second frame) (many .1 ∙ ap (λ (n : ℕ). 2 * n) (word-same frame 4))))))
 
-  pub count-tells : Tells (wrongCount frame) (RightCount frame)
+  pub count-tells : Tells (wrongCount sheet frame) (RightCount sheet frame)
   count-tells = record { right = count-so; wrongly = so-count }

@@ -35,12 +35,12 @@ tested a b c d e f g =
 module _ (given : Lent) (frame : List ℕ) (keeps : sound (given .sheet) ≡ true) (bytes : Bytes (given .sheet)) where
   abbrev pub judgedFate : Fate
   judgedFate =
-      tested (failsCheck frame) (otherStation given frame) (functionNotAllowed (given .sheet) frame) (wrongLength frame) (wrongCount frame)
-      (wrongAddress (given .sheet) frame) (wrongValue frame || badWrite given frame)
+      tested (failsCheck frame) (otherStation given frame) (functionNotAllowed (given .sheet) frame) (wrongLength frame) (wrongCount (given .sheet) frame)
+      (wrongAddress given frame) (wrongValue frame || badWrite given frame)
 
   -- the seventh test says what it should once the sixth is passed
-  value-tells-then : wrongAddress (given .sheet) frame ≡ false → Tells (wrongValue frame || badWrite given frame) (plain.RightValue given frame)
-  value-tells-then right = value-tells given frame keeps (λ write. open-write (given .sheet) frame write right .all)
+  value-tells-then : wrongAddress given frame ≡ false → Tells (wrongValue frame || badWrite given frame) (plain.RightValue given frame)
+  value-tells-then right = value-tells given frame keeps (λ write. open-write given frame write right .all)
 
   pub gets-judged : {fate : Fate} → Gets given frame fate → fate ≡ judgedFate
   gets-judged (plain.notWhole a) = simp (fails (whole-tells frame) a)
@@ -55,7 +55,7 @@ module _ (given : Lent) (frame : List ℕ) (keeps : sound (given .sheet) ≡ tru
         station-tells given frame .wrongly q,
         allowed-tells (given .sheet) frame .wrongly r,
         length-tells frame .wrongly s,
-        fails (count-tells frame) a,
+        fails (count-tells (given .sheet) frame) a,
       )
   gets-judged (plain.wrongAddress p q r s t a) =
       simp (
@@ -63,36 +63,36 @@ module _ (given : Lent) (frame : List ℕ) (keeps : sound (given .sheet) ≡ tru
         station-tells given frame .wrongly q,
         allowed-tells (given .sheet) frame .wrongly r,
         length-tells frame .wrongly s,
-        count-tells frame .wrongly t,
-        fails (address-tells (given .sheet) keeps bytes frame) a,
+        count-tells (given .sheet) frame .wrongly t,
+        fails (address-tells given keeps bytes frame) a,
       )
   gets-judged (plain.wrongValue p q r s t u a) =
-      let right = address-tells (given .sheet) keeps bytes frame .wrongly u in
+      let right = address-tells given keeps bytes frame .wrongly u in
       simp (
         whole-tells frame .wrongly p,
         station-tells given frame .wrongly q,
         allowed-tells (given .sheet) frame .wrongly r,
         length-tells frame .wrongly s,
-        count-tells frame .wrongly t,
+        count-tells (given .sheet) frame .wrongly t,
         right,
         fails (value-tells-then right) a,
       )
   gets-judged (plain.allRight p q r s t u v) =
-      let right = address-tells (given .sheet) keeps bytes frame .wrongly u in
+      let right = address-tells given keeps bytes frame .wrongly u in
       simp (
         whole-tells frame .wrongly p,
         station-tells given frame .wrongly q,
         allowed-tells (given .sheet) frame .wrongly r,
         length-tells frame .wrongly s,
-        count-tells frame .wrongly t,
+        count-tells (given .sheet) frame .wrongly t,
         right,
         value-tells-then right .wrongly v,
       )
 
   pub judged-gets : Gets given frame judgedFate
   judged-gets =
-      go (failsCheck frame) (otherStation given frame) (functionNotAllowed (given .sheet) frame) (wrongLength frame) (wrongCount frame)
-      (wrongAddress (given .sheet) frame) (wrongValue frame || badWrite given frame) refl refl refl refl refl refl refl
+      go (failsCheck frame) (otherStation given frame) (functionNotAllowed (given .sheet) frame) (wrongLength frame) (wrongCount (given .sheet) frame)
+      (wrongAddress given frame) (wrongValue frame || badWrite given frame) refl refl refl refl refl refl refl
     where
       whole : Tells (failsCheck frame) (plain.Whole frame)
       whole = whole-tells frame
@@ -106,14 +106,14 @@ module _ (given : Lent) (frame : List ℕ) (keeps : sound (given .sheet) ≡ tru
       long : Tells (wrongLength frame) (plain.RightLength frame)
       long = length-tells frame
 
-      counted : Tells (wrongCount frame) (plain.RightCount frame)
-      counted = count-tells frame
+      counted : Tells (wrongCount (given .sheet) frame) (plain.RightCount (given .sheet) frame)
+      counted = count-tells (given .sheet) frame
 
-      placed : Tells (wrongAddress (given .sheet) frame) (plain.RightAddress (given .sheet) frame)
-      placed = address-tells (given .sheet) keeps bytes frame
+      placed : Tells (wrongAddress given frame) (plain.RightAddress given frame)
+      placed = address-tells given keeps bytes frame
 
       go : (a b c d e f g : Bool) → failsCheck frame ≡ a → otherStation given frame ≡ b → functionNotAllowed (given .sheet) frame ≡ c → wrongLength frame ≡ d
-          → wrongCount frame ≡ e → wrongAddress (given .sheet) frame ≡ f → (wrongValue frame || badWrite given frame) ≡ g
+          → wrongCount (given .sheet) frame ≡ e → wrongAddress given frame ≡ f → (wrongValue frame || badWrite given frame) ≡ g
           → Gets given frame (tested a b c d e f g)
       go true b c d e f g p q r s t u v = plain.notWhole (unmet whole p)
       go false true c d e f g p q r s t u v = plain.otherStation (whole .right p) (unmet ours q)

@@ -1,6 +1,6 @@
 -- The facts about a frame alone, the first bad address and the first bad item: plain numbers say what the ordered facts say. Assumes nothing.
 use mathlib.Core.Path.{_≡_, refl, sym, ap, ap₂, subst, _∙_}
-use mathlib.Core.Bool.{Bool, true, false, not, _&&_, _||_, true≢false, false≢true}
+use mathlib.Core.Bool.{Bool, true, false, not, cond, _&&_, _||_, true≢false, false≢true}
 use mathlib.Core.List.{List}
 use mathlib.Core.Logic.{_⊎_, inl, inr}
 use Prim.Native.Nat.{ℕ, _-_, _≤_, _<_}
@@ -16,10 +16,10 @@ use Rattle.lists.proofs.Among.{up-among, each-among, among-some}
 use Rattle.sheet_rules.specs.declared.Item.{Item}
 use Rattle.sheet_rules.specs.declared.Purpose.{Purpose}
 use Rattle.sheet_rules.specs.declared.Purpose.the-variants.{Read, Write}
-use Rattle.sheet_rules.specs.Rows.{areas, clearAddress}
+use Rattle.sheet_rules.specs.Rows.{areas, clearAddress, recordArea}
 use Rattle.sheet_rules.specs.Rules.{sound}
 use Rattle.sheet_rules.specs.declared.Lies.the-variants.{At}
-use Rattle.sheet_rules.specs.Lookup.{liesIn, addressOf}
+use Rattle.sheet_rules.specs.Lookup.{liesIn, addressOf, recordNumber}
 use Rattle.sheet_rules.specs.Runs.{opens, allOpen}
 use Rattle.sheet_rules.proofs.Addresses.{place-address}
 use Rattle.range.specs.Range.{inRange}
@@ -27,17 +27,23 @@ use Rattle.bank_rules.specs.Bank.{valueBy, goodBy}
 use Rattle.bank_rules.specs.Calls.{Lent}
 use Rattle.bank_rules.proofs.Changes.{Passed}
 use Rattle.frame.specs.Frame.{reads, clears, function, start, second, isWrite, count, run}
+use Rattle.ring_rules.specs.Ring.{storedCount}
 use Rattle.meter_rules.specs.Write.{firstPlace, wouldBe, touched, badItem, someBad, stopPlace}
+use Rattle.meter_rules.specs.Steps.{startsInRecords, askedNumber, beyondStored, wrongCount}
+use Rattle.meter_rules.proofs.Order.{asks-write}
+use Rattle.meter_rules.proofs.Records.{record-count}
 use Rattle.meter_rules.proofs.Keeping.{front-fine}
-use Rattle.why_rules.specs.Facts.{tooShort, tooLong, checkDiffers, readsTooMany, shutAddress, firstShut, firstBadAddress, firstBadItem}
-use Rattle.why_rules.proofs.Parts.{which-shut, read-told, write-told, clear-told}
+use Rattle.why_rules.specs.Facts.{tooShort, tooLong, checkDiffers, readsTooMany, shutRead, shutAddress, firstShut, firstBadAddress, firstBadItem}
+use Rattle.why_rules.proofs.Parts.{which-shut, read-told, write-told, clear-told, shut-of-read, record-told}
 use Rattle.why_rules.proofs.FirstAddress.{first-shut, first-shut-is}
 use Rattle.why_rules.proofs.FirstItem.{StopsAt, stops-at, stop-lies}
-use Rattle.plain.specs.Numbers.{Bytes, byte}
+use Rattle.plain.specs.Numbers.{Bytes, byte, word}
+use Rattle.plain.specs.Records.{AtRecord}
 use Rattle.plain.specs.Frame.{registers, address, Touches, ValueWouldBe, Within}
-use Rattle.plain.specs.Why.{CheckAgrees, ReadsTooMany, Opens, FirstBadAddress, ofRun, ofClear, FirstBadItem}
+use Rattle.plain.specs.Why.{CheckAgrees, ReadsTooMany, Opens, FirstBadAddress, ofRun, ofRecord, ofClear, FirstBadItem}
 use Rattle.plain.proofs.Rows.{word-same, lies-plain, plain-lies, item-row, row-item}
-use Rattle.plain.proofs.Conditions.{Tells, by-test}
+use Rattle.plain.proofs.Records.{so-record}
+use Rattle.plain.proofs.Conditions.{Tells, by-test, begins-so, so-begins, begins-not, not-begins}
 use Rattle.plain.proofs.Addresses.{Open, open-at, at-open, readable-so, so-readable, writable-so, so-writable, address-same, registers-same, writes, which}
 use Rattle.plain.proofs.Values.{within-so, so-within, value-so, so-value, touches-so, so-touches}
 
@@ -54,25 +60,29 @@ check-tells frame =
     by-test (λ e. omega (arith, eqb-true (valueOf (covered frame)) (held frame) e))
     (λ agrees. eq-eqb (valueOf (covered frame)) (held frame) (omega (arith, agrees)))
 
-module _ (frame : List ℕ) where
-  pub many-so : readsTooMany frame ≡ true → ReadsTooMany frame
-  many-so e = (
-    eqb-true (function frame) 0x03 (first-of (eqb (function frame) 0x03) (ltb 47 (second frame)) e),
-    omega (arith, word-same frame 4, ltb-true 47 (second frame) (second-of (eqb (function frame) 0x03) (ltb 47 (second frame)) e)),
-  )
+module _ (sheet frame : List ℕ) where
+  pub many-so : readsTooMany sheet frame ≡ true → ReadsTooMany sheet frame
+  many-so e =
+      let over = first-of (eqb (function frame) 0x03 && ltb 47 (second frame)) (not (startsInRecords sheet frame)) e in (
+        eqb-true (function frame) 0x03 (first-of (eqb (function frame) 0x03) (ltb 47 (second frame)) over),
+        omega (arith, word-same frame 4, ltb-true 47 (second frame) (second-of (eqb (function frame) 0x03) (ltb 47 (second frame)) over)),
+        not-begins sheet frame (not-true (startsInRecords sheet frame)
+            (second-of (eqb (function frame) 0x03 && ltb 47 (second frame)) (not (startsInRecords sheet frame)) e)),
+      )
 
-  pub so-many : ReadsTooMany frame → readsTooMany frame ≡ true
+  pub so-many : ReadsTooMany sheet frame → readsTooMany sheet frame ≡ true
   so-many many =
-      ap₂ _&&_ (eq-eqb (function frame) 0x03 (many .0)) (lt-ltb 47 (second frame) (omega (arith, word-same frame 4, many .1)))
+      ap₂ _&&_ (ap₂ _&&_ (eq-eqb (function frame) 0x03 (many .0)) (lt-ltb 47 (second frame) (omega (arith, word-same frame 4, many .1))))
+      (ap not (begins-not sheet frame (many .2)))
 
-  pub many-tells : Tells (readsTooMany frame) (ReadsTooMany frame → ⊥)
+  pub many-tells : Tells (readsTooMany sheet frame) (ReadsTooMany sheet frame → ⊥)
   many-tells =
       record {
         right = λ e many. true≢false (sym (so-many many) ∙ e);
-        wrongly = λ few. go few (readsTooMany frame) refl;
+        wrongly = λ few. go few (readsTooMany sheet frame) refl;
       }
     where
-      go : (ReadsTooMany frame → ⊥) → (b : Bool) → readsTooMany frame ≡ b → readsTooMany frame ≡ false
+      go : (ReadsTooMany sheet frame → ⊥) → (b : Bool) → readsTooMany sheet frame ≡ b → readsTooMany sheet frame ≡ false
       go few true e = absurd (few (many-so e))
       go few false e = e
 
@@ -114,35 +124,7 @@ module _ (sheet frame : List ℕ) (keeps : sound sheet ≡ true) (bytes : Bytes 
       other code p q (inl e) f = omega (arith, p, e, f)
       other code p q (inr e) f = omega (arith, q, e, f)
 
-  of-run : (purpose : Purpose) → OpensAs purpose → allOpen purpose sheet (run frame) ≡ false → FirstBadAddress sheet frame (firstShut purpose sheet (run frame))
-  of-run purpose opening closed =
-      let at : ℕ = firstShut purpose sheet (run frame) in
-      let found = first-shut purpose sheet keeps (start frame) (count frame) closed in
-      let k : ℕ = at - start frame in
-      let same : address frame k ≡ at = address-same frame k ∙ omega (arith, found .low) in
-      subst (FirstBadAddress sheet frame) same
-      (ofRun k (omega (arith, found .high, found .low, registers-same frame))
-      (λ opens. true≢false (sym (at-open sheet keeps bytes purpose (address frame k) (opening .asked (address frame k) opens))
-      ∙ ap (λ (n : ℕ). open? n) same ∙ found .itself))
-      (λ j less. opening .granted (address frame j) (open-at sheet keeps bytes purpose (address frame j)
-      (ap (λ (n : ℕ). open? n) (address-same frame j) ∙ found .front j (omega (arith, less, found .low))))))
-    where
-      open? : ℕ → Bool
-      open? n = opens purpose (liesIn (areas sheet) n)
-
-  pub first-address-so : shutAddress sheet frame ≡ true → FirstBadAddress sheet frame (firstBadAddress sheet frame)
-  first-address-so shut = go (which-shut sheet frame shut)
-    where
-      go : ((function frame ≡ reads) × (allOpen Read sheet (run frame) ≡ false)) ⊎ ((isWrite frame ≡ true) × (allOpen Write sheet (run frame) ≡ false))
-          ⊎ ((function frame ≡ clears) × (eqb (start frame) (clearAddress sheet) ≡ false))
-          → FirstBadAddress sheet frame (firstBadAddress sheet frame)
-      go (inl (is, closed)) = subst (FirstBadAddress sheet frame) (sym (read-told sheet frame is)) (of-run Read (opens-to-read is) closed)
-      go (inr (inl (is, closed))) = subst (FirstBadAddress sheet frame) (sym (write-told sheet frame is)) (of-run Write (opens-to-write (which frame is)) closed)
-      go (inr (inr (is, elsewhere))) =
-          subst (FirstBadAddress sheet frame) (word-same frame 2 ∙ sym (clear-told sheet frame is))
-          (ofClear is (λ same. eqb-false (start frame) (clearAddress sheet) elsewhere (sym (word-same frame 2) ∙ same ∙ word-same sheet 20)))
-
-  -- and the other way: a first bad address is the one that is told
+  -- an address of a run that is not open, with every one in front of it open, is the one that is told
   run-is : (purpose : Purpose) → OpensAs purpose → (k : ℕ) → k < registers frame → (Opens sheet frame (address frame k) → ⊥)
       → ((j : ℕ) → j < k → Opens sheet frame (address frame j)) → (allOpen purpose sheet (run frame) ≡ false) × (firstShut purpose sheet (run frame) ≡ address frame k)
   unfolding allOpen
@@ -174,8 +156,65 @@ module _ (sheet frame : List ℕ) (keeps : sound sheet ≡ true) (bytes : Bytes 
               ∙ ap open? (sym (address-same frame k)) ∙ closed))
           go false e = e
 
+module _ (given : Lent) (frame : List ℕ) (keeps : sound (given .sheet) ≡ true) (bytes : Bytes (given .sheet)) where
+  abbrev sheet : List ℕ
+  sheet = given .sheet
+
+  of-run : (byte frame 1 ≡ 0x03 → AtRecord sheet (word frame 2) → ⊥) → (purpose : Purpose) → OpensAs sheet frame keeps bytes purpose
+      → allOpen purpose sheet (run frame) ≡ false → FirstBadAddress given frame (firstShut purpose sheet (run frame))
+  of-run none purpose opening closed =
+      let at : ℕ = firstShut purpose sheet (run frame) in
+      let found = first-shut purpose sheet keeps (start frame) (count frame) closed in
+      let k : ℕ = at - start frame in
+      let same : address frame k ≡ at = address-same frame k ∙ omega (arith, found .low) in
+      subst (FirstBadAddress given frame) same
+      (ofRun none k (omega (arith, found .high, found .low, registers-same frame))
+      (λ opens. true≢false (sym (at-open sheet keeps bytes purpose (address frame k) (opening .asked (address frame k) opens))
+      ∙ ap (λ (n : ℕ). open? n) same ∙ found .itself))
+      (λ j less. opening .granted (address frame j) (open-at sheet keeps bytes purpose (address frame j)
+      (ap (λ (n : ℕ). open? n) (address-same frame j) ∙ found .front j (omega (arith, less, found .low))))))
+    where
+      open? : ℕ → Bool
+      open? n = opens purpose (liesIn (areas sheet) n)
+
+  write-none : isWrite frame ≡ true → byte frame 1 ≡ 0x03 → AtRecord sheet (word frame 2) → ⊥
+  write-none write is one = true≢false (sym (eq-eqb (function frame) 0x03 is) ∙ asks-write frame write .isRead)
+
+  -- behind step 5, what is told is a first bad address
+  module _ (right : wrongCount sheet frame ≡ false) where
+    of-read : (is : function frame ≡ reads) → shutRead given frame ≡ true → allOpen Read sheet (run frame) ≡ false → (inside : Bool)
+        → startsInRecords sheet frame ≡ inside → FirstBadAddress given frame (firstBadAddress sheet frame)
+    of-read is shut closed true e =
+        let one = so-begins sheet frame e in
+        let beyond = sym (ap (λ (b : Bool). cond b (beyondStored given frame) (not (allOpen Read sheet (run frame)))) e) ∙ shut in
+        subst (FirstBadAddress given frame) (word-same frame 2 ∙ sym (record-told given frame is keeps e (record-count sheet frame is e right)))
+        (ofRecord is (one .0) (one .1) (one .2) (one .3)
+        (omega (
+          arith,
+          word-same (given .ring) 2,
+          so-record sheet (one .3) .itsNumber ∙ ap (recordNumber (recordArea sheet)) (word-same frame 2),
+          ltb-true (storedCount (given .ring)) (askedNumber sheet frame) beyond,
+        )))
+    of-read is shut closed false e =
+        subst (FirstBadAddress given frame) (sym (read-told sheet frame is))
+        (of-run (λ read. not-begins sheet frame e) Read (opens-to-read sheet frame keeps bytes is) closed)
+
+    pub first-address-so : shutAddress given frame ≡ true → FirstBadAddress given frame (firstBadAddress sheet frame)
+    first-address-so shut = go (which-shut given frame keeps right shut)
+      where
+        go : ((function frame ≡ reads) × (allOpen Read sheet (run frame) ≡ false)) ⊎ ((isWrite frame ≡ true) × (allOpen Write sheet (run frame) ≡ false))
+            ⊎ ((function frame ≡ clears) × (eqb (start frame) (clearAddress sheet) ≡ false))
+            → FirstBadAddress given frame (firstBadAddress sheet frame)
+        go (inl (is, closed)) = of-read is (sym (shut-of-read given frame is) ∙ shut) closed (startsInRecords sheet frame) refl
+        go (inr (inl (is, closed))) =
+            subst (FirstBadAddress given frame) (sym (write-told sheet frame is))
+            (of-run (write-none is) Write (opens-to-write sheet frame keeps bytes (which frame is)) closed)
+        go (inr (inr (is, elsewhere))) =
+            subst (FirstBadAddress given frame) (word-same frame 2 ∙ sym (clear-told sheet frame is))
+            (ofClear is (λ same. eqb-false (start frame) (clearAddress sheet) elsewhere (sym (word-same frame 2) ∙ same ∙ word-same sheet 20)))
+
   abbrev readShut : Bool
-  readShut = eqb (function frame) 0x03 && not (allOpen Read sheet (run frame))
+  readShut = eqb (function frame) 0x03 && shutRead given frame
 
   abbrev writeShut : Bool
   writeShut = isWrite frame && not (allOpen Write sheet (run frame))
@@ -183,23 +222,34 @@ module _ (sheet frame : List ℕ) (keeps : sound sheet ≡ true) (bytes : Bytes 
   abbrev clearShut : Bool
   clearShut = eqb (function frame) 0x05 && not (eqb (start frame) (clearAddress sheet))
 
-  pub so-first-address : {at : ℕ} → FirstBadAddress sheet frame at → (shutAddress sheet frame ≡ true) × (firstBadAddress sheet frame ≡ at)
-  so-first-address (ofClear is elsewhere) = (
+  pub so-first-address : wrongCount sheet frame ≡ false → {at : ℕ} → FirstBadAddress given frame at
+      → (shutAddress given frame ≡ true) × (firstBadAddress sheet frame ≡ at)
+  so-first-address right (ofClear is elsewhere) = (
     any readShut writeShut clearShut
         (inr (inr (ap₂ _&&_ (eq-eqb (function frame) 0x05 is)
         (ap not (ne-eqb (start frame) (clearAddress sheet) (λ e. elsewhere (word-same frame 2 ∙ e ∙ sym (word-same sheet 20)))))))),
     clear-told sheet frame is ∙ sym (word-same frame 2),
   )
-  so-first-address (ofRun k less shut front) = go (eqb (function frame) 0x03) (isWrite frame) refl refl
+  so-first-address right (ofRecord is number many words one beyond) =
+      let inside = begins-so sheet frame (number, many, words, one) in
+      let over : beyondStored given frame ≡ true = lt-ltb (storedCount (given .ring)) (askedNumber sheet frame)
+      (omega (arith, word-same (given .ring) 2, beyond, so-record sheet one .itsNumber ∙ ap (recordNumber (recordArea sheet)) (word-same frame 2))) in (
+        shut-of-read given frame is ∙ ap (λ (b : Bool). cond b (beyondStored given frame) (not (allOpen Read sheet (run frame)))) inside ∙ over,
+        record-told given frame is keeps inside (record-count sheet frame is inside right) ∙ sym (word-same frame 2),
+      )
+  so-first-address right (ofRun none k less shut front) = go (eqb (function frame) 0x03) (isWrite frame) refl refl
     where
       go : (read write : Bool) → eqb (function frame) 0x03 ≡ read → isWrite frame ≡ write
-          → (shutAddress sheet frame ≡ true) × (firstBadAddress sheet frame ≡ address frame k)
+          → (shutAddress given frame ≡ true) × (firstBadAddress sheet frame ≡ address frame k)
       go true write r w =
           let is = eqb-true (function frame) 0x03 r in
-          let found = run-is Read (opens-to-read is) k less shut front in
-          (any readShut writeShut clearShut (inl (ap₂ _&&_ r (ap not (found .0)))), read-told sheet frame is ∙ found .1)
+          let found = run-is sheet frame keeps bytes Read (opens-to-read sheet frame keeps bytes is) k less shut front in (
+            shut-of-read given frame is
+                ∙ ap (λ (b : Bool). cond b (beyondStored given frame) (not (allOpen Read sheet (run frame)))) (begins-not sheet frame (none is)) ∙ ap not (found .0),
+            read-told sheet frame is ∙ found .1,
+          )
       go false true r w =
-          let found = run-is Write (opens-to-write (which frame w)) k less shut front in
+          let found = run-is sheet frame keeps bytes Write (opens-to-write sheet frame keeps bytes (which frame w)) k less shut front in
           (any readShut writeShut clearShut (inr (inl (ap₂ _&&_ w (ap not (found .0))))), write-told sheet frame w ∙ found .1)
       go false false r w =
           absurd (shut record {

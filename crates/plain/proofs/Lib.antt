@@ -1,4 +1,5 @@
 pub mod Rows
+pub mod Records
 pub mod Conditions
 pub mod Addresses
 pub mod Values

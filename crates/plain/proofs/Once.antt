@@ -11,7 +11,11 @@ use lib.ListN.{length, take}
 use lib.Seq.{ext-getD, getD-take, length-take-le}
 use borrow.Author.Tests.{ltb-true, ltb-false}
 use Rattle.check_value.specs.Check.{valueOf}
+use Rattle.sheet_rules.specs.Rows.{recordArea}
 use Rattle.sheet_rules.specs.Rules.{sound}
+use Rattle.sheet_rules.proofs.Records.{in-records-has, records-rules}
+use Rattle.ring_rules.specs.Ring.{placeOf}
+use Rattle.ring_rules.specs.Calls.{ringFits}
 use Rattle.bank_rules.specs.Calls.{Lent}
 use Rattle.sheet_rules.specs.declared.Purpose.the-variants.{Write}
 use Rattle.sheet_rules.specs.Runs.{allOpen}
@@ -19,10 +23,12 @@ use Rattle.frame.specs.Frame.{run}
 use Rattle.meter_rules.proofs.Soundness.{open-write}
 use Rattle.plain.specs.Numbers.{byte, word, Bytes}
 use Rattle.plain.specs.Sheet.{LiesAt}
+use Rattle.plain.specs.Records.{StandsAt}
 use Rattle.plain.specs.Frame as plain
 use Rattle.plain.specs.Frame.{registers, address, sentWord, Gets, Fate, silence, error, good}
 use Rattle.plain.specs.Left as left
-use Rattle.plain.specs.Left.{Left, Closed, ErrorReply, ReadReply, Echo, HandsBack, LetThrough, Stored, Clears, WordLeft, Leaves}
+use Rattle.plain.specs.Left.{Left, Closed, ErrorReply, ReadReply, RecordReply, Echo, HandsBack, LetThrough, Stored, Clears, WordLeft, Leaves}
+use Rattle.plain.proofs.Records.{SameRecord, so-record, its-place}
 use Rattle.plain.proofs.Addresses.{address-tells, writes}
 use Rattle.plain.proofs.Values.{goes-at}
 use Rattle.plain.proofs.Fates.{one-fate}
@@ -128,12 +134,26 @@ module _ (frame before one other : List ℕ) (room : 100 ≤ length before) (one
       at (suc (suc zero)) less = a .bytes ∙ sym (b .bytes)
       at (suc (suc (suc k))) less = words-same one other one-bytes other-bytes 3 (registers frame) word-at (suc (suc (suc k))) (omega arith) less
 
+  record-once : {ring : List ℕ} {number many words : ℕ} → words ≤ 47 → (place : ℕ) × StandsAt ring many number place
+      → RecordReply ring frame before one number many words → RecordReply ring frame before other number many words → one ≡ other
+  record-once {words = words} few stands a b =
+      closed-once (5 + 2 * words) (omega arith) (omega arith) (a .closed) (b .closed) one-bytes other-bytes (λ k less. at k (omega arith))
+    where
+      word-at : (i : ℕ) → i < words → word one (3 + 2 * i) ≡ word other (3 + 2 * i)
+      word-at i less = a .itsWords i (stands .0) less (stands .1) ∙ sym (b .itsWords i (stands .0) less (stands .1))
+
+      at : (k : ℕ) → k < 3 + 2 * words → byte one k ≡ byte other k
+      at zero less = a .station ∙ sym (b .station)
+      at (suc zero) less = a .function ∙ sym (b .function)
+      at (suc (suc zero)) less = a .bytes ∙ sym (b .bytes)
+      at (suc (suc (suc k))) less = words-same one other one-bytes other-bytes 3 words word-at (suc (suc (suc k))) (omega arith) less
+
 -- ---- the words of the bank
 
 module _ (given : Lent) (frame : List ℕ) (keeps : sound (given .sheet) ≡ true) (bytes : Bytes (given .sheet)) where
   all-open : LetThrough given frame → allOpen Write (given .sheet) (run frame) ≡ true
   all-open through =
-      open-write (given .sheet) frame (writes frame (through .writes)) (address-tells (given .sheet) keeps bytes frame .wrongly (through .addressed)) .all
+      open-write given frame (writes frame (through .writes)) (address-tells given keeps bytes frame .wrongly (through .addressed)) .all
 
   -- one word goes to a place
   stored-once : (j k place : ℕ) → Stored given frame j place → Stored given frame k place → j ≡ k
@@ -161,7 +181,7 @@ module _ (given : Lent) (frame : List ℕ) (keeps : sound (given .sheet) ≡ tru
 
   -- ---- all of it
 
-  module _ (before : List ℕ) (fits : length (given .bank) ≡ 2 * word (given .sheet) 10 + 2) (room : 100 ≤ length before) (one other : Left)
+  module _ (before : List ℕ) (ringed : ringFits (given .sheet) (given .ring) ≡ true) (fits : length (given .bank) ≡ 2 * word (given .sheet) 10 + 2) (room : 100 ≤ length before) (one other : Left)
       (one-bank : Bytes (one .bank)) (other-bank : Bytes (other .bank)) (one-buffer : Bytes (one .buffer)) (other-buffer : Bytes (other .buffer)) where
     same-left : one .number ≡ other .number → one .size ≡ other .size → one .rate ≡ other .rate → one .bank ≡ other .bank → one .buffer ≡ other .buffer
         → one ≡ other
@@ -175,18 +195,46 @@ module _ (given : Lent) (frame : List ℕ) (keeps : sound (given .sheet) ≡ tru
     hands-back-once silence gets (left.quiet p) (left.quiet q) banks = p ∙ sym q
     hands-back-once (error code) gets (left.erred a b c d) (left.erred e f g h) banks =
         same-left (a ∙ sym e) (b ∙ sym f) (c ∙ sym g) banks (error-once frame before (one .buffer) (other .buffer) room one-buffer other-buffer d h)
-    hands-back-once good gets (left.read is a b c d) (left.read was e f g h) banks =
+    hands-back-once good gets (left.read is none a b c d) (left.read was also e f g h) banks =
         same-left (a ∙ sym e) (b ∙ sym f) (c ∙ sym g) banks (reads gets)
       where
         reads : Gets given frame good → one .buffer ≡ other .buffer
         reads (plain.allRight x y z s t right v) =
-            read-once frame before (one .buffer) (other .buffer) room one-buffer other-buffer (omega (arith, right .atMost47 is, count-is))
-            (λ k less. let open-one = right .read is k less in (open-one .place, open-one .access, open-one .lies)) d h
+            read-once frame before (one .buffer) (other .buffer) room one-buffer other-buffer (omega (arith, right .atMost47 is none, count-is))
+            (λ k less. let open-one = right .read is none k less in (open-one .place, open-one .access, open-one .lies)) d h
           where
             count-is : registers frame ≡ word frame 4
             count-is = ap (λ (n : ℕ). cond (eqb n 0x06) 1 (word frame 4)) is
-    hands-back-once good gets (left.read is a b c d) (left.echoed another e f g h) banks = absurd (another is)
-    hands-back-once good gets (left.echoed another a b c d) (left.read is e f g h) banks = absurd (another is)
+    hands-back-once good gets (left.recorded is number many words at a b c d) (left.recorded was number′ many′ words′ at′ e f g h) banks =
+        same-left (a ∙ sym e) (b ∙ ap (λ (n : ℕ). 5 + 2 * n) same-words ∙ sym f) (c ∙ sym g) banks (reads gets)
+      where
+        mine : SameRecord (given .sheet) (word frame 2) number many words
+        mine = so-record (given .sheet) at
+
+        theirs : SameRecord (given .sheet) (word frame 2) number′ many′ words′
+        theirs = so-record (given .sheet) at′
+
+        same-words : words ≡ words′
+        same-words = mine .itsWords ∙ sym (theirs .itsWords)
+
+        reply : RecordReply (given .ring) frame before (other .buffer) number many words
+        reply =
+            subst (λ (n : ℕ). RecordReply (given .ring) frame before (other .buffer) n many words) (theirs .itsNumber ∙ sym (mine .itsNumber))
+            (subst (λ (n : ℕ). RecordReply (given .ring) frame before (other .buffer) number′ n words) (theirs .itsMany ∙ sym (mine .itsMany))
+            (subst (RecordReply (given .ring) frame before (other .buffer) number′ many′) (sym same-words) h))
+
+        reads : Gets given frame good → one .buffer ≡ other .buffer
+        reads (plain.allRight x y z s t right v) =
+            record-once frame before (one .buffer) (other .buffer) room one-buffer other-buffer
+            (omega (arith, mine .itsWords, records-rules (given .sheet) keeps (in-records-has (given .sheet) (word frame 2) (mine .inside)) .words-high))
+            (placeOf (recordArea (given .sheet)) (given .ring) number,
+            its-place (given .sheet) (given .ring) ringed at (right .recorded is number many words at)) d reply
+    hands-back-once good gets (left.read is none a b c d) (left.recorded was number many words at e f g h) banks = absurd (none (number, many, words, at))
+    hands-back-once good gets (left.recorded is number many words at a b c d) (left.read was none e f g h) banks = absurd (none (number, many, words, at))
+    hands-back-once good gets (left.read is none a b c d) (left.echoed another e f g h) banks = absurd (another is)
+    hands-back-once good gets (left.recorded is number many words at a b c d) (left.echoed another e f g h) banks = absurd (another is)
+    hands-back-once good gets (left.echoed another a b c d) (left.read is none e f g h) banks = absurd (another is)
+    hands-back-once good gets (left.echoed another a b c d) (left.recorded is number many words at e f g h) banks = absurd (another is)
     hands-back-once good gets (left.echoed another a b c d) (left.echoed also e f g h) banks =
         same-left (a ∙ sym e) (b ∙ sym f) (c ∙ sym g) banks (echo-once frame before (one .buffer) (other .buffer) room one-buffer other-buffer d h)
 

@@ -60,11 +60,12 @@ module _ (given : Lent) (keeps : sound (given .sheet) ≡ true) (bytes : Bytes (
   no-other : {code : ℕ} → (6 ≡ code → ⊥) → byte sent 1 ≡ code → ⊥
   no-other apart e = apart e
 
-  addresses : RightAddress (given .sheet) sent
+  addresses : RightAddress given sent
   addresses =
       record {
         atMost47 = λ e. absurd (no-other (λ f. omega (arith, f)) e);
         read = λ e. absurd (no-other (λ f. omega (arith, f)) e);
+        recorded = λ e. absurd (no-other (λ f. omega (arith, f)) e);
         written = λ is k less. let none : k ≡ 0 = omega (arith, less) in
             let here : word sent 2 + k ≡ at = omega (arith, none, at-same given at v small word-sent) in
             subst (Writable (given .sheet)) (sym here) record { small = small; place = q; lies = lies };
@@ -83,7 +84,7 @@ module _ (given : Lent) (keeps : sound (given .sheet) ≡ true) (bytes : Bytes (
       (omega arith, subst (λ (n : ℕ). LiesAt (given .sheet) n q 3) (sym here) lies)
 
   all-open : allOpen Write (given .sheet) (run sent) ≡ true
-  all-open = open-write (given .sheet) sent refl (address-tells (given .sheet) keeps bytes sent .wrongly addresses) .all
+  all-open = open-write given sent refl (address-tells given keeps bytes sent .wrongly addresses) .all
 
   -- what is touched holds the place
   touched-holds : (item : Item) → Touches (given .sheet) sent (item .kind) (item .place) → holds item q ≡ true
@@ -114,8 +115,13 @@ module _ (given : Lent) (keeps : sound (given .sheet) ≡ true) (bytes : Bytes (
     eight : plain.RightLength sent
     eight = record { eight = λ e. refl; nineAndMore = λ e. absurd (no-other (λ f. omega (arith, f)) e) }
 
-    counted : plain.RightCount sent
-    counted = record { ofRead = λ e. absurd (no-other (λ f. omega (arith, f)) e); ofMany = λ e. absurd (no-other (λ f. omega (arith, f)) e) }
+    counted : plain.RightCount (given .sheet) sent
+    counted =
+        record {
+          ofRead = λ e. absurd (no-other (λ f. omega (arith, f)) e);
+          ofRecord = λ e. absurd (no-other (λ f. omega (arith, f)) e);
+          ofMany = λ e. absurd (no-other (λ f. omega (arith, f)) e);
+        }
 
     gets-good : RightValue given sent → Gets given sent good
     gets-good right = plain.allRight (whole given at v small word-sent) refl (inr (inr (inl (refl, set06)))) eight counted addresses right

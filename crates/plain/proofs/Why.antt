@@ -28,7 +28,7 @@ use Rattle.why_rules.proofs.Parts.{wrong-address}
 use Rattle.plain.specs.Numbers.{Bytes}
 use Rattle.plain.specs.Frame as plain
 use Rattle.plain.specs.Frame.{Whole, RightCount, RightAddress, Fate, silence, error, good, Gets}
-use Rattle.plain.specs.Why.{ReadsTooMany, AsFunction, AsCount, FirstBadAddress, ofRun, ofClear, Why, byNone, byTooShort, byTooLong, byCheck, byStation, byFunction, byBodyLength, byCount, byAddress, byClearValue, byItem, GoesOut}
+use Rattle.plain.specs.Why.{ReadsTooMany, AsFunction, AsCount, FirstBadAddress, ofRun, ofRecord, ofClear, Why, byNone, byTooShort, byTooLong, byCheck, byStation, byFunction, byBodyLength, byCount, byAddress, byClearValue, byItem, GoesOut}
 use Rattle.plain.proofs.Rows.{word-same}
 use Rattle.plain.proofs.Conditions.{station-tells, allowed-tells, length-tells, count-tells, neither-first, neither-second, neither}
 use Rattle.plain.proofs.Addresses.{address-tells, writes, which}
@@ -37,19 +37,19 @@ use Rattle.plain.proofs.FirstBad.{short-tells, long-tells, check-tells,
 use Rattle.plain.proofs.Fates.{fails, unmet, one-fate}
 
 -- what goes out by the number of a reason
-data Out (frame : List ℕ) : ℕ → Fate → Type 0 where
-  afterNone : Out frame 0 good
-  afterTooShort : Out frame 1 silence
-  afterTooLong : Out frame 2 silence
-  afterCheck : Out frame 3 silence
-  afterStation : Out frame 4 silence
-  afterFunction : Out frame 5 (error 1)
-  afterBodyLength : Out frame 6 silence
-  afterTooMany : ReadsTooMany frame → Out frame 7 (error 2)
-  afterCount : (ReadsTooMany frame → ⊥) → Out frame 7 (error 3)
-  afterAddress : Out frame 8 (error 2)
-  afterClearValue : Out frame 9 (error 3)
-  afterItem : Out frame 10 (error 3)
+data Out (sheet frame : List ℕ) : ℕ → Fate → Type 0 where
+  afterNone : Out sheet frame 0 good
+  afterTooShort : Out sheet frame 1 silence
+  afterTooLong : Out sheet frame 2 silence
+  afterCheck : Out sheet frame 3 silence
+  afterStation : Out sheet frame 4 silence
+  afterFunction : Out sheet frame 5 (error 1)
+  afterBodyLength : Out sheet frame 6 silence
+  afterTooMany : ReadsTooMany sheet frame → Out sheet frame 7 (error 2)
+  afterCount : (ReadsTooMany sheet frame → ⊥) → Out sheet frame 7 (error 3)
+  afterAddress : Out sheet frame 8 (error 2)
+  afterClearValue : Out sheet frame 9 (error 3)
+  afterItem : Out sheet frame 10 (error 3)
 
 module _ (given : Lent) (frame : List ℕ) (passed : Passed given) (bytes : Bytes (given .sheet)) where
   -- what the facts say where they do not hold
@@ -57,23 +57,23 @@ module _ (given : Lent) (frame : List ℕ) (passed : Passed given) (bytes : Byte
   whole-by-facts : tooShort frame ≡ false → tooLong frame ≡ false → checkDiffers frame ≡ false → Whole frame
   whole-by-facts a b c = record { least = short-tells frame .right a; most = long-tells frame .right b; check = check-tells frame .right c }
 
-  no-wrong-address : badCount frame ≡ false → shutAddress (given .sheet) frame ≡ false → wrongAddress (given .sheet) frame ≡ false
+  no-wrong-address : badCount (given .sheet) frame ≡ false → shutAddress given frame ≡ false → wrongAddress given frame ≡ false
   no-wrong-address few fine =
-      wrong-address (given .sheet) frame ∙ neither (neither-second (wrongCount frame) (readsTooMany frame) few) fine
+      wrong-address given frame ∙ neither (neither-second (wrongCount (given .sheet) frame) (readsTooMany (given .sheet) frame) few) fine
 
-  address-by-facts : badCount frame ≡ false → shutAddress (given .sheet) frame ≡ false → RightAddress (given .sheet) frame
-  address-by-facts few fine = address-tells (given .sheet) (passed .right) bytes frame .right (no-wrong-address few fine)
+  address-by-facts : badCount (given .sheet) frame ≡ false → shutAddress given frame ≡ false → RightAddress given frame
+  address-by-facts few fine = address-tells given (passed .right) bytes frame .right (no-wrong-address few fine)
 
-  open-by-facts : badCount frame ≡ false → shutAddress (given .sheet) frame ≡ false → isWrite frame ≡ true → allOpen Write (given .sheet) (run frame) ≡ true
-  open-by-facts few fine write = open-write (given .sheet) frame write (no-wrong-address few fine) .all
+  open-by-facts : badCount (given .sheet) frame ≡ false → shutAddress given frame ≡ false → isWrite frame ≡ true → allOpen Write (given .sheet) (run frame) ≡ true
+  open-by-facts few fine write = open-write given frame write (no-wrong-address few fine) .all
 
-  count-by-facts : AsFunction given frame → wrongLength frame ≡ false → badCount frame ≡ false → AsCount given frame
+  count-by-facts : AsFunction given frame → wrongLength frame ≡ false → badCount (given .sheet) frame ≡ false → AsCount given frame
   count-by-facts function long few =
       record {
         function = function;
         long = length-tells frame .right long;
-        counted = count-tells frame .right (neither-first (wrongCount frame) (readsTooMany frame) few);
-        few = many-tells frame .right (neither-second (wrongCount frame) (readsTooMany frame) few);
+        counted = count-tells (given .sheet) frame .right (neither-first (wrongCount (given .sheet) frame) (readsTooMany (given .sheet) frame) few);
+        few = many-tells (given .sheet) frame .right (neither-second (wrongCount (given .sheet) frame) (readsTooMany (given .sheet) frame) few);
       }
 
   -- ---- what is told is so
@@ -86,19 +86,19 @@ module _ (given : Lent) (frame : List ℕ) (passed : Passed given) (bytes : Byte
   unfolding reasonOf firstCase
   why-so =
       go (tooShort frame) (tooLong frame) (checkDiffers frame) (otherStation given frame) (functionNotAllowed (given .sheet) frame) (wrongLength frame)
-      (badCount frame) (shutAddress (given .sheet) frame) (wrongValue frame) (badWrite given frame) refl refl refl refl refl refl refl refl refl refl
+      (badCount (given .sheet) frame) (shutAddress given frame) (wrongValue frame) (badWrite given frame) refl refl refl refl refl refl refl refl refl refl
     where
       as-function : tooShort frame ≡ false → tooLong frame ≡ false → checkDiffers frame ≡ false → otherStation given frame ≡ false
           → functionNotAllowed (given .sheet) frame ≡ false → AsFunction given frame
       as-function p q r s t =
           record { whole = whole-by-facts p q r; ours = station-tells given frame .right s; allowed = allowed-tells (given .sheet) frame .right t }
 
-      either : (wrong many : Bool) → wrongCount frame ≡ wrong → readsTooMany frame ≡ many → (wrong || many) ≡ true → (RightCount frame → ⊥) ⊎ ReadsTooMany frame
-      either true many w m e = inl (unmet (count-tells frame) w)
-      either false many w m e = inr (many-so frame (m ∙ e))
+      either : (wrong many : Bool) → wrongCount (given .sheet) frame ≡ wrong → readsTooMany (given .sheet) frame ≡ many → (wrong || many) ≡ true → (RightCount (given .sheet) frame → ⊥) ⊎ ReadsTooMany (given .sheet) frame
+      either true many w m e = inl (unmet (count-tells (given .sheet) frame) w)
+      either false many w m e = inr (many-so (given .sheet) frame (m ∙ e))
 
       go : (a b c d e f g h i j : Bool) → tooShort frame ≡ a → tooLong frame ≡ b → checkDiffers frame ≡ c → otherStation given frame ≡ d
-          → functionNotAllowed (given .sheet) frame ≡ e → wrongLength frame ≡ f → badCount frame ≡ g → shutAddress (given .sheet) frame ≡ h
+          → functionNotAllowed (given .sheet) frame ≡ e → wrongLength frame ≡ f → badCount (given .sheet) frame ≡ g → shutAddress given frame ≡ h
           → wrongValue frame ≡ i → badWrite given frame ≡ j
           → Plainly (firstCase (when a TooShort ∷ when b TooLong ∷ when c Check ∷ when d Station ∷ when e Function ∷ when f BodyLength ∷ when g Count
           ∷ when h (Address (firstBadAddress (given .sheet) frame)) ∷ when i ClearValue ∷ when j (Item (firstBadItem given frame)) ∷ []) None)
@@ -111,9 +111,9 @@ module _ (given : Lent) (frame : List ℕ) (passed : Passed given) (bytes : Byte
           byFunction (whole-by-facts p q r) (station-tells given frame .right s) (unmet (allowed-tells (given .sheet) frame) t)
       go false false false false false true g h i j p q r s t u v w x y = byBodyLength (as-function p q r s t) (unmet (length-tells frame) u)
       go false false false false false false true h i j p q r s t u v w x y =
-          byCount (as-function p q r s t) (length-tells frame .right u) (either (wrongCount frame) (readsTooMany frame) refl refl v)
+          byCount (as-function p q r s t) (length-tells frame .right u) (either (wrongCount (given .sheet) frame) (readsTooMany (given .sheet) frame) refl refl v)
       go false false false false false false false true i j p q r s t u v w x y =
-          byAddress (count-by-facts (as-function p q r s t) u v) (first-address-so (given .sheet) frame (passed .right) bytes w)
+          byAddress (count-by-facts (as-function p q r s t) u v) (first-address-so given frame (passed .right) bytes (neither-first (wrongCount (given .sheet) frame) (readsTooMany (given .sheet) frame) v) w)
       go false false false false false false false false true j p q r s t u v w x y =
           byClearValue (count-by-facts (as-function p q r s t) u v) (address-by-facts v w)
           (eqb-true (function frame) 0x05 (first-of (eqb (function frame) 0x05) (not (eqb (second frame) 0)) x))
@@ -130,21 +130,21 @@ module _ (given : Lent) (frame : List ℕ) (passed : Passed given) (bytes : Byte
 
   -- ---- and nothing else is so
 
-  few-so : AsCount given frame → badCount frame ≡ false
-  few-so is = neither (count-tells frame .wrongly (is .counted)) (many-tells frame .wrongly (is .few))
+  few-so : AsCount given frame → badCount (given .sheet) frame ≡ false
+  few-so is = neither (count-tells (given .sheet) frame .wrongly (is .counted)) (many-tells (given .sheet) frame .wrongly (is .few))
 
-  fine-so : AsCount given frame → RightAddress (given .sheet) frame → shutAddress (given .sheet) frame ≡ false
+  fine-so : AsCount given frame → RightAddress given frame → shutAddress given frame ≡ false
   fine-so is right =
-      neither-second (readsTooMany frame) (shutAddress (given .sheet) frame)
-      (sym (wrong-address (given .sheet) frame) ∙ address-tells (given .sheet) (passed .right) bytes frame .wrongly right)
+      neither-second (readsTooMany (given .sheet) frame) (shutAddress given frame)
+      (sym (wrong-address given frame) ∙ address-tells given (passed .right) bytes frame .wrongly right)
 
   -- the facts that are left for a frame that passed as far as its function, and as far as its count
   abbrev behindCount : List (Case Reason)
   behindCount =
-      when (shutAddress (given .sheet) frame) (Address (firstBadAddress (given .sheet) frame)) ∷ when (wrongValue frame) ClearValue
+      when (shutAddress given frame) (Address (firstBadAddress (given .sheet) frame)) ∷ when (wrongValue frame) ClearValue
       ∷ when (badWrite given frame) (Item (firstBadItem given frame)) ∷ []
 
-  at-function : AsFunction given frame → reasonOf given frame ≡ firstCase (when (wrongLength frame) BodyLength ∷ when (badCount frame) Count ∷ behindCount) None
+  at-function : AsFunction given frame → reasonOf given frame ≡ firstCase (when (wrongLength frame) BodyLength ∷ when (badCount (given .sheet) frame) Count ∷ behindCount) None
   unfolding reasonOf firstCase
   at-function is =
       simp (
@@ -193,11 +193,11 @@ module _ (given : Lent) (frame : List ℕ) (passed : Passed given) (bytes : Byte
   reason-is (byBodyLength is wrong) = (BodyLength, at-function is ∙ simp (fails (length-tells frame) wrong), refl, refl)
   reason-is (byCount is long wrong) = (Count, at-function is ∙ simp (length-tells frame .wrongly long, bad wrong), refl, refl)
     where
-      bad : (RightCount frame → ⊥) ⊎ ReadsTooMany frame → badCount frame ≡ true
-      bad (inl wrong) = ap (λ (b : Bool). b || readsTooMany frame) (fails (count-tells frame) wrong)
-      bad (inr many) = ap (λ (b : Bool). wrongCount frame || b) (so-many frame many) ∙ or-true (wrongCount frame)
+      bad : (RightCount (given .sheet) frame → ⊥) ⊎ ReadsTooMany (given .sheet) frame → badCount (given .sheet) frame ≡ true
+      bad (inl wrong) = ap (λ (b : Bool). b || readsTooMany (given .sheet) frame) (fails (count-tells (given .sheet) frame) wrong)
+      bad (inr many) = ap (λ (b : Bool). wrongCount (given .sheet) frame || b) (so-many (given .sheet) frame many) ∙ or-true (wrongCount (given .sheet) frame)
   reason-is (byAddress is first) =
-      let shut = so-first-address (given .sheet) frame (passed .right) bytes first in
+      let shut = so-first-address given frame (passed .right) bytes (count-tells (given .sheet) frame .wrongly (is .counted)) first in
       (Address (firstBadAddress (given .sheet) frame), at-count is ∙ simp (shut .0), refl, sym (shut .1))
   reason-is (byClearValue is right clear other) =
       let wrong = ap₂ (λ (a b : Bool). a && not b) (eq-eqb (function frame) 0x05 clear) (ne-eqb (second frame) 0 (λ e. other (word-same frame 4 ∙ e))) in
@@ -215,7 +215,7 @@ module _ (given : Lent) (frame : List ℕ) (passed : Passed given) (bytes : Byte
         function = record { whole = whole; ours = ours; allowed = allowed };
         long = long;
         counted = counted;
-        few = λ many. omega (arith, right .atMost47 (many .0), many .1);
+        few = λ many. omega (arith, right .atMost47 (many .0) (many .2), many .1);
       } in
       let none = value-tells given frame (passed .right) (open-by-facts (few-so is) (fine-so is right)) .wrongly values in (
         None,
@@ -237,17 +237,18 @@ module _ (given : Lent) (frame : List ℕ) (passed : Passed given) (bytes : Byte
   -- ---- rule Y4: what goes out
 
   -- a read of too many has a count that is right by itself
-  many-right : ReadsTooMany frame → RightCount frame
+  many-right : ReadsTooMany (given .sheet) frame → RightCount (given .sheet) frame
   many-right many =
-      record { ofRead = λ is. omega (arith, many .1); ofMany = λ is. absurd (omega (arith, many .0, is)) }
+      record { ofRead = λ is. omega (arith, many .1); ofRecord = λ is one. absurd (many .2 one); ofMany = λ is. absurd (omega (arith, many .0, is)) }
 
-  not-right : RightAddress (given .sheet) frame → {at : ℕ} → FirstBadAddress (given .sheet) frame at → ⊥
-  not-right right (ofRun k less shut front) =
-      shut record { read = λ is. right .read is k less; written = λ is. right .written is k less }
+  not-right : RightAddress given frame → {at : ℕ} → FirstBadAddress given frame at → ⊥
+  not-right right (ofRun none k less shut front) =
+      shut record { read = λ is. right .read is (none is) k less; written = λ is. right .written is k less }
+  not-right right (ofRecord is number many words one beyond) = omega (arith, beyond, right .recorded is number many words one)
   not-right right (ofClear is elsewhere) = elsewhere (right .cleared is)
 
   -- a frame gets what goes out by its reason
-  why-gets : {number at : ℕ} → Why given frame number at → (fate : Fate) × Gets given frame fate × Out frame number fate
+  why-gets : {number at : ℕ} → Why given frame number at → (fate : Fate) × Gets given frame fate × Out (given .sheet) frame number fate
   why-gets (byNone gets) = (good, gets, afterNone)
   why-gets (byTooShort short) = (silence, plain.notWhole (λ whole. omega (arith, whole .least, short)), afterTooShort)
   why-gets (byTooLong long) = (silence, plain.notWhole (λ whole. omega (arith, whole .most, long)), afterTooLong)
@@ -257,11 +258,11 @@ module _ (given : Lent) (frame : List ℕ) (passed : Passed given) (bytes : Byte
   why-gets (byBodyLength is wrong) = (silence, plain.wrongLength (is .whole) (is .ours) (is .allowed) wrong, afterBodyLength)
   why-gets (byCount is long wrong) = go wrong
     where
-      go : (RightCount frame → ⊥) ⊎ ReadsTooMany frame → (fate : Fate) × Gets given frame fate × Out frame 7 fate
+      go : (RightCount (given .sheet) frame → ⊥) ⊎ ReadsTooMany (given .sheet) frame → (fate : Fate) × Gets given frame fate × Out (given .sheet) frame 7 fate
       go (inl wrong) = (error 3, plain.wrongCount (is .whole) (is .ours) (is .allowed) long wrong, afterCount (λ many. wrong (many-right many)))
       go (inr many) = (
         error 2,
-        plain.wrongAddress (is .whole) (is .ours) (is .allowed) long (many-right many) (λ right. omega (arith, right .atMost47 (many .0), many .1)),
+        plain.wrongAddress (is .whole) (is .ours) (is .allowed) long (many-right many) (λ right. omega (arith, right .atMost47 (many .0) (many .2), many .1)),
         afterTooMany many,
       )
   why-gets (byAddress is first) = (
@@ -283,7 +284,7 @@ module _ (given : Lent) (frame : List ℕ) (passed : Passed given) (bytes : Byte
   )
 
   -- and by one number one thing goes out
-  out-once : {number : ℕ} {one other : Fate} → Out frame number one → Out frame number other → one ≡ other
+  out-once : {number : ℕ} {one other : Fate} → Out (given .sheet) frame number one → Out (given .sheet) frame number other → one ≡ other
   out-once afterNone afterNone = refl
   out-once afterTooShort afterTooShort = refl
   out-once afterTooLong afterTooLong = refl
@@ -300,38 +301,38 @@ module _ (given : Lent) (frame : List ℕ) (passed : Passed given) (bytes : Byte
   out-once afterItem afterItem = refl
 
   -- by what goes out, which reasons there can be
-  after-good : {number : ℕ} → Out frame number good → number ≡ 0
+  after-good : {number : ℕ} → Out (given .sheet) frame number good → number ≡ 0
   after-good afterNone = refl
 
-  after-silence : {number : ℕ} → Out frame number silence → (number ≡ 1) ⊎ (number ≡ 2) ⊎ (number ≡ 3) ⊎ (number ≡ 4) ⊎ (number ≡ 6)
+  after-silence : {number : ℕ} → Out (given .sheet) frame number silence → (number ≡ 1) ⊎ (number ≡ 2) ⊎ (number ≡ 3) ⊎ (number ≡ 4) ⊎ (number ≡ 6)
   after-silence afterTooShort = inl refl
   after-silence afterTooLong = inr (inl refl)
   after-silence afterCheck = inr (inr (inl refl))
   after-silence afterStation = inr (inr (inr (inl refl)))
   after-silence afterBodyLength = inr (inr (inr (inr refl)))
 
-  after-one : {number : ℕ} → Out frame number (error 1) → number ≡ 5
+  after-one : {number : ℕ} → Out (given .sheet) frame number (error 1) → number ≡ 5
   after-one afterFunction = refl
 
-  after-two : {number : ℕ} → Out frame number (error 2) → (number ≡ 8) ⊎ ((number ≡ 7) × ReadsTooMany frame)
+  after-two : {number : ℕ} → Out (given .sheet) frame number (error 2) → (number ≡ 8) ⊎ ((number ≡ 7) × ReadsTooMany (given .sheet) frame)
   after-two (afterTooMany many) = inr (refl, many)
   after-two afterAddress = inl refl
 
-  after-three : {number : ℕ} → Out frame number (error 3) → ((number ≡ 7) × (ReadsTooMany frame → ⊥)) ⊎ (number ≡ 9) ⊎ (number ≡ 10)
+  after-three : {number : ℕ} → Out (given .sheet) frame number (error 3) → ((number ≡ 7) × (ReadsTooMany (given .sheet) frame → ⊥)) ⊎ (number ≡ 9) ⊎ (number ≡ 10)
   after-three (afterCount few) = inl (refl, few)
   after-three afterClearValue = inr (inl refl)
   after-three afterItem = inr (inr refl)
 
   module _ {number at : ℕ} (why : Why given frame number at) where
-    out : {fate : Fate} → Gets given frame fate → Out frame number fate
+    out : {fate : Fate} → Gets given frame fate → Out (given .sheet) frame number fate
     out gets =
         let found = why-gets why in
-        subst (Out frame number) (one-fate given frame (passed .right) bytes (found .1) gets) (found .2)
+        subst (Out (given .sheet) frame number) (one-fate given frame (passed .right) bytes (found .1) gets) (found .2)
 
-    gets : {fate : Fate} → {is : ℕ} → number ≡ is → Out frame is fate → Gets given frame fate
+    gets : {fate : Fate} → {is : ℕ} → number ≡ is → Out (given .sheet) frame is fate → Gets given frame fate
     gets {fate} e after =
         let found = why-gets why in
-        subst (Gets given frame) (out-once (found .2) (subst (λ (n : ℕ). Out frame n fate) (sym e) after)) (found .1)
+        subst (Gets given frame) (out-once (found .2) (subst (λ (n : ℕ). Out (given .sheet) frame n fate) (sym e) after)) (found .1)
 
     pub goes-out : GoesOut given frame number
     goes-out =
@@ -350,11 +351,11 @@ module _ (given : Lent) (frame : List ℕ) (passed : Passed given) (bytes : Byte
         quiet (inr (inr (inr (inl e)))) = gets e afterStation
         quiet (inr (inr (inr (inr e)))) = gets e afterBodyLength
 
-        two : (number ≡ 8) ⊎ ((number ≡ 7) × ReadsTooMany frame) → Gets given frame (error 2)
+        two : (number ≡ 8) ⊎ ((number ≡ 7) × ReadsTooMany (given .sheet) frame) → Gets given frame (error 2)
         two (inl e) = gets e afterAddress
         two (inr (e, many)) = gets e (afterTooMany many)
 
-        three : ((number ≡ 7) × (ReadsTooMany frame → ⊥)) ⊎ (number ≡ 9) ⊎ (number ≡ 10) → Gets given frame (error 3)
+        three : ((number ≡ 7) × (ReadsTooMany (given .sheet) frame → ⊥)) ⊎ (number ≡ 9) ⊎ (number ≡ 10) → Gets given frame (error 3)
         three (inl (e, few)) = gets e (afterCount few)
         three (inr (inl e)) = gets e afterClearValue
         three (inr (inr e)) = gets e afterItem

@@ -11,7 +11,7 @@ use Rattle.range.specs.Range.{inRange}
 use Rattle.lists.proofs.Tests.{first-of, second-of}
 use Rattle.lists.proofs.Among.{Among}
 use Rattle.sheet_rules.specs.declared.Item.{Item}
-use Rattle.sheet_rules.specs.Rows.{items}
+use Rattle.sheet_rules.specs.Rows.{items, recordArea}
 use Rattle.bank_rules.specs.Stores.{wordOf, stored}
 use Rattle.bank_rules.specs.Bank.{valueBy, goodBy, markStores}
 use Rattle.bank_rules.specs.Calls.{Lent}
@@ -19,10 +19,10 @@ use Rattle.bank_rules.proofs.Changes.{Passed, mark-there, mark-apart}
 use Rattle.sheet_rules.specs.declared.Purpose.the-variants.{Write}
 use Rattle.sheet_rules.specs.Runs.{allOpen}
 use Rattle.frame.specs.Frame.{function, second, isWrite, count, run, sent}
-use Rattle.meter_rules.specs.Steps.{functionAllowed, failsCheck, otherStation, functionNotAllowed, wrongLength, wrongCount, wrongAddress, wrongValue, badWrite, goodFrame, judgedFrame}
+use Rattle.meter_rules.specs.Steps.{startsInRecords, askedStart, goodRead, functionAllowed, failsCheck, otherStation, functionNotAllowed, wrongLength, wrongCount, wrongAddress, wrongValue, badWrite, goodFrame, judgedFrame}
 use Rattle.lists.specs.Cases.{when, firstCase}
 use Rattle.meter_rules.specs.declared.Judged.{Judged}
-use Rattle.meter_rules.specs.declared.Judged.the-variants.{FailsCheck, OtherStation, FunctionNotAllowed, WrongLength, WrongCount, WrongAddress, WrongValue, BadItem, GoodRead, GoodClear, GoodWrite}
+use Rattle.meter_rules.specs.declared.Judged.the-variants.{FailsCheck, OtherStation, FunctionNotAllowed, WrongLength, WrongCount, WrongAddress, WrongValue, BadItem, GoodRead, GoodRecord, GoodClear, GoodWrite}
 use Rattle.meter_rules.specs.Reply.{storesOf}
 use Rattle.meter_rules.specs.Write.{firstPlace, inRun, wouldBe, touched, badItem, someBad, stopIn, stopPlace, runStores}
 use Rattle.meter_rules.proofs.Judging.{run-above}
@@ -157,36 +157,45 @@ module _ (given : Lent) (frame : List ℕ) (passed : Passed given) (bytes : Byte
       go (inr e) = many (sym is ∙ e)
 
   let-through : failsCheck frame ≡ false → otherStation given frame ≡ false → functionNotAllowed (given .sheet) frame ≡ false → wrongLength frame ≡ false
-      → wrongCount frame ≡ false → wrongAddress (given .sheet) frame ≡ false → isWrite frame ≡ true → LetThrough given frame
+      → wrongCount (given .sheet) frame ≡ false → wrongAddress given frame ≡ false → isWrite frame ≡ true → LetThrough given frame
   let-through p q r s t u write =
       record {
         whole = whole-tells frame .right p;
         ours = station-tells given frame .right q;
         allowed = allowed-tells (given .sheet) frame .right r;
         long = length-tells frame .right s;
-        counted = count-tells frame .right t;
-        addressed = address-tells (given .sheet) (passed .right) bytes frame .right u;
+        counted = count-tells (given .sheet) frame .right t;
+        addressed = address-tells given (passed .right) bytes frame .right u;
         writes = which frame write;
       }
 
   pub words-left : (place : ℕ) → WordLeft given frame place (word (left-by (judgedFrame given frame)) (2 * place))
   unfolding judgedFrame firstCase storesOf stored isGood
   words-left place =
-      go (failsCheck frame) (otherStation given frame) (functionNotAllowed (given .sheet) frame) (wrongLength frame) (wrongCount frame)
-      (wrongAddress (given .sheet) frame) (wrongValue frame) (badWrite given frame) refl refl refl refl refl refl refl refl
+      go (failsCheck frame) (otherStation given frame) (functionNotAllowed (given .sheet) frame) (wrongLength frame) (wrongCount (given .sheet) frame)
+      (wrongAddress given frame) (wrongValue frame) (badWrite given frame) refl refl refl refl refl refl refl refl
     where
-      placed : Tells (wrongAddress (given .sheet) frame) (plain.RightAddress (given .sheet) frame)
-      placed = address-tells (given .sheet) (passed .right) bytes frame
+      placed : Tells (wrongAddress given frame) (plain.RightAddress given frame)
+      placed = address-tells given (passed .right) bytes frame
 
       good-left : (read clear : Bool) → eqb (function frame) 0x03 ≡ read → eqb (function frame) 0x05 ≡ clear
-          → ((isWrite frame ≡ true) → LetThrough given frame) → functionNotAllowed (given .sheet) frame ≡ false → wrongAddress (given .sheet) frame ≡ false
+          → ((isWrite frame ≡ true) → LetThrough given frame) → functionNotAllowed (given .sheet) frame ≡ false → wrongAddress given frame ≡ false
           → badWrite given frame ≡ false → Gets given frame good
           → WordLeft given frame place
-          (word (left-by (cond read (GoodRead (firstPlace (given .sheet) frame) (count frame))
+          (word (left-by (cond read (goodRead given frame)
           (cond clear GoodClear (GoodWrite (firstPlace (given .sheet) frame) (count frame))))) (2 * place))
-      good-left true clear r c through p f h fine =
-          kept place (λ k is. not-write 0x03 (λ e. omega (arith, e)) (λ e. omega (arith, e)) (eqb-true (function frame) 0x03 r) is)
-          (λ clears. omega (arith, clears .1, eqb-true (function frame) 0x03 r))
+      good-left true clear r c through p f h fine = reading (startsInRecords (given .sheet) frame)
+        where
+          as-before : WordLeft given frame place (word (given .bank) (2 * place))
+          as-before =
+              kept place (λ k is. not-write 0x03 (λ e. omega (arith, e)) (λ e. omega (arith, e)) (eqb-true (function frame) 0x03 r) is)
+              (λ clears. omega (arith, clears .1, eqb-true (function frame) 0x03 r))
+
+          reading : (inside : Bool) → WordLeft given frame place
+              (word (left-by (cond inside (GoodRecord (askedStart given frame) (recordArea (given .sheet) .words))
+              (GoodRead (firstPlace (given .sheet) frame) (count frame)))) (2 * place))
+          reading true = as-before
+          reading false = as-before
       good-left false true r c through p f h fine = mark-left (eqb place (word (given .sheet) 10)) refl
         where
           mark-left : (at : Bool) → eqb place (word (given .sheet) 10) ≡ at → WordLeft given frame place (word (stored (given .bank) (markStores (given .sheet) 0)) (2 * place))
@@ -206,7 +215,7 @@ module _ (given : Lent) (frame : List ℕ) (passed : Passed given) (bytes : Byte
               (λ clears. eqb-false place (word (given .sheet) 10) e (clears .2)))
       good-left false false r c through p f h fine =
           let write = soundness.writes (given .sheet) frame (not-false (functionAllowed (given .sheet) frame) p) r c in
-          let opened = open-write (given .sheet) frame write f in
+          let opened = open-write given frame write f in
           let none = ap (λ (b : Bool). b && someBad given frame) (sym write) ∙ h in
           subst (λ (n : ℕ). WordLeft given frame place (word (stored (given .bank) (runStores frame (firstPlace (given .sheet) frame) n)) (2 * place)))
           (stops-at-end given frame none)
@@ -214,11 +223,11 @@ module _ (given : Lent) (frame : List ℕ) (passed : Passed given) (bytes : Byte
           (λ clears. true≢false (sym (eq-eqb (function frame) 0x05 (clears .1)) ∙ c)))
 
       go : (a b c d e f g h : Bool) → failsCheck frame ≡ a → otherStation given frame ≡ b → functionNotAllowed (given .sheet) frame ≡ c → wrongLength frame ≡ d
-          → wrongCount frame ≡ e → wrongAddress (given .sheet) frame ≡ f → wrongValue frame ≡ g → badWrite given frame ≡ h
+          → wrongCount (given .sheet) frame ≡ e → wrongAddress given frame ≡ f → wrongValue frame ≡ g → badWrite given frame ≡ h
           → WordLeft given frame place
           (word (left-by (firstCase (when a FailsCheck ∷ when b OtherStation ∷ when c FunctionNotAllowed ∷ when d WrongLength ∷ when e WrongCount
           ∷ when f WrongAddress ∷ when g WrongValue ∷ when h (BadItem (firstPlace (given .sheet) frame) (stopPlace given frame)) ∷ [])
-          (goodFrame (given .sheet) frame))) (2 * place))
+          (goodFrame given frame))) (2 * place))
       go true b c d e f g h p q r s t u v w =
           kept place (λ k is. unmet (whole-tells frame) p (is .through .whole)) (unclear place (simp p))
       go false true c d e f g h p q r s t u v w =
@@ -228,7 +237,7 @@ module _ (given : Lent) (frame : List ℕ) (passed : Passed given) (bytes : Byte
       go false false false true e f g h p q r s t u v w =
           kept place (λ k is. unmet (length-tells frame) s (is .through .long)) (unclear place (simp (p, q, r, s)))
       go false false false false true f g h p q r s t u v w =
-          kept place (λ k is. unmet (count-tells frame) t (is .through .counted)) (unclear place (simp (p, q, r, s, t)))
+          kept place (λ k is. unmet (count-tells (given .sheet) frame) t (is .through .counted)) (unclear place (simp (p, q, r, s, t)))
       go false false false false false true g h p q r s t u v w =
           kept place (λ k is. unmet placed u (is .through .addressed)) (unclear place (simp (p, q, r, s, t, u)))
       go false false false false false false true h p q r s t u v w =
@@ -238,7 +247,7 @@ module _ (given : Lent) (frame : List ℕ) (passed : Passed given) (bytes : Byte
           (unclear place (simp (p, q, r, s, t, u, v)))
       go false false false false false false false true p q r s t u v w =
           let write = first-of (isWrite frame) (someBad given frame) w in
-          write-left given frame passed (open-write (given .sheet) frame write u .all) (let-through p q r s t u write) place
+          write-left given frame passed (open-write given frame write u .all) (let-through p q r s t u write) place
           (unclear place (simp (p, q, r, s, t, u, v, w)))
       go false false false false false false false false p q r s t u v w =
           good-left (eqb (function frame) 0x03) (eqb (function frame) 0x05) refl refl (let-through p q r s t u) r u w

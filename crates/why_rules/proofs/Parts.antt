@@ -1,7 +1,7 @@
 -- The facts and the steps of judgement: step 1 is three facts, step 6 a part of the count and the address, and all other steps are facts
 -- themselves. Assumes nothing.
 use mathlib.Core.Path.{_≡_, refl, ap, ap₂, _∙_}
-use mathlib.Core.Bool.{Bool, true, false, not, cond, _&&_, _||_}
+use mathlib.Core.Bool.{Bool, true, false, not, cond, _&&_, _||_, or-false}
 use mathlib.Core.List.{List}
 use mathlib.Core.Logic.{_⊎_, inl, inr}
 use Prim.Native.Nat.{ℕ}
@@ -12,12 +12,15 @@ use Rattle.check_value.specs.Frame.{passes, checkAgrees}
 use Rattle.frame.specs.Frame.{reads, clears, mostRead, function, start, second, isWrite, run}
 use Rattle.sheet_rules.specs.Rows.{clearAddress}
 use Rattle.sheet_rules.specs.declared.Purpose.the-variants.{Read, Write}
-use Rattle.sheet_rules.specs.Runs.{allOpen}
+use Rattle.sheet_rules.specs.declared.Lies.{Lies}
+use Rattle.sheet_rules.specs.Runs.{opens, allOpen}
+use Rattle.sheet_rules.proofs.Records.{record-nowhere}
 use Rattle.sheet_rules.specs.Rules.{sound}
 use Rattle.bank_rules.specs.Calls.{Lent}
 use Rattle.meter_rules.specs.Steps.{failsCheck, startsInRecords, beyondStored, wrongCount, wrongAddress}
 use Rattle.meter_rules.proofs.Records.{record-count, record-shut}
-use Rattle.meter_rules.proofs.Order.{asks-for, asks-write, write-is}
+use Rattle.meter_rules.proofs.Order.{asks-for, asks-write, write-is, many-is}
+use Rattle.lists.specs.Lists.{upFrom}
 use Rattle.lists.proofs.Tests.{first-of, second-of}
 use Rattle.why_rules.specs.Facts.{tooShort, tooLong, checkDiffers, readsTooMany, shutRead, shutAddress, firstShut, firstBadAddress}
 
@@ -109,3 +112,21 @@ module _ (sheet frame : List ℕ) where
   clear-told is =
       ap₂ (λ (r w : Bool). cond r (firstShut Read sheet (run frame)) (cond w (firstShut Write sheet (run frame)) (start frame)))
       (asks-for frame clears is .isRead) (write-is frame (asks-for frame clears is))
+
+-- of a read the address is a record's own, beyond what is stored, or one of the run
+module _ (given : Lent) (frame : List ℕ) (is : function frame ≡ reads) where
+  pub shut-of-read : shutAddress given frame ≡ shutRead given frame
+  shut-of-read =
+      let asks = asks-for frame reads is in
+      ap₂ (λ (r w : Bool). r && shutRead given frame || w && not (allOpen Write (given .sheet) (run frame))
+      || eqb (function frame) clears && not (eqb (start frame) (clearAddress (given .sheet)))) (asks .isRead) (write-is frame asks)
+      ∙ ap (λ (c : Bool). shutRead given frame || false || c && not (eqb (start frame) (clearAddress (given .sheet)))) (asks .isClear)
+      ∙ or-false (shutRead given frame || false) ∙ or-false (shutRead given frame)
+
+  pub record-told : sound (given .sheet) ≡ true → startsInRecords (given .sheet) frame ≡ true → second frame ≡ 1
+      → firstBadAddress (given .sheet) frame ≡ start frame
+  unfolding firstShut upFrom
+  record-told keeps inside one =
+      read-told (given .sheet) frame is
+      ∙ ap (λ (n : ℕ). firstShut Read (given .sheet) (upFrom (start frame) n)) (many-is frame (asks-for frame reads is) ∙ one)
+      ∙ ap (λ (lies : Lies). cond (opens Read lies) 0 (start frame)) (record-nowhere (given .sheet) keeps (start frame) inside)
