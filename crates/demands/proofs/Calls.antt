@@ -13,11 +13,12 @@ use borrow.Fn.Kinds.{PK, RK, In, Out, Dens, endedOf, resT}
 use Rattle.words.specs.Words.{Bytes}
 use Rattle.refusals.specs.Answers.{answerNumber}
 use Rattle.sheet_rules.specs.Rules.{sheetAnswer}
-use Rattle.bank_rules.specs.Calls.{Lent, lent, checkAnswer, freshOutcome, postOutcome, markOutcome}
+use Rattle.bank_rules.specs.Calls.{Lent, lent, lentWith, checkAnswer, freshOutcome, postOutcome, markOutcome}
+use Rattle.ring_rules.specs.Calls.{ringAnswer, addOutcome}
 use Rattle.meter_rules.specs.Answer.{answerOutcome}
 use Rattle.meter_rules.proofs.Bytes.{answer-bytes}
 use Rattle.why_rules.specs.Reasons.{explanation}
-use Rattle.cedarskein.specs.Door.{Told, Handed, Said, told, toldOf, handed, handedOf, said, saidOf}
+use Rattle.cedarskein.specs.Door.{Told, RingTold, Handed, Said, told, toldOf, ringTold, ringToldOf, handed, handedOf, said, saidOf}
 use Rattle.cedarskein.proofs.cedarskein_sheet_check.Kinds as sheet-check
 use Rattle.cedarskein.proofs.cedarskein_sheet_check.Reads as sheet-check-reads
 use Rattle.cedarskein.proofs.cedarskein_bank_check.Kinds as bank-check
@@ -28,6 +29,10 @@ use Rattle.cedarskein.proofs.cedarskein_post.Kinds as post
 use Rattle.cedarskein.proofs.cedarskein_post.Reads as post-reads
 use Rattle.cedarskein.proofs.cedarskein_set_mark.Kinds as set-mark
 use Rattle.cedarskein.proofs.cedarskein_set_mark.Reads as set-mark-reads
+use Rattle.cedarskein.proofs.cedarskein_ring_check.Kinds as ring-check
+use Rattle.cedarskein.proofs.cedarskein_ring_check.Reads as ring-check-reads
+use Rattle.cedarskein.proofs.cedarskein_add_record.Kinds as add-record
+use Rattle.cedarskein.proofs.cedarskein_add_record.Reads as add-record-reads
 use Rattle.cedarskein.proofs.cedarskein_answer.Kinds as answer
 use Rattle.cedarskein.proofs.cedarskein_answer.Reads as answer-reads
 use Rattle.cedarskein.proofs.cedarskein_why.Kinds as why
@@ -66,17 +71,27 @@ pub data Marks : Lent → ℕ → Told → Type 0 where
   marks : (call : Allowed 2 set-mark.ps set-mark.r set-mark-reads.Post)
       → Marks (lent (now (call .lent .0)) (now (call .lent .1 .0))) (call .lent .1 .1 .0) (told (call .result) (now (call .exit .1 .0)))
 
--- a frame: the sheet and the bank, the frame, the answer buffer; the number, length and rate, and bank and buffer afterwards
-pub data Answers : Lent → List ℕ → List ℕ → Handed → Type 0 where
-  answers : (call : Allowed 6 answer.ps answer.r answer-reads.Post)
-      → Answers (lent (now (call .lent .0)) (now (call .lent .1 .0))) (now (call .lent .1 .1 .0)) (now (call .lent .1 .1 .1 .0))
-      (handed (call .result) (now (call .exit .1 .1 .1 .1 .0)) (now (call .exit .1 .1 .1 .1 .1 .0)) (now (call .exit .1 .0)) (now (call .exit .1 .1 .1 .0)))
+-- the ring check: the sheet and the ring, and the number
+pub data ChecksRing : List ℕ → List ℕ → ℕ → Type 0 where
+  checks-ring : (call : Allowed 2 ring-check.ps ring-check.r ring-check-reads.Post)
+      → ChecksRing (now (call .lent .0)) (now (call .lent .1 .0)) (call .result)
 
--- the reason: the sheet and the bank, the frame; the number, the reason and the address. Nothing else is written.
+-- adding a record: the sheet, the ring and the record; the number and the ring afterwards
+pub data Adds : List ℕ → List ℕ → List ℕ → RingTold → Type 0 where
+  adds : (call : Allowed 3 add-record.ps add-record.r add-record-reads.Post)
+      → Adds (now (call .lent .0)) (now (call .lent .1 .0)) (now (call .lent .1 .1 .0)) (ringTold (call .result) (now (call .exit .1 .0)))
+
+-- a frame: the sheet, the bank and the ring, the frame, the answer buffer; the number, length and rate, and bank and buffer afterwards
+pub data Answers : Lent → List ℕ → List ℕ → Handed → Type 0 where
+  answers : (call : Allowed 7 answer.ps answer.r answer-reads.Post)
+      → Answers (lentWith (now (call .lent .0)) (now (call .lent .1 .0)) (now (call .lent .1 .1 .0))) (now (call .lent .1 .1 .1 .0)) (now (call .lent .1 .1 .1 .1 .0))
+      (handed (call .result) (now (call .exit .1 .1 .1 .1 .1 .0)) (now (call .exit .1 .1 .1 .1 .1 .1 .0)) (now (call .exit .1 .0)) (now (call .exit .1 .1 .1 .1 .0)))
+
+-- the reason: the sheet, the bank and the ring, the frame; the number, the reason and the address. Nothing else is written.
 pub data Explains : Lent → List ℕ → Said → Type 0 where
-  explains : (call : Allowed 5 why.ps why.r why-reads.Post)
-      → Explains (lent (now (call .lent .0)) (now (call .lent .1 .0))) (now (call .lent .1 .1 .0))
-      (said (call .result) (now (call .exit .1 .1 .1 .0)) (now (call .exit .1 .1 .1 .1 .0)))
+  explains : (call : Allowed 6 why.ps why.r why-reads.Post)
+      → Explains (lentWith (now (call .lent .0)) (now (call .lent .1 .0)) (now (call .lent .1 .1 .0))) (now (call .lent .1 .1 .1 .0))
+      (said (call .result) (now (call .exit .1 .1 .1 .1 .0)) (now (call .exit .1 .1 .1 .1 .1 .0)))
 
 -- ---- what each call hands back and leaves
 
@@ -96,35 +111,42 @@ posts-is (posts call) = call .post
 pub marks-is : {given : Lent} {mark : ℕ} {left : Told} → Marks given mark left → left ≡ toldOf (markOutcome given mark)
 marks-is (marks call) = call .post
 
+pub checks-ring-is : {sheet ring : List ℕ} {number : ℕ} → ChecksRing sheet ring number → number ≡ answerNumber (ringAnswer sheet ring)
+checks-ring-is (checks-ring call) = call .post
+
+pub adds-is : {sheet ring bytes : List ℕ} {left : RingTold} → Adds sheet ring bytes left → left ≡ ringToldOf (addOutcome sheet ring bytes)
+adds-is (adds call) = call .post
+
 pub answers-is : {given : Lent} {frame buffer : List ℕ} {left : Handed} → Answers given frame buffer left
     → left ≡ handedOf (answerOutcome given frame buffer)
 answers-is (answers call) = call .post .0
 
 -- .. and that what it is lent and what it leaves are bytes
 pub answers-bytes : {given : Lent} {frame buffer : List ℕ} {left : Handed} → Answers given frame buffer left
-    → Bytes (given .sheet) × Bytes (given .bank) × Bytes frame × Bytes buffer × Bytes (left .bank) × Bytes (left .buffer)
+    → Bytes (given .sheet) × Bytes (given .bank) × Bytes (given .ring) × Bytes frame × Bytes buffer × Bytes (left .bank) × Bytes (left .buffer)
 answers-bytes (answers call) = call .post .1
 
 pub explains-is : {given : Lent} {frame : List ℕ} {told : Said} → Explains given frame told → told ≡ saidOf (explanation given frame)
 explains-is (explains call) = call .post .0
 
 pub explains-bytes : {given : Lent} {frame : List ℕ} {told : Said} → Explains given frame told
-    → Bytes (given .sheet) × Bytes (given .bank) × Bytes frame
+    → Bytes (given .sheet) × Bytes (given .bank) × Bytes (given .ring) × Bytes frame
 explains-bytes (explains call) = call .post .1
 
 -- ---- demand 2, rule D20, the whole: what the contract of cedarskein_answer allows is exactly the outcome of the definition, where bytes are lent
 
-pub answer-exactly : (κs : Lfts 6) (passed : Dens κs answer.ps) (result : resT answer.r κs .Denot) (exit : AtExit (endedOf 6 answer.ps answer.r) κs)
+pub answer-exactly : (κs : Lfts 7) (passed : Dens κs answer.ps) (result : resT answer.r κs .Denot) (exit : AtExit (endedOf 7 answer.ps answer.r) κs)
     → answer-reads.Post κs passed result exit
-    ↔ (Bytes (now (passed .0)) × Bytes (now (passed .1 .0)) × Bytes (now (passed .1 .1 .0)) × Bytes (now (passed .1 .1 .1 .0))
-    × (handed result (now (exit .1 .1 .1 .1 .0)) (now (exit .1 .1 .1 .1 .1 .0)) (now (exit .1 .0)) (now (exit .1 .1 .1 .0))
-    ≡ handedOf (answerOutcome (lent (now (passed .0)) (now (passed .1 .0))) (now (passed .1 .1 .0)) (now (passed .1 .1 .1 .0)))))
+    ↔ (Bytes (now (passed .0)) × Bytes (now (passed .1 .0)) × Bytes (now (passed .1 .1 .0)) × Bytes (now (passed .1 .1 .1 .0)) × Bytes (now (passed .1 .1 .1 .1 .0))
+    × (handed result (now (exit .1 .1 .1 .1 .1 .0)) (now (exit .1 .1 .1 .1 .1 .1 .0)) (now (exit .1 .0)) (now (exit .1 .1 .1 .1 .0))
+    ≡ handedOf (answerOutcome (lentWith (now (passed .0)) (now (passed .1 .0)) (now (passed .1 .1 .0))) (now (passed .1 .1 .1 .0)) (now (passed .1 .1 .1 .1 .0)))))
 answer-exactly κs passed result exit = (
-  λ p. (p .1 .0, p .1 .1, p .1 .2, p .1 .3, p .0),
+  λ p. (p .1 .0, p .1 .1, p .1 .2, p .1 .3, p .1 .4, p .0),
   λ q.
-      let kept = answer-bytes (lent (now (passed .0)) (now (passed .1 .0))) (now (passed .1 .1 .0)) (now (passed .1 .1 .1 .0)) (q .1) (q .2) (q .3) in
-      let left = subst (λ (h : Handed). Bytes (h .bank) × Bytes (h .buffer)) (sym (q .4)) kept in
-      (q .4, (q .0, q .1, q .2, q .3, left .0, left .1)),
+      let given : Lent = lentWith (now (passed .0)) (now (passed .1 .0)) (now (passed .1 .1 .0)) in
+      let kept = answer-bytes given (now (passed .1 .1 .1 .0)) (now (passed .1 .1 .1 .1 .0)) (q .1) (q .2) (q .3) (q .4) in
+      let left = subst (λ (h : Handed). Bytes (h .bank) × Bytes (h .buffer)) (sym (q .5)) kept in
+      (q .5, (q .0, q .1, q .2, q .3, q .4, left .0, left .1)),
 )
 
 -- ---- demand 1, rule D10: no contract asks anything of what is lent ..
@@ -147,10 +169,16 @@ post-takes κs lent = tt
 pub set-mark-takes : Takes 2 set-mark.ps set-mark-reads.Pre
 set-mark-takes κs lent = tt
 
-pub answer-takes : Takes 6 answer.ps answer-reads.Pre
+pub ring-check-takes : Takes 2 ring-check.ps ring-check-reads.Pre
+ring-check-takes κs lent = tt
+
+pub add-record-takes : Takes 3 add-record.ps add-record-reads.Pre
+add-record-takes κs lent = tt
+
+pub answer-takes : Takes 7 answer.ps answer-reads.Pre
 answer-takes κs lent = tt
 
-pub why-takes : Takes 5 why.ps why-reads.Pre
+pub why-takes : Takes 6 why.ps why-reads.Pre
 why-takes κs lent = tt
 
 -- .. and for any of it there is a call that the contract allows, so that no statement about calls is empty. A call with a frame says that bytes
@@ -170,8 +198,9 @@ some-sheet-check sheet =
       post = refl;
     }
 
-pub some-bank-check : (given : Lent) → ChecksBank given (answerNumber (checkAnswer given))
-some-bank-check given =
+pub some-bank-check : (sheet bank : List ℕ) → ChecksBank (lent sheet bank) (answerNumber (checkAnswer (lent sheet bank)))
+some-bank-check sheet bank =
+    let given : Lent = lent sheet bank in
     checks-bank
     record {
       lifetimes = ([], ([], tt));
@@ -181,8 +210,9 @@ some-bank-check given =
       post = refl;
     }
 
-pub some-fresh : (given : Lent) → Freshens given (toldOf (freshOutcome given))
-some-fresh given =
+pub some-fresh : (sheet bank : List ℕ) → Freshens (lent sheet bank) (toldOf (freshOutcome (lent sheet bank)))
+some-fresh sheet bank =
+    let given : Lent = lent sheet bank in
     let left : Told = toldOf (freshOutcome given) in
     freshens
     record {
@@ -193,8 +223,10 @@ some-fresh given =
       post = refl;
     }
 
-pub some-post : (given : Lent) (address : ℕ) (words : List ℕ) → Posts given address words (toldOf (postOutcome given address words))
-some-post given address words =
+pub some-post : (sheet bank : List ℕ) (address : ℕ) (words : List ℕ)
+    → Posts (lent sheet bank) address words (toldOf (postOutcome (lent sheet bank) address words))
+some-post sheet bank address words =
+    let given : Lent = lent sheet bank in
     let left : Told = toldOf (postOutcome given address words) in
     posts
     record {
@@ -205,8 +237,9 @@ some-post given address words =
       post = refl;
     }
 
-pub some-mark : (given : Lent) (mark : ℕ) → Marks given mark (toldOf (markOutcome given mark))
-some-mark given mark =
+pub some-mark : (sheet bank : List ℕ) (mark : ℕ) → Marks (lent sheet bank) mark (toldOf (markOutcome (lent sheet bank) mark))
+some-mark sheet bank mark =
+    let given : Lent = lent sheet bank in
     let left : Told = toldOf (markOutcome given mark) in
     marks
     record {
@@ -217,29 +250,52 @@ some-mark given mark =
       post = refl;
     }
 
-pub some-answer : (given : Lent) (frame buffer : List ℕ) → Bytes (given .sheet) → Bytes (given .bank) → Bytes frame → Bytes buffer
+pub some-ring-check : (sheet ring : List ℕ) → ChecksRing sheet ring (answerNumber (ringAnswer sheet ring))
+some-ring-check sheet ring =
+    checks-ring
+    record {
+      lifetimes = ([], ([], tt));
+      lent = (ref sheet, (ref ring, tt));
+      result = answerNumber (ringAnswer sheet ring);
+      exit = (ref sheet, (ref ring, tt));
+      post = refl;
+    }
+
+pub some-add : (sheet ring bytes : List ℕ) → Adds sheet ring bytes (ringToldOf (addOutcome sheet ring bytes))
+some-add sheet ring bytes =
+    let left : RingTold = ringToldOf (addOutcome sheet ring bytes) in
+    adds
+    record {
+      lifetimes = ([], ([], ([], tt)));
+      lent = (ref sheet, (ref ring, (ref bytes, tt)));
+      result = left .number;
+      exit = (ref sheet, (ref (left .ring), (ref bytes, tt)));
+      post = refl;
+    }
+
+pub some-answer : (given : Lent) (frame buffer : List ℕ) → Bytes (given .sheet) → Bytes (given .bank) → Bytes (given .ring) → Bytes frame → Bytes buffer
     → Answers given frame buffer (handedOf (answerOutcome given frame buffer))
-some-answer given frame buffer sheet-bytes bank-bytes frame-bytes buffer-bytes =
-    let kept = answer-bytes given frame buffer bank-bytes frame-bytes buffer-bytes in
+some-answer given frame buffer sheet-bytes bank-bytes ring-bytes frame-bytes buffer-bytes =
+    let kept = answer-bytes given frame buffer bank-bytes ring-bytes frame-bytes buffer-bytes in
     let left : Handed = handedOf (answerOutcome given frame buffer) in
     answers
     record {
-      lifetimes = ([], ([], ([], ([], ([], ([], tt))))));
-      lent = (ref (given .sheet), (ref (given .bank), (ref frame, (ref buffer, (ref 0, (ref 0, tt))))));
+      lifetimes = ([], ([], ([], ([], ([], ([], ([], tt)))))));
+      lent = (ref (given .sheet), (ref (given .bank), (ref (given .ring), (ref frame, (ref buffer, (ref 0, (ref 0, tt)))))));
       result = left .number;
-      exit = (ref (given .sheet), (ref (left .bank), (ref frame, (ref (left .buffer), (ref (left .length), (ref (left .rate), tt))))));
-      post = (refl, (sheet-bytes, bank-bytes, frame-bytes, buffer-bytes, kept .0, kept .1));
+      exit = (ref (given .sheet), (ref (left .bank), (ref (given .ring), (ref frame, (ref (left .buffer), (ref (left .length), (ref (left .rate), tt)))))));
+      post = (refl, (sheet-bytes, bank-bytes, ring-bytes, frame-bytes, buffer-bytes, kept .0, kept .1));
     }
 
-pub some-why : (given : Lent) (frame : List ℕ) → Bytes (given .sheet) → Bytes (given .bank) → Bytes frame
+pub some-why : (given : Lent) (frame : List ℕ) → Bytes (given .sheet) → Bytes (given .bank) → Bytes (given .ring) → Bytes frame
     → Explains given frame (saidOf (explanation given frame))
-some-why given frame sheet-bytes bank-bytes frame-bytes =
+some-why given frame sheet-bytes bank-bytes ring-bytes frame-bytes =
     let told : Said = saidOf (explanation given frame) in
     explains
     record {
-      lifetimes = ([], ([], ([], ([], ([], tt)))));
-      lent = (ref (given .sheet), (ref (given .bank), (ref frame, (ref 0, (ref 0, tt)))));
+      lifetimes = ([], ([], ([], ([], ([], ([], tt))))));
+      lent = (ref (given .sheet), (ref (given .bank), (ref (given .ring), (ref frame, (ref 0, (ref 0, tt))))));
       result = told .number;
-      exit = (ref (given .sheet), (ref (given .bank), (ref frame, (ref (told .reason), (ref (told .address), tt)))));
-      post = (refl, (sheet-bytes, bank-bytes, frame-bytes));
+      exit = (ref (given .sheet), (ref (given .bank), (ref (given .ring), (ref frame, (ref (told .reason), (ref (told .address), tt))))));
+      post = (refl, (sheet-bytes, bank-bytes, ring-bytes, frame-bytes));
     }

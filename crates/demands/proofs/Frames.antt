@@ -40,7 +40,7 @@ module _ (given : Lent) (frame buffer : List ℕ) (accepted : Accepted given buf
   acted : answerOutcome given frame buffer ≡ actedOn (judgedFrame given frame) given frame buffer
   unfolding answerOutcome frameCheck firstCase
   acted =
-      simp (accepted .sheetSound, accepted .bankFits, accepted .bankWhole, le-ltb (length buffer) leastBuffer (accepted .bufferLong))
+      simp (accepted .sheetSound, accepted .bankFits, accepted .bankWhole, accepted .ringGoes, le-ltb (length buffer) leastBuffer (accepted .bufferLong))
 
   -- rule J21: the bank is at one of the stations 1 to 247
   pub at-station : Station (word (given .bank) (2 * word (given .sheet) 16))
@@ -51,20 +51,20 @@ module _ (given : Lent) (frame buffer : List ℕ) (accepted : Accepted given buf
     sheet-bytes = answers-bytes call .0
 
     frame-bytes : Bytes frame
-    frame-bytes = answers-bytes call .2
+    frame-bytes = answers-bytes call .3
 
     -- demand 2: what a call hands back and leaves
     pub frame-leaves : Leaves given frame buffer (leftBy left)
     frame-leaves =
         subst (λ (h : Handed). Leaves given frame buffer (leftBy h)) (sym (answers-is call ∙ ap handedOf acted))
-        (meets given frame buffer record { right = accepted .sheetSound; fitting = accepted .bankFits; whole = accepted .bankWhole } sheet-bytes frame-bytes
+        (meets given frame buffer record { right = accepted .sheetSound; fitting = accepted .bankFits; whole = accepted .bankWhole } (accepted .ringGoes) sheet-bytes frame-bytes
         (accepted .bufferLong))
 
     -- .. and that leaves no choice: no other outcome of bytes is so
     pub leaves-once : (other : Left) → Bytes (other .bank) → Bytes (other .buffer) → Leaves given frame buffer other → leftBy left ≡ other
     leaves-once other bank-bytes buffer-bytes leaves =
-        once.leaves-once given frame (accepted .sheetSound) sheet-bytes buffer size (accepted .bufferLong)
-        (leftBy left) other (answers-bytes call .4) bank-bytes (answers-bytes call .5) buffer-bytes frame-leaves leaves
+        once.leaves-once given frame (accepted .sheetSound) sheet-bytes buffer (accepted .ringGoes) size (accepted .bufferLong)
+        (leftBy left) other (answers-bytes call .5) bank-bytes (answers-bytes call .6) buffer-bytes frame-leaves leaves
       where
         size : length (given .bank) ≡ 2 * word (given .sheet) 10 + 2
         size =
@@ -95,7 +95,8 @@ module _ (given : Lent) (frame buffer : List ℕ) (accepted : Accepted given buf
             → Gets given frame fate → Gets given frame good
         sized (plain.quiet e) eight gets = absurd (omega (arith, eight, ap (λ (l : Left). l .size) e))
         sized (plain.erred n size r reply) eight gets = absurd (omega (arith, eight, size))
-        sized (plain.read asks n size r reply) eight gets = gets
+        sized (plain.read asks none n size r reply) eight gets = gets
+        sized (plain.recorded asks number many words at n size r reply) eight gets = gets
         sized (plain.echoed asks n size r reply) eight gets = gets
 
         to : Leaves given frame buffer (leftBy left) → left .length ≡ 8 → Within kind low high value
@@ -103,7 +104,8 @@ module _ (given : Lent) (frame buffer : List ℕ) (accepted : Accepted given buf
             within .taken .0 (subst (λ (f : List ℕ). Gets given f good) is (sized (leaves .handsBack) eight (leaves .gets)))
 
         echo : plain.HandsBack given frame buffer (leftBy left) good → left .length ≡ 8
-        echo (plain.read asks n size r reply) = absurd (omega (arith, asks, one))
+        echo (plain.read asks none n size r reply) = absurd (omega (arith, asks, one))
+        echo (plain.recorded asks number many words at n size r reply) = absurd (omega (arith, asks, one))
         echo (plain.echoed asks n size r reply) = size
 
         from : Leaves given frame buffer (leftBy left) → Within kind low high value → left .length ≡ 8

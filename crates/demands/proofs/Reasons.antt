@@ -11,10 +11,12 @@ use Rattle.lists.specs.Cases.{firstCase, mapped, InOrder}
 use Rattle.refusals.specs.declared.Answer.{Answer}
 use Rattle.refusals.specs.declared.Answer.the-variants.{Done, Refused}
 use Rattle.refusals.specs.declared.Refusal.{Refusal}
-use Rattle.refusals.specs.declared.Refusal.the-variants.{BrokenSheet, MisfittingBank, UnsoundBank, SmallBuffer, NotReadOnly, BadInput}
+use Rattle.refusals.specs.declared.Refusal.the-variants.{BrokenSheet, MisfittingBank, UnsoundBank, SmallBuffer, NotReadOnly, BadInput, BadRing}
 use Rattle.refusals.specs.Answers.{refusalNumber}
-use Rattle.bank_rules.specs.Calls.{Lent, checkAnswer}
-use Rattle.bank_rules.proofs.Changes.{Passed, check-passed}
+use Rattle.bank_rules.specs.Calls.{Lent}
+use Rattle.bank_rules.proofs.Changes.{Passed}
+use Rattle.meter_rules.specs.Judgement.{lentAnswer}
+use Rattle.meter_rules.proofs.Lending.{lent-passed}
 use Rattle.why_rules.specs.Reasons.{reasonNumber, reasonAddress, facts, reasonOf, explainedBy, explanation}
 use Rattle.why_rules.proofs.Order.{reasons-in-order}
 use Rattle.plain.specs.Numbers.{Bytes, byte, word}
@@ -24,6 +26,8 @@ use Rattle.plain.specs.Damage.{Sent, Damage}
 use Rattle.plain.specs.Left as plain
 use Rattle.plain.specs.Left.{Left, Leaves, HandsBack}
 use Rattle.plain.specs.Why.{CheckAgrees, Why, byCheck}
+use Rattle.sheet_rules.proofs.Records.{in-records-has, records-rules}
+use Rattle.plain.proofs.Records.{so-record}
 use Rattle.plain.proofs.Damage.{damaged-fails}
 use Rattle.plain.proofs.Conditions.{whole-tells}
 use Rattle.plain.proofs.Fates.{one-fate, unmet}
@@ -43,19 +47,20 @@ some-number UnsoundBank e = omega (arith, e)
 some-number SmallBuffer e = omega (arith, e)
 some-number NotReadOnly e = omega (arith, e)
 some-number BadInput e = omega (arith, e)
+some-number BadRing e = omega (arith, e)
 
 module _ (given : Lent) (frame : List ℕ) {told : Said} (call : Explains given frame told) (taken : told .number ≡ 0) where
-  -- nothing was refused, so sheet and bank are sound, and the reason is that of the facts
+  -- nothing was refused, so sheet and bank are sound and the ring goes with the sheet, and the reason is that of the facts
   record Explained : Type 0 where
     passed : Passed given
     is : told ≡ said 0 (reasonNumber (reasonOf given frame)) (reasonAddress (reasonOf given frame))
 
   explained : Explained
   unfolding explanation
-  explained = go (checkAnswer given) refl (explains-is call)
+  explained = go (lentAnswer given) refl (explains-is call)
     where
-      go : (answer : Answer) → checkAnswer given ≡ answer → told ≡ saidOf (explainedBy answer (reasonOf given frame)) → Explained
-      go Done e is = record { passed = check-passed given e; is = is }
+      go : (answer : Answer) → lentAnswer given ≡ answer → told ≡ saidOf (explainedBy answer (reasonOf given frame)) → Explained
+      go Done e is = record { passed = lent-passed given e .0; is = is }
       go (Refused refusal) e is = absurd (some-number refusal (sym (ap (λ (s : Said). s .number) is) ∙ taken))
 
   sheet-bytes : Bytes (given .sheet)
@@ -84,7 +89,7 @@ module _ (given : Lent) (frame : List ℕ) {told : Said} (call : Explains given 
       ap (λ (n : ℕ). said n (told .reason) (told .address)) taken ∙ sym (ap₂ (said 0) (found .0) (found .1))
     where
       fails : fates.Whole frame → ⊥
-      fails = unmet (whole-tells frame) (ap not (damaged-fails sent frame is (explains-bytes call .2) damage))
+      fails = unmet (whole-tells frame) (ap not (damaged-fails sent frame is (explains-bytes call .3) damage))
 
       differs : CheckAgrees frame → ⊥
       differs agrees = fails record { least = omega (arith, is .least, damage .sameLength); most = omega (arith, is .most, damage .sameLength); check = agrees }
@@ -120,7 +125,11 @@ module _ (given : Lent) (frame buffer : List ℕ) (accepted : Accepted given buf
   seen : {fate : Fate} → HandsBack given frame buffer (leftBy left) fate → Gets given frame fate → Seen fate left
   seen (plain.quiet e) gets = ap (λ (l : Left). l .number) e
   seen (plain.erred number size rate reply) gets = (number, size, reply .itsCode)
-  seen (plain.read is number size rate reply) gets = (number, omega (arith, size, some-read is gets))
+  seen (plain.read is none number size rate reply) gets = (number, omega (arith, size, some-read is gets))
+  seen (plain.recorded is k many words at number size rate reply) gets =
+      let record-is = so-record (given .sheet) at in
+      (number, omega (arith, size, record-is .itsWords,
+      records-rules (given .sheet) (accepted .sheetSound) (in-records-has (given .sheet) (word frame 2) (record-is .inside)) .words-low))
   seen (plain.echoed is number size rate reply) gets = (number, omega (arith, size))
 
   -- a frame gets what is seen, and what is seen it gets
@@ -135,9 +144,9 @@ module _ (given : Lent) (frame buffer : List ℕ) (accepted : Accepted given buf
   both p q = (λ a. q .0 (p .0 a), λ c. p .1 (q .1 c))
 
   -- what is accepted for an answer is for a reason too
-  done : checkAnswer given ≡ Done
-  unfolding checkAnswer firstCase
-  done = simp (accepted .sheetSound, accepted .bankFits, accepted .bankWhole)
+  done : lentAnswer given ≡ Done
+  unfolding lentAnswer firstCase
+  done = simp (accepted .sheetSound, accepted .bankFits, accepted .bankWhole, accepted .ringGoes)
 
   told-taken : {told : Said} → Explains given frame told → told .number ≡ 0
   unfolding explanation
@@ -145,7 +154,7 @@ module _ (given : Lent) (frame buffer : List ℕ) (accepted : Accepted given buf
       ap (λ (s : Said). s .number) (explains-is call)
       ∙ ap (λ (a : Answer). saidOf (explainedBy a (reasonOf given frame)) .number) done
 
-  pub why-agrees : {told : Said} → Explains given frame told → Agrees frame told left
+  pub why-agrees : {told : Said} → Explains given frame told → Agrees (given .sheet) frame told left
   why-agrees call =
       let taken = told-taken call in
       let out = why.goes-out given frame (explained given frame call taken .passed) (explains-bytes call .0) (why-true given frame call taken) in

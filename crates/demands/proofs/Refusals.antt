@@ -2,17 +2,17 @@
 -- number exactly if its condition holds and none does that comes before it (rule N50); and with a refusal nothing is written. Rule D13 is no
 -- statement of a contract: only a function that is shown to end is proved at all. Assumes nothing.
 use mathlib.Core.Path.{_≡_, refl, sym, subst}
-use mathlib.Core.Bool.{true}
+use mathlib.Core.Bool.{true, _||_}
 use mathlib.Core.List.{List, [], _∷_}
 use mathlib.Core.Logic.{_↔_}
 use Prim.Native.Nat.{ℕ, _≤_, _<_}
 use native.Mathlib.Omega.{arith}
 use Rattle.lists.specs.Cases.{Case, when, mapped, FirstAfter, InOrder, numbersOf}
-use Rattle.lists.specs.Lists.{each, upFrom}
-use Rattle.lists.proofs.Among.{Among, each-among}
+use Rattle.lists.specs.Lists.{each, some, upFrom}
+use Rattle.lists.proofs.Among.{Among, each-among, some-among}
 use Rattle.bank_rules.proofs.Inside.{number-among}
-use lib.Dec.{ltb}
-use borrow.Author.Tests.{ltb-true}
+use lib.Dec.{eqb}
+use borrow.Author.Tests.{eqb-true}
 use Rattle.lists.proofs.Cases.{told-among, differ}
 use Rattle.refusals.specs.declared.Answer.{Answer}
 use Rattle.refusals.specs.declared.Answer.the-variants.{Done, Refused}
@@ -21,15 +21,21 @@ use Rattle.refusals.proofs.Answers.{numbers-in-order}
 use Rattle.sheet_rules.specs.Rules.{brokenSheet, sheetRefusals}
 use Rattle.bank_rules.specs.Stores.{Store, stored}
 use Rattle.bank_rules.specs.Bank.{emptyOrOdd, freshStores, postStores, markStores, rateOf}
-use Rattle.bank_rules.specs.Calls.{Lent, misfittingBank, unsoundBank, badMark, badAddress, checkAnswer, freshAnswer, postAnswer, markAnswer, effectOf, bankOutcome, freshOutcome, postOutcome, markOutcome}
+use Rattle.bank_rules.specs.Calls.{Lent, misfittingBank, unsoundBank, badMark, badAddress, freshAnswer, postAnswer, markAnswer, effectOf, bankOutcome, freshOutcome, postOutcome, markOutcome}
 use Rattle.bank_rules.proofs.Numbers.{check-numbers, fresh-numbers, post-numbers, mark-numbers}
 use Rattle.bank_rules.proofs.Changes.{refused-as-before}
+use Rattle.sheet_rules.specs.Rows.{recordArea}
+use Rattle.ring_rules.specs.Ring.{wrongRecord}
+use Rattle.ring_rules.specs.Calls.{badRing, withoutRecords, addOutcome}
+use Rattle.ring_rules.proofs.Calls.{ring-numbers, add-numbers, add-refused}
+use Rattle.meter_rules.specs.Judgement.{lentAnswer}
+use Rattle.meter_rules.proofs.Lending.{lent-numbers}
 use Rattle.meter_rules.specs.Steps.{judgedFrame}
 use Rattle.meter_rules.specs.Answer.{Outcome, answeredNumber, smallBuffer, frameRefusals, frameCheck, unlessRefused, actedOn, answerOutcome}
 use Rattle.meter_rules.proofs.Outcomes.{outcome-cases, frame-numbers, answered-takes}
 use Rattle.why_rules.specs.Reasons.{reasonOf, explainedBy, explanation}
-use Rattle.cedarskein.specs.Door.{Told, Handed, Said, told, toldOf, handed, handedOf, said, saidOf}
-use Rattle.demands.proofs.Calls.{ChecksSheet, ChecksBank, Freshens, Posts, Marks, Answers, Explains, checks-sheet-is, checks-bank-is, freshens-is, posts-is, marks-is, answers-is, explains-is}
+use Rattle.cedarskein.specs.Door.{Told, RingTold, Handed, Said, told, toldOf, handed, handedOf, said, saidOf}
+use Rattle.demands.proofs.Calls.{ChecksSheet, ChecksBank, Freshens, Posts, Marks, ChecksRing, Adds, Answers, Explains, checks-ring-is, adds-is, checks-sheet-is, checks-bank-is, freshens-is, posts-is, marks-is, answers-is, explains-is}
 
 -- ---- the calls on a bank, and the two checks
 
@@ -89,12 +95,14 @@ module _ (given : Lent) where
 -- each refusal's number exactly if its condition holds and none does that comes before it; length and rate are then 0, and bank and buffer
 -- are as they were
 pub record RefusesFrame (given : Lent) (buffer : List ℕ) (left : Handed) : Type 0 where
-  pub oneOf : Among (left .number) (0 ∷ 1 ∷ 2 ∷ 3 ∷ 4 ∷ 5 ∷ [])
+  pub oneOf : Among (left .number) (0 ∷ 1 ∷ 2 ∷ 3 ∷ 4 ∷ 8 ∷ 5 ∷ [])
   pub two : (left .number ≡ 2) ↔ (brokenSheet (given .sheet) ≡ true)
   pub three : (left .number ≡ 3) ↔ FirstAfter (brokenSheet (given .sheet) ∷ []) (misfittingBank given)
   pub four : (left .number ≡ 4) ↔ FirstAfter (brokenSheet (given .sheet) ∷ misfittingBank given ∷ []) (unsoundBank given)
+  pub eight : (left .number ≡ 8)
+      ↔ FirstAfter (brokenSheet (given .sheet) ∷ misfittingBank given ∷ unsoundBank given ∷ []) (badRing (given .sheet) (given .ring))
   pub five : (left .number ≡ 5)
-      ↔ FirstAfter (brokenSheet (given .sheet) ∷ misfittingBank given ∷ unsoundBank given ∷ []) (smallBuffer buffer)
+      ↔ FirstAfter (brokenSheet (given .sheet) ∷ misfittingBank given ∷ unsoundBank given ∷ badRing (given .sheet) (given .ring) ∷ []) (smallBuffer buffer)
   pub nothingWritten : 2 ≤ left .number → left ≡ handed (left .number) 0 0 (given .bank) buffer
 
 module _ (given : Lent) (frame buffer : List ℕ) where
@@ -107,18 +115,27 @@ module _ (given : Lent) (frame buffer : List ℕ) where
   -- a frame that is acted on has the number 0 or 1
   acted-number : answeredNumber (acted .answered) ≤ 1
   unfolding actedOn
-  acted-number = answered-takes (judgedFrame given frame) (given .bank) frame (rateOf (given .sheet) (given .bank))
+  acted-number = answered-takes (judgedFrame given frame) (given .bank) (given .ring) frame (rateOf (given .sheet) (given .bank))
 
-  one-of : Among (answeredNumber (result .answered)) (0 ∷ 1 ∷ 2 ∷ 3 ∷ 4 ∷ 5 ∷ [])
-  unfolding answerOutcome each upFrom
+  abbrev numbers : List ℕ
+  numbers = 0 ∷ 1 ∷ 2 ∷ 3 ∷ 4 ∷ 8 ∷ 5 ∷ []
+
+  one-of : Among (answeredNumber (result .answered)) numbers
+  unfolding answerOutcome each some upFrom
   one-of =
-      number-among 6
-      (go (frameCheck given buffer) (told-among (answerNumber (frameCheck given buffer)) [] (mapped refusalNumber (frameRefusals given buffer)) tt (frame-numbers given buffer)))
+      go (frameCheck given buffer) (told-among (answerNumber (frameCheck given buffer)) [] (mapped refusalNumber (frameRefusals given buffer)) tt (frame-numbers given buffer))
     where
-      go : (answer : Answer) → Among (answerNumber answer) (2 ∷ 3 ∷ 4 ∷ 5 ∷ 0 ∷ [])
-          → answeredNumber (unlessRefused answer given buffer acted .answered) < 6
-      go Done m = omega (arith, acted-number)
-      go (Refused refusal) m = ltb-true (refusalNumber refusal) 6 (each-among (λ n. ltb n 6) m refl)
+      listed : {n : ℕ} → some (eqb n) numbers ≡ true → Among n numbers
+      listed {n} e =
+          let found = some-among (eqb n) numbers e in
+          subst (λ (k : ℕ). Among k numbers) (sym (eqb-true n (found .0) (found .2))) (found .1)
+
+      go : (answer : Answer) → Among (answerNumber answer) (2 ∷ 3 ∷ 4 ∷ 8 ∷ 5 ∷ 0 ∷ [])
+          → Among (answeredNumber (unlessRefused answer given buffer acted .answered)) numbers
+      go Done m =
+          let few : answeredNumber (acted .answered) < 2 = omega (arith, acted-number) in
+          listed (each-among (λ n. some (eqb n) numbers) (number-among 2 few) refl)
+      go (Refused refusal) m = listed (each-among (λ n. some (eqb n) numbers) m refl)
 
   -- a number from 2 on is that of the refusal
   exactly : {condition : Type 0} (k : ℕ) → 2 ≤ k → (answerNumber (frameCheck given buffer) ≡ k) ↔ condition
@@ -138,7 +155,7 @@ module _ (given : Lent) (frame buffer : List ℕ) where
   nothing-written =
       outcome-cases given frame buffer
       (λ o. 2 ≤ answeredNumber (o .answered) → handedOf o ≡ handed (answeredNumber (o .answered)) 0 0 (given .bank) buffer)
-      (λ refusal some. refl) (λ found some. absurd (omega (arith, acted-number, some)))
+      (λ refusal some. refl) (λ found ringed some. absurd (omega (arith, acted-number, some)))
 
   pub frame-refuses : {left : Handed} → Answers given frame buffer left → RefusesFrame given buffer left
   frame-refuses call =
@@ -149,23 +166,46 @@ module _ (given : Lent) (frame buffer : List ℕ) where
         two = exactly 2 (omega arith) (λ e. told .0 .0 e .1, λ broken. told .0 .1 (tt, broken));
         three = exactly 3 (omega arith) (told .1 .0);
         four = exactly 4 (omega arith) (told .1 .1 .0);
-        five = exactly 5 (omega arith) (told .1 .1 .1 .0);
+        eight = exactly 8 (omega arith) (told .1 .1 .1 .0);
+        five = exactly 5 (omega arith) (told .1 .1 .1 .1 .0);
         nothingWritten = nothing-written;
       }
 
 -- ---- the reason for silence or an error
 
--- each refusal's number as for the bank's check; reason and address are then 0
+-- each refusal's number as for a frame, but for the buffer's; reason and address are then 0
 pub record RefusesWhy (given : Lent) (told : Said) : Type 0 where
-  pub byNumber : ByNumber (when (brokenSheet (given .sheet)) 2 ∷ when (misfittingBank given) 3 ∷ when (unsoundBank given) 4 ∷ []) (told .number)
+  pub byNumber : ByNumber
+      (when (brokenSheet (given .sheet)) 2 ∷ when (misfittingBank given) 3 ∷ when (unsoundBank given) 4 ∷ when (badRing (given .sheet) (given .ring)) 8 ∷ [])
+      (told .number)
   pub zeros : (told .number ≡ 0 → ⊥) → told ≡ said (told .number) 0 0
 
 pub why-refuses : (given : Lent) (frame : List ℕ) {told : Said} → Explains given frame told → RefusesWhy given told
 unfolding explanation
-why-refuses given frame call = subst (RefusesWhy given) (sym (explains-is call)) (go (checkAnswer given) (check-numbers given))
+why-refuses given frame call = subst (RefusesWhy given) (sym (explains-is call)) (go (lentAnswer given) (lent-numbers given))
   where
     go : (answer : Answer)
-        → InOrder (answerNumber answer) [] (when (brokenSheet (given .sheet)) 2 ∷ when (misfittingBank given) 3 ∷ when (unsoundBank given) 4 ∷ [])
+        → InOrder (answerNumber answer) []
+        (when (brokenSheet (given .sheet)) 2 ∷ when (misfittingBank given) 3 ∷ when (unsoundBank given) 4 ∷ when (badRing (given .sheet) (given .ring)) 8 ∷ [])
         → RefusesWhy given (saidOf (explainedBy answer (reasonOf given frame)))
     go Done numbers = record { byNumber = by-number _ refl numbers; zeros = λ some. absurd (some refl) }
     go (Refused refusal) numbers = record { byNumber = by-number _ refl numbers; zeros = λ some. refl }
+
+-- ---- the calls on a ring
+
+pub ring-check-refuses : (sheet ring : List ℕ) {number : ℕ} → ChecksRing sheet ring number
+    → ByNumber (when (brokenSheet sheet) 2 ∷ when (badRing sheet ring) 8 ∷ []) number
+ring-check-refuses sheet ring call = by-number _ (checks-ring-is call) (ring-numbers sheet ring)
+
+-- each number of adding a record exactly if its condition holds and none does that comes before it, where 2 has two; and nothing written with any
+-- number but 0
+pub record RefusesRecord (sheet ring bytes : List ℕ) (left : RingTold) : Type 0 where
+  pub byNumber : ByNumber
+      (when (brokenSheet sheet || withoutRecords sheet) 2 ∷ when (badRing sheet ring) 8 ∷ when (wrongRecord (recordArea sheet) bytes) 7 ∷ []) (left .number)
+  pub nothingWritten : (left .number ≡ 0 → ⊥) → left .ring ≡ ring
+
+pub add-refuses : (sheet ring bytes : List ℕ) {left : RingTold} → Adds sheet ring bytes left → RefusesRecord sheet ring bytes left
+unfolding addOutcome
+add-refuses sheet ring bytes call =
+    subst (RefusesRecord sheet ring bytes) (sym (adds-is call))
+    record { byNumber = by-number _ refl (add-numbers sheet ring bytes); nothingWritten = add-refused sheet ring bytes }

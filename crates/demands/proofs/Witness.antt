@@ -13,7 +13,9 @@ use Rattle.check_value.specs.Check.{valueOf}
 use Rattle.check_value.specs.Frame.{passes}
 use Rattle.check_value.proofs.Witness.{frameSent, framesReceived, AllDamaged, sent-passes, received-damaged}
 use Rattle.range.specs.Range.{inRange}
-use Rattle.sheet_rules.specs.Rows.{areas, items}
+use Rattle.sheet_rules.specs.Rows.{areas, items, recordArea}
+use Rattle.ring_rules.specs.Calls.{ringFits}
+use Rattle.meter_rules.specs.Judgement.{lentAnswer}
 use Rattle.sheet_rules.specs.Rules.{sound, headerSound, areasSound, itemsSound, settingsSound, recordsSound, itemPlaces, writablePlaces, placesFollow, areasAscend, lengthsSum, sheetAnswer}
 use Rattle.lists.specs.Lists.{each, some, upFrom, samePlaces}
 use Rattle.sheet_rules.specs.Lookup.{liesIn, addressOf}
@@ -53,8 +55,8 @@ pub fresh-bank-made : toldOf (freshOutcome (lent uxSheet (replicate 70 0xFF))) .
 fresh-bank-made = ap (λ o. toldOf o .bank) ux-fresh-made
 
 pub accepted : Accepted (lent uxSheet freshBank) answerBuffer
-unfolding bytesOf firstCase bankSound goodBy sound headerSound areasSound itemsSound settingsSound recordsSound each some upFrom samePlaces itemPlaces writablePlaces placesFollow areasAscend lengthsSum areas items wordAt withWord inRange sheetOf
-accepted = record { sheetSound = refl; bankFits = refl; bankWhole = refl; bufferLong = omega arith }
+unfolding ringFits recordArea bytesOf firstCase bankSound goodBy sound headerSound areasSound itemsSound settingsSound recordsSound each some upFrom samePlaces itemPlaces writablePlaces placesFollow areasAscend lengthsSum areas items wordAt withWord inRange sheetOf
+accepted = record { sheetSound = refl; bankFits = refl; bankWhole = refl; ringGoes = refl; bufferLong = omega arith }
 
 -- ---- demand 3: one bit, two, three far apart, and sixteen in a run over three bytes
 
@@ -71,14 +73,14 @@ answerTo frame = handedOf (answerOutcome (lent uxSheet freshBank) frame answerBu
 pub called : (frame : List ℕ) → Bytes frame → Answers (lent uxSheet freshBank) frame answerBuffer (answerTo frame)
 unfolding sheetOf bytesOf
 called frame frame-bytes =
-    some-answer (lent uxSheet freshBank) frame answerBuffer (tested-bytes uxSheet tt) (tested-bytes freshBank tt) frame-bytes (tested-bytes answerBuffer tt)
+    some-answer (lent uxSheet freshBank) frame answerBuffer (tested-bytes uxSheet tt) (tested-bytes freshBank tt) (tested-bytes [] tt) frame-bytes (tested-bytes answerBuffer tt)
 
 pub damaged-answers : map answerTo framesReceived ≡ map (λ frame. handed 1 0 0 freshBank answerBuffer) framesReceived
-unfolding allOpen answerOutcome frameCheck actedOn judgedFrame replyTo storesOf withCheck runStores stopPlace stopIn badItem someBad stored passes valueOf liesIn bytesOf firstCase bankSound goodBy sound headerSound areasSound itemsSound settingsSound recordsSound each some upFrom samePlaces itemPlaces writablePlaces placesFollow areasAscend lengthsSum areas items wordAt withWord inRange sheetOf
+unfolding allOpen answerOutcome frameCheck ringFits recordArea actedOn judgedFrame replyTo storesOf withCheck runStores stopPlace stopIn badItem someBad stored passes valueOf liesIn bytesOf firstCase bankSound goodBy sound headerSound areasSound itemsSound settingsSound recordsSound each some upFrom samePlaces itemPlaces writablePlaces placesFollow areasAscend lengthsSum areas items wordAt withWord inRange sheetOf
 damaged-answers = refl
 
 pub undamaged-answer : answerTo frameSent ≡ handed 0 9 1 freshBank ((0x01 ∷ 0x03 ∷ 0x04 ∷ 0x00 ∷ 0x00 ∷ 0x00 ∷ 0x00 ∷ 0xFA ∷ 0x33 ∷ []) ++ drop 9 answerBuffer)
-unfolding allOpen answerOutcome frameCheck actedOn judgedFrame replyTo storesOf withCheck runStores stopPlace stopIn badItem someBad stored passes valueOf liesIn bytesOf firstCase bankSound goodBy sound headerSound areasSound itemsSound settingsSound recordsSound each some upFrom samePlaces itemPlaces writablePlaces placesFollow areasAscend lengthsSum areas items wordAt withWord inRange sheetOf
+unfolding allOpen answerOutcome frameCheck ringFits recordArea actedOn judgedFrame replyTo storesOf withCheck runStores stopPlace stopIn badItem someBad stored passes valueOf liesIn bytesOf firstCase bankSound goodBy sound headerSound areasSound itemsSound settingsSound recordsSound each some upFrom samePlaces itemPlaces writablePlaces placesFollow areasAscend lengthsSum areas items wordAt withWord inRange sheetOf
 undamaged-answer = refl
 
 -- ---- rule D25: the read that station 1 answers, for 0, F8 and FF, with right checks
@@ -95,7 +97,7 @@ unfolding passes valueOf
 kept-back-pass = refl
 
 pub kept-back-answers : map answerTo keptBackFrames ≡ map (λ frame. handed 1 0 0 freshBank answerBuffer) keptBackFrames
-unfolding allOpen answerOutcome frameCheck actedOn judgedFrame replyTo storesOf withCheck runStores stopPlace stopIn badItem someBad stored passes valueOf liesIn bytesOf firstCase bankSound goodBy sound headerSound areasSound itemsSound settingsSound recordsSound each some upFrom samePlaces itemPlaces writablePlaces placesFollow areasAscend lengthsSum areas items wordAt withWord inRange sheetOf
+unfolding allOpen answerOutcome frameCheck ringFits recordArea actedOn judgedFrame replyTo storesOf withCheck runStores stopPlace stopIn badItem someBad stored passes valueOf liesIn bytesOf firstCase bankSound goodBy sound headerSound areasSound itemsSound settingsSound recordsSound each some upFrom samePlaces itemPlaces writablePlaces placesFollow areasAscend lengthsSum areas items wordAt withWord inRange sheetOf
 kept-back-answers = refl
 
 -- ---- demand 2: a frame for each step, and good ones
@@ -142,7 +144,7 @@ pub steps-met : map (judgedFrame (lent uxSheet freshBank)) judgedFrames
     ∷ GoodWrite 14 1
     ∷ GoodClear
     ∷ []
-unfolding allOpen answerOutcome frameCheck actedOn judgedFrame replyTo storesOf withCheck runStores stopPlace stopIn badItem someBad stored passes valueOf liesIn bytesOf firstCase bankSound goodBy sound headerSound areasSound itemsSound settingsSound recordsSound each some upFrom samePlaces itemPlaces writablePlaces placesFollow areasAscend lengthsSum areas items wordAt withWord inRange sheetOf
+unfolding allOpen answerOutcome frameCheck ringFits recordArea actedOn judgedFrame replyTo storesOf withCheck runStores stopPlace stopIn badItem someBad stored passes valueOf liesIn bytesOf firstCase bankSound goodBy sound headerSound areasSound itemsSound settingsSound recordsSound each some upFrom samePlaces itemPlaces writablePlaces placesFollow areasAscend lengthsSum areas items wordAt withWord inRange sheetOf
 steps-met = refl
 
 -- the reasons that are told of them, each with its address
@@ -160,12 +162,12 @@ pub reasons-told : map (λ frame. saidOf (explanation (lent uxSheet freshBank) f
     ∷ said 0 0 0
     ∷ said 0 0 0
     ∷ []
-unfolding explanation checkAnswer reasonOf firstShut allOpen addressOf stopPlace stopIn badItem someBad valueOf liesIn bytesOf firstCase bankSound goodBy sound headerSound areasSound itemsSound settingsSound recordsSound each some upFrom samePlaces itemPlaces writablePlaces placesFollow areasAscend lengthsSum areas items wordAt withWord inRange sheetOf
+unfolding explanation lentAnswer ringFits recordArea reasonOf firstShut allOpen addressOf stopPlace stopIn badItem someBad valueOf liesIn bytesOf firstCase bankSound goodBy sound headerSound areasSound itemsSound settingsSound recordsSound each some upFrom samePlaces itemPlaces writablePlaces placesFollow areasAscend lengthsSum areas items wordAt withWord inRange sheetOf
 reasons-told = refl
 
 pub asked : (frame : List ℕ) → Bytes frame → Explains (lent uxSheet freshBank) frame (saidOf (explanation (lent uxSheet freshBank) frame))
 unfolding sheetOf bytesOf
-asked frame frame-bytes = some-why (lent uxSheet freshBank) frame (tested-bytes uxSheet tt) (tested-bytes freshBank tt) frame-bytes
+asked frame frame-bytes = some-why (lent uxSheet freshBank) frame (tested-bytes uxSheet tt) (tested-bytes freshBank tt) (tested-bytes [] tt) frame-bytes
 
 -- ---- demand 1: an input for each refusal of each call, and one that is not refused
 
@@ -235,7 +237,7 @@ frameCalls =
     ∷ handedOf (answerOutcome (lent uxSheet freshBank) frameSent answerBuffer) .number ∷ []
 
 pub frame-numbers : frameCalls ≡ 2 ∷ 3 ∷ 4 ∷ 5 ∷ 1 ∷ 0 ∷ []
-unfolding allOpen answerOutcome frameCheck actedOn judgedFrame replyTo storesOf withCheck runStores stopPlace stopIn badItem someBad stored passes valueOf liesIn bytesOf firstCase bankSound goodBy sound headerSound areasSound itemsSound settingsSound recordsSound each some upFrom samePlaces itemPlaces writablePlaces placesFollow areasAscend lengthsSum areas items wordAt withWord inRange sheetOf
+unfolding allOpen answerOutcome frameCheck ringFits recordArea actedOn judgedFrame replyTo storesOf withCheck runStores stopPlace stopIn badItem someBad stored passes valueOf liesIn bytesOf firstCase bankSound goodBy sound headerSound areasSound itemsSound settingsSound recordsSound each some upFrom samePlaces itemPlaces writablePlaces placesFollow areasAscend lengthsSum areas items wordAt withWord inRange sheetOf
 frame-numbers = refl
 
 abbrev whyCalls : List ℕ
@@ -246,5 +248,5 @@ whyCalls =
     ∷ saidOf (explanation (lent uxSheet freshBank) frameSent) .number ∷ []
 
 pub why-numbers : whyCalls ≡ 2 ∷ 3 ∷ 4 ∷ 0 ∷ []
-unfolding explanation checkAnswer bytesOf firstCase bankSound goodBy sound headerSound areasSound itemsSound settingsSound recordsSound each some upFrom samePlaces itemPlaces writablePlaces placesFollow areasAscend lengthsSum areas items wordAt withWord inRange sheetOf
+unfolding explanation lentAnswer ringFits recordArea bytesOf firstCase bankSound goodBy sound headerSound areasSound itemsSound settingsSound recordsSound each some upFrom samePlaces itemPlaces writablePlaces placesFollow areasAscend lengthsSum areas items wordAt withWord inRange sheetOf
 why-numbers = refl

@@ -12,9 +12,9 @@ abbrev pub Errs : ℕ → Handed → Type 0
 Errs code left = (left .number ≡ 0) × (left .length ≡ 5) × (byte (left .buffer) 2 ≡ code)
 
 -- rule Y4, where neither call is refused: what went out and the reason that was told, both ways
-pub record Agrees (frame : List ℕ) (told : Said) (left : Handed) : Type 0 where
+pub record Agrees (sheet frame : List ℕ) (told : Said) (left : Handed) : Type 0 where
   pub noError : ((left .number ≡ 0) × (6 ≤ left .length)) ↔ (told .reason ≡ 0)
   pub silent : (left .number ≡ 1) ↔ ((told .reason ≡ 1) ⊎ (told .reason ≡ 2) ⊎ (told .reason ≡ 3) ⊎ (told .reason ≡ 4) ⊎ (told .reason ≡ 6))
   pub errorOne : Errs 1 left ↔ (told .reason ≡ 5)
-  pub errorTwo : Errs 2 left ↔ ((told .reason ≡ 8) ⊎ ((told .reason ≡ 7) × ReadsTooMany frame))
-  pub errorThree : Errs 3 left ↔ (((told .reason ≡ 7) × (ReadsTooMany frame → ⊥)) ⊎ (told .reason ≡ 9) ⊎ (told .reason ≡ 10))
+  pub errorTwo : Errs 2 left ↔ ((told .reason ≡ 8) ⊎ ((told .reason ≡ 7) × ReadsTooMany sheet frame))
+  pub errorThree : Errs 3 left ↔ (((told .reason ≡ 7) × (ReadsTooMany sheet frame → ⊥)) ⊎ (told .reason ≡ 9) ⊎ (told .reason ≡ 10))

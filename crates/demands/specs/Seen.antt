@@ -7,14 +7,17 @@ use lib.ListN.{length}
 use Rattle.sheet_rules.specs.Rules.{sound}
 use Rattle.bank_rules.specs.Bank.{fits, bankSound}
 use Rattle.bank_rules.specs.Calls.{Lent}
+use Rattle.ring_rules.specs.Calls.{ringFits}
 use Rattle.plain.specs.Left.{Left}
 use Rattle.cedarskein.specs.Door.{Handed}
 
--- rule D30, none of the refusals 2 to 5 applies: sheet and bank are sound, the bank fits, and the buffer has 100 bytes or more
+-- rule D30, none of the refusals 2 to 5 and 8 applies: sheet and bank are sound, the bank fits, the ring goes with the sheet, and the buffer has 100
+-- bytes or more
 pub record Accepted (given : Lent) (buffer : List ℕ) : Type 0 where
   pub sheetSound : sound (given .sheet) ≡ true
   pub bankFits : fits (given .sheet) (given .bank) ≡ true
   pub bankWhole : bankSound (given .sheet) (given .bank) ≡ true
+  pub ringGoes : ringFits (given .sheet) (given .ring) ≡ true
   pub bufferLong : 100 ≤ length buffer
 
 -- what was handed back and left

@@ -4,13 +4,16 @@ use mathlib.Core.Bool.{Bool, true, false, not}
 use mathlib.Core.List.{List, [], _∷_}
 use Prim.Native.Nat.{ℕ}
 use borrow.Author.Tests.{not-false}
-use Rattle.lists.specs.Cases.{Case, when, firstCase}
+use Rattle.lists.specs.Cases.{Case, when, firstCase, InOrder}
+use Rattle.lists.proofs.Cases.{differ}
 use Rattle.refusals.specs.declared.Refusal.{Refusal}
 use Rattle.refusals.specs.declared.Refusal.the-variants.{BadRing}
 use Rattle.refusals.specs.declared.Answer.{Answer}
 use Rattle.refusals.specs.declared.Answer.the-variants.{Done, Refused}
-use Rattle.refusals.proofs.Answers.{front-refuses, front-passes, refused-here, passed-here, done-none}
-use Rattle.bank_rules.specs.Calls.{Lent, lent, lentWith, checkRefusals, checkAnswer}
+use Rattle.refusals.proofs.Answers.{front-refuses, front-passes, refused-here, passed-here, done-none, numbers-in-order}
+use Rattle.refusals.specs.Answers.{answerNumber}
+use Rattle.sheet_rules.specs.Rules.{brokenSheet}
+use Rattle.bank_rules.specs.Calls.{Lent, lent, lentWith, misfittingBank, unsoundBank, checkRefusals, checkAnswer}
 use Rattle.bank_rules.proofs.Changes.{Passed, passed}
 use Rattle.ring_rules.specs.Calls.{ringFits, badRing}
 use Rattle.meter_rules.specs.Judgement.{lentRefusals, lentAnswer}
@@ -41,3 +44,9 @@ unfolding lentAnswer
 lent-passed given done =
     let none = done-none (lentRefusals given) done in
     (passed given (badRing (given .sheet) (given .ring) ∷ []) none, not-false (ringFits (given .sheet) (given .ring)) (none .1 .1 .1 .0))
+
+-- each number of a refusal is handed back exactly if its condition holds and none does that comes before it
+pub lent-numbers : (given : Lent) → InOrder (answerNumber (lentAnswer given)) []
+    (when (brokenSheet (given .sheet)) 2 ∷ when (misfittingBank given) 3 ∷ when (unsoundBank given) 4 ∷ when (badRing (given .sheet) (given .ring)) 8 ∷ [])
+unfolding lentAnswer differ
+lent-numbers given = numbers-in-order (lentRefusals given) refl
