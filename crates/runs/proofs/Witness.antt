@@ -1,4 +1,4 @@
--- There are such memories: for any bytes there is one in which they lie as a sheet, a bank, a frame and an answer buffer, with two numbers beside
+-- There are such memories: for any bytes there is one in which they lie as a sheet, a bank, a ring, a frame and an answer buffer, with two numbers beside
 -- them, so that what `Door` says of a frame is said of a run. Assumes nothing.
 use mathlib.Core.Path.{_≡_, subst}
 use mathlib.Core.Logic.{∥∥₁-prop, ∥∥₁-elim, ∥∥₁-map}
@@ -88,11 +88,11 @@ both-fit : (xs ys : List ℕ) → AllFit w8 xs → AllFit w8 ys → AllFit w8 (x
 both-fit [] ys fits others = others
 both-fit (x ∷ xs) ys fits others = (fits .0, both-fit xs ys (fits .1) others)
 
--- ---- a call with a frame, in the kit's closed model: sheet and frame lie in one block, bank and answer buffer in another, the two numbers in their own
+-- ---- a call with a frame, in the kit's closed model: sheet, ring and frame lie in one block, bank and answer buffer in another, the two numbers in their own
 
-module _ (sheet bank frame buffer : List ℕ) where
+module _ (sheet bank ring frame buffer : List ℕ) where
   abbrev pub callAt : Place → Place → Call
-  callAt length-at rate-at = answer-call (0, 0) (1, 0) (0, length sheet) (1, length bank) length-at rate-at sheet bank frame buffer 0 0
+  callAt length-at rate-at = answer-call (0, 0) (1, 0) (0, length sheet) (0, length sheet + length ring) (1, length bank) length-at rate-at sheet bank ring frame buffer 0 0
 
   -- a memory, and the run from it
   pub record AnswerReturned : Type 1 where
@@ -112,25 +112,27 @@ module _ (sheet bank frame buffer : List ℕ) where
   W = givenOf Closed.𝓤 Closed.H Closed.model ghost₀
 
   arranged : (L R : SProp Closed.𝓤)
-      → ent Closed.𝓤 (R ⁎ (L ⁎ (bytes 0 0 (sheet ++ frame) ⁎ bytes 1 0 (bank ++ buffer))))
-      ((bytes 0 0 sheet ⁎ (bytes 1 0 bank ⁎ (bytes 0 (length sheet) frame ⁎ (bytes 1 (length bank) buffer ⁎ (L ⁎ (R ⁎ emp Closed.𝓤)))))) ⁎ emp Closed.𝓤)
+      → ent Closed.𝓤 (R ⁎ (L ⁎ (bytes 0 0 (sheet ++ (ring ++ frame)) ⁎ bytes 1 0 (bank ++ buffer))))
+      ((bytes 0 0 sheet ⁎ (bytes 1 0 bank ⁎ (bytes 0 (length sheet) ring ⁎ (bytes 0 (length sheet + length ring) frame
+      ⁎ (bytes 1 (length bank) buffer ⁎ (L ⁎ (R ⁎ emp Closed.𝓤))))))) ⁎ emp Closed.𝓤)
   arranged L R =
-      qed W (raw R ∷ raw L ∷ raw (bytes 0 0 (sheet ++ frame)) ∷ raw (bytes 1 0 (bank ++ buffer)) ∷ []) ∵ move ! (3 ∷ []) $
+      qed W (raw R ∷ raw L ∷ raw (bytes 0 0 (sheet ++ (ring ++ frame))) ∷ raw (bytes 1 0 (bank ++ buffer)) ∷ []) ∵ move ! (3 ∷ []) $
       use1 W (raw (bytes 1 0 bank) ⊛ raw (bytes 1 (length bank) buffer)) (cut Closed.𝓤 Closed.H Closed.model 1 0 (length bank) bank buffer (omega arith)) $ split ! $ move ! (4 ∷ []) $
-      use1 W (raw (bytes 0 0 sheet) ⊛ raw (bytes 0 (length sheet) frame)) (cut Closed.𝓤 Closed.H Closed.model 0 0 (length sheet) sheet frame (omega arith)) $ split ! $
-      -- [sheet; frame; bank; buffer; R; L]
+      use1 W (raw (bytes 0 0 sheet) ⊛ raw (bytes 0 (length sheet) (ring ++ frame))) (cut Closed.𝓤 Closed.H Closed.model 0 0 (length sheet) sheet (ring ++ frame) (omega arith)) $ split ! $ move ! (1 ∷ []) $
+      use1 W (raw (bytes 0 (length sheet) ring) ⊛ raw (bytes 0 (length sheet + length ring) frame)) (cut Closed.𝓤 Closed.H Closed.model 0 (length sheet) (length sheet + length ring) ring frame (omega arith)) $ split ! $
+      -- [ring; frame; sheet; bank; buffer; R; L]
       use0 W (raw (emp Closed.𝓤)) (id⊢ Closed.𝓤 (emp Closed.𝓤)) $ use0 W (raw (emp Closed.𝓤)) (id⊢ Closed.𝓤 (emp Closed.𝓤)) $
-      move ! (2 ∷ 4 ∷ 3 ∷ 5 ∷ 7 ∷ 6 ∷ 0 ∷ 1 ∷ []) $ group ! 7 $ done !
+      move ! (4 ∷ 5 ∷ 2 ∷ 3 ∷ 6 ∷ 8 ∷ 7 ∷ 0 ∷ 1 ∷ []) $ group ! 8 $ done !
 
-  pub some-answer : AllFit w8 sheet → AllFit w8 bank → AllFit w8 frame → AllFit w8 buffer
-      → length sheet < 2 ^ 63 → length bank < 2 ^ 63 → length frame < 2 ^ 63 → length buffer < 2 ^ 63 → ∥ AnswerReturned ∥₁
-  some-answer sheet-fits bank-fits frame-fits buffer-fits s b f u =
-      let σ : Memory = startMem (sheet ++ frame) (bank ++ buffer) in
-      let P : SProp Closed.𝓤 = bytes 0 0 (sheet ++ frame) ⁎ bytes 1 0 (bank ++ buffer) in
+  pub some-answer : AllFit w8 sheet → AllFit w8 bank → AllFit w8 ring → AllFit w8 frame → AllFit w8 buffer
+      → length sheet < 2 ^ 63 → length bank < 2 ^ 63 → length ring < 2 ^ 63 → length frame < 2 ^ 63 → length buffer < 2 ^ 63 → ∥ AnswerReturned ∥₁
+  some-answer sheet-fits bank-fits ring-fits frame-fits buffer-fits s b g f u =
+      let σ : Memory = startMem (sheet ++ (ring ++ frame)) (bank ++ buffer) in
+      let P : SProp Closed.𝓤 = bytes 0 0 (sheet ++ (ring ++ frame)) ⁎ bytes 1 0 (bank ++ buffer) in
       ∥∥₁-elim (one-more Closed.𝓤 Closed.H Closed.model σ 0 P (omega arith)
-      (start-satisfies Closed.𝓤 Closed.H Closed.model (sheet ++ frame) (bank ++ buffer) (both-fit sheet frame sheet-fits frame-fits) (both-fit bank buffer bank-fits buffer-fits))) ∥∥₁-prop (λ x.
+      (start-satisfies Closed.𝓤 Closed.H Closed.model (sheet ++ (ring ++ frame)) (bank ++ buffer) (both-fit sheet (ring ++ frame) sheet-fits (both-fit ring frame ring-fits frame-fits)) (both-fit bank buffer bank-fits buffer-fits))) ∥∥₁-prop (λ x.
       ∥∥₁-elim (one-more Closed.𝓤 Closed.H Closed.model (x .0) 0 (number Closed.𝓤 Closed.H Closed.model σ 0 P ⁎ P) (omega arith) (x .1)) ∥∥₁-prop (λ y.
-      ∥∥₁-map (answer-returns Closed.𝓤 Closed.H Closed.model ghost₀ (real Closed.𝓤 Closed.H Closed.model) (0, 0) (1, 0) (0, length sheet) (1, length bank) (length σ, 0) (length (x .0), 0) sheet bank frame buffer 0 0
-      (y .0) (emp Closed.𝓤) (s, (b, (f, (u, (tt, (tt, tt))))))
+      ∥∥₁-map (answer-returns Closed.𝓤 Closed.H Closed.model ghost₀ (real Closed.𝓤 Closed.H Closed.model) (0, 0) (1, 0) (0, length sheet) (0, length sheet + length ring) (1, length bank) (length σ, 0) (length (x .0), 0) sheet bank ring frame buffer 0 0
+      (y .0) (emp Closed.𝓤) (s, (b, (g, (f, (u, (tt, (tt, tt)))))))
       (sat-weaken Closed.𝓤 Closed.H Closed.model (y .0) (arranged (number Closed.𝓤 Closed.H Closed.model σ 0 P) (number Closed.𝓤 Closed.H Closed.model (x .0) 0 (number Closed.𝓤 Closed.H Closed.model σ 0 P ⁎ P))) (y .1)))
       (λ returned. record { memory = y .0; length-at = (length σ, 0); rate-at = (length (x .0), 0); returned = returned })))

@@ -7,10 +7,11 @@ use Rattle.words.specs.Words.{Bytes}
 use Rattle.check_value.specs.Check.{startState, taken, valueOf}
 use Rattle.refusals.specs.Answers.{answerNumber}
 use Rattle.sheet_rules.specs.Rules.{sheetAnswer}
-use Rattle.bank_rules.specs.Calls.{lent, checkAnswer, freshOutcome, postOutcome, markOutcome}
+use Rattle.bank_rules.specs.Calls.{lent, lentWith, checkAnswer, freshOutcome, postOutcome, markOutcome}
+use Rattle.ring_rules.specs.Calls.{ringAnswer, addOutcome}
 use Rattle.meter_rules.specs.Answer.{answerOutcome}
 use Rattle.why_rules.specs.Reasons.{explanation}
-use Rattle.cedarskein.specs.Door.{told, toldOf, handed, handedOf, said, saidOf}
+use Rattle.cedarskein.specs.Door.{told, toldOf, ringTold, ringToldOf, handed, handedOf, said, saidOf}
 use Rattle.cedarskein.proofs.cedarskein_check_start.Symbol as check-start-code
 use Rattle.cedarskein.proofs.cedarskein_check_take.Symbol as check-take-code
 use Rattle.cedarskein.proofs.cedarskein_check_value.Symbol as check-value-code
@@ -19,6 +20,8 @@ use Rattle.cedarskein.proofs.cedarskein_bank_check.Symbol as bank-check-code
 use Rattle.cedarskein.proofs.cedarskein_bank_fresh.Symbol as bank-fresh-code
 use Rattle.cedarskein.proofs.cedarskein_post.Symbol as post-code
 use Rattle.cedarskein.proofs.cedarskein_set_mark.Symbol as set-mark-code
+use Rattle.cedarskein.proofs.cedarskein_ring_check.Symbol as ring-check-code
+use Rattle.cedarskein.proofs.cedarskein_add_record.Symbol as add-record-code
 use Rattle.cedarskein.proofs.cedarskein_answer.Symbol as answer-code
 use Rattle.cedarskein.proofs.cedarskein_why.Symbol as why-code
 use Rattle.runs.specs.Runs.{Place, toRead, toWrite, toCount, passes, lends, Call}
@@ -94,22 +97,40 @@ module _ (sheet-at bank-at : Place) (sheet bank : List ℕ) (mark : ℕ) where
     promise = λ number left. told number (left .1 .0) ≡ toldOf (markOutcome (lent sheet bank) mark);
   }
 
-module _ (sheet-at bank-at frame-at buffer-at length-at rate-at : Place) (sheet bank frame buffer : List ℕ) (length rate : ℕ) where
+module _ (sheet-at ring-at : Place) (sheet ring : List ℕ) where
+  abbrev pub ring-check-call : Call
+  ring-check-call = record {
+    function = ring-check-code.routine;
+    args = lends (toRead sheet-at sheet) ∷ lends (toRead ring-at ring) ∷ [];
+    width = w32;
+    promise = λ number left. number ≡ answerNumber (ringAnswer sheet ring);
+  }
+
+module _ (sheet-at ring-at bytes-at : Place) (sheet ring bytes : List ℕ) where
+  abbrev pub add-record-call : Call
+  add-record-call = record {
+    function = add-record-code.routine;
+    args = lends (toRead sheet-at sheet) ∷ lends (toWrite ring-at ring) ∷ lends (toRead bytes-at bytes) ∷ [];
+    width = w32;
+    promise = λ number left. ringTold number (left .1 .0) ≡ ringToldOf (addOutcome sheet ring bytes);
+  }
+
+module _ (sheet-at bank-at ring-at frame-at buffer-at length-at rate-at : Place) (sheet bank ring frame buffer : List ℕ) (length rate : ℕ) where
   abbrev pub answer-call : Call
   answer-call = record {
     function = answer-code.routine;
-    args = lends (toRead sheet-at sheet) ∷ lends (toWrite bank-at bank) ∷ lends (toRead frame-at frame) ∷ lends (toWrite buffer-at buffer) ∷ lends (toCount length-at length) ∷ lends (toCount rate-at rate) ∷ [];
+    args = lends (toRead sheet-at sheet) ∷ lends (toWrite bank-at bank) ∷ lends (toRead ring-at ring) ∷ lends (toRead frame-at frame) ∷ lends (toWrite buffer-at buffer) ∷ lends (toCount length-at length) ∷ lends (toCount rate-at rate) ∷ [];
     width = w32;
-    promise = λ number left. (handed number (left .1 .1 .1 .1 .0) (left .1 .1 .1 .1 .1 .0) (left .1 .0) (left .1 .1 .1 .0) ≡ handedOf (answerOutcome (lent sheet bank) frame buffer))
-        × (Bytes sheet × Bytes bank × Bytes frame × Bytes buffer × Bytes (left .1 .0) × Bytes (left .1 .1 .1 .0));
+    promise = λ number left. (handed number (left .1 .1 .1 .1 .1 .0) (left .1 .1 .1 .1 .1 .1 .0) (left .1 .0) (left .1 .1 .1 .1 .0) ≡ handedOf (answerOutcome (lentWith sheet bank ring) frame buffer))
+        × (Bytes sheet × Bytes bank × Bytes ring × Bytes frame × Bytes buffer × Bytes (left .1 .0) × Bytes (left .1 .1 .1 .1 .0));
   }
 
-module _ (sheet-at bank-at frame-at reason-at address-at : Place) (sheet bank frame : List ℕ) (reason address : ℕ) where
+module _ (sheet-at bank-at ring-at frame-at reason-at address-at : Place) (sheet bank ring frame : List ℕ) (reason address : ℕ) where
   abbrev pub why-call : Call
   why-call = record {
     function = why-code.routine;
-    args = lends (toRead sheet-at sheet) ∷ lends (toRead bank-at bank) ∷ lends (toRead frame-at frame) ∷ lends (toCount reason-at reason) ∷ lends (toCount address-at address) ∷ [];
+    args = lends (toRead sheet-at sheet) ∷ lends (toRead bank-at bank) ∷ lends (toRead ring-at ring) ∷ lends (toRead frame-at frame) ∷ lends (toCount reason-at reason) ∷ lends (toCount address-at address) ∷ [];
     width = w32;
-    promise = λ number left. (said number (left .1 .1 .1 .0) (left .1 .1 .1 .1 .0) ≡ saidOf (explanation (lent sheet bank) frame))
-        × (Bytes sheet × Bytes bank × Bytes frame);
+    promise = λ number left. (said number (left .1 .1 .1 .1 .0) (left .1 .1 .1 .1 .1 .0) ≡ saidOf (explanation (lentWith sheet bank ring) frame))
+        × (Bytes sheet × Bytes bank × Bytes ring × Bytes frame);
   }
