@@ -186,7 +186,7 @@ fn start(source: &[u8], sheet: &mut [u8], bank: &mut [u8]) -> Sizes {
 }
 
 fn start_made_up(line: &[u8], sheet: &mut [u8], bank: &mut [u8]) -> Sizes {
-    let mut source = [0u8; 856];
+    let mut source = [0u8; 862];
     let taken = fields::bytes_at(line, 2, &mut source);
     start(front(&source, taken.count), sheet, bank)
 }
@@ -234,7 +234,7 @@ fn run_all(text: &[u8], sheet: &mut [u8], bank: &mut [u8]) {
 fn main() {
     let mut text = io::large_buffer();
     let n = io::read_full(STDIN_FILENO, &mut text);
-    let mut sheet = [0u8; 856];
+    let mut sheet = [0u8; 862];
     let mut bank = [0u8; 514];
     run_all(front(&text, n), &mut sheet, &mut bank);
 }

@@ -6,6 +6,9 @@ use refusals::Refusal;
 // What every byte of an answer buffer holds before the call.
 const FILL: u8 = 0xAA;
 
+// None of the sheets here has a record area: the ring has no byte.
+const NO_RING: [u8; 0] = [];
+
 // What a call handed back: 01's number, and the length and the rate of a reply.
 struct Got {
     pub number: u16,
@@ -107,6 +110,7 @@ fn number_of(refusal: Refusal) -> u16 {
         Refusal::SmallBuffer => 5,
         Refusal::NotReadOnly => 6,
         Refusal::BadInput => 7,
+        Refusal::BadRing => 8,
     }
 }
 
@@ -192,7 +196,7 @@ pub(crate) fn run_whole(
 ) {
     let mut buffer = [FILL; 100];
     let before = check_value::value_of(bank);
-    let got = numbers_of(meter::answer(sheet, bank, frame, &mut buffer));
+    let got = numbers_of(meter::answer(sheet, bank, &NO_RING, frame, &mut buffer));
     let kept = before == check_value::value_of(bank);
     say(what);
     say(b": expected");
@@ -271,7 +275,7 @@ pub(crate) fn number(
 ) {
     let bank_before = check_value::value_of(bank);
     let buffer_before = check_value::value_of(buffer);
-    let got = numbers_of(meter::answer(sheet, bank, frame, buffer));
+    let got = numbers_of(meter::answer(sheet, bank, &NO_RING, frame, buffer));
     compare(what, expected, got.number);
     if expected == 0 {
         return;
