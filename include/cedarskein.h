@@ -138,7 +138,8 @@
  *   outlasts a cut, its two words twice, each copy followed by its check value as a bank's is:
  *
  *   - add a record to the ring at work; where that answers 0, write the record's bytes to their place in the lasting
- *     memory, when that is done the first copy of the two words, and when that is done the second;
+ *     memory (a ring that lies there itself has them already), when that is done the first copy of the two words, and when
+ *     that is done the second;
  *   - at start-up load the records, and put the first copy into the two words where its check value agrees and
  *     cedarskein_ring_check answers 0, else the second on the same terms; write the other copy anew where it differs;
  *   - where neither copy is good, the two words are 0, and the history is lost. Report it.
