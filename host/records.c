@@ -367,7 +367,6 @@ static void words_of_the_header(void)
     word_is(2, 11, 0x0100, n, "word 11 is 0100, with three words");
     word_is(2, 11, 0x0101, n, "word 11 is 0101, with three words");
     word_is(2, 11, 0xFFFF, n, "word 11 is FFFF, with three words");
-    word_is(2, 11, 2, n + RECORD_ROW, "word 11 is 2, with six words");
     word_is(2, 7, UX_N / 2, n, "word 7 leaves the three words out");
     word_is(2, 7, UX_N / 2, UX_N, "word 11 is 1, without three words");
     word_is(2, 7, UX_N / 2 + 2, n - 2, "word 11 is 1, with two words");
@@ -375,6 +374,22 @@ static void words_of_the_header(void)
     word_is(2, 7, UX_N / 2 + 3, n + 1, "a byte more");
     word_is(0, 6, 14, n, "03 is not allowed");
     word_is(2, 0, 2, n, "version 2");
+}
+
+/* One record area, or none: a second one is not taken, though word 7 counts it. */
+static void two_areas(void)
+{
+    start(HISTORY, 3, 22);
+    at_case("word 11 is 2, and word 7 counts six words");
+    lent_resize(&meter.sheet, UX_N + 2 * RECORD_ROW);
+    memcpy(meter.sheet.bytes + UX_N + RECORD_ROW, meter.sheet.bytes + UX_N, RECORD_ROW);
+    set_word(meter.sheet.bytes, 7, (UX_N + 2 * RECORD_ROW) / 2);
+    set_word(meter.sheet.bytes, 11, 2);
+    expect_number(CEDARSKEIN_SHEET_BREAKS_RULE, call_sheet_check(&meter), "sheet_check");
+    expect_number(CEDARSKEIN_SHEET_BREAKS_RULE, call_ring_check(&meter), "ring_check");
+    lend_null(&meter.ring);
+    expect_number(CEDARSKEIN_SHEET_BREAKS_RULE, call_ring_check(&meter), "ring_check without a ring");
+    expect_number(CEDARSKEIN_SHEET_BREAKS_RULE, call_answer(&meter), "answer without a ring");
 }
 
 /* Where 05 is not allowed word 10 is 0 and no clear address: 0 may be a record's. Where it is, and is there, it may not. */
@@ -599,6 +614,7 @@ static void rules(void)
     rows_by_size();
     rows_by_place();
     words_of_the_header();
+    two_areas();
     records_at_0();
     largest();
     counts();
