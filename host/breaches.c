@@ -301,12 +301,12 @@ static void spoil_ring(uint8_t *ring, size_t ring_n, uint32_t number)
     (void)read;
 }
 
-/* The refusals of a frame in another order, or one that is missed. */
-static uint32_t other_refusal(uint32_t number, size_t sheet_n, size_t ring_n, size_t out_n)
+/* The refusals of a frame in another order, or one that is missed. No sheet has a ring of two bytes. */
+static uint32_t other_refusal(uint32_t number, size_t ring_n, size_t out_n)
 {
     if (breach_is("ring_behind_out") && number == 8 && out_n < CEDARSKEIN_LEAST_OUT)
         return 5;
-    if (breach_is("ring_before_bank") && number == 4 && ring_n == 2 && sheet_n == 256)
+    if (breach_is("ring_before_bank") && number == 4 && ring_n == 2)
         return 8;
     if (breach_is("small_out_is_silence") && number == 5)
         return 1;
@@ -347,7 +347,7 @@ uint32_t __wrap_cedarskein_answer(const uint8_t *sheet, size_t sheet_n, uint8_t 
         spoil_refusal(bank, bank_n, out, out_n, length, rate);
     }
     spoil_ring((uint8_t *)(uintptr_t)ring, ring_n, number);
-    return other_refusal(number, sheet_n, ring_n, out_n);
+    return other_refusal(number, ring_n, out_n);
 }
 
 /* ---- The two calls on a ring ---- */
@@ -409,7 +409,7 @@ uint32_t __wrap_cedarskein_add_record(const uint8_t *sheet, size_t sheet_n, uint
         ring[ring_n - 1] ^= 1;
     if (breach_is("record_length_before_ring") && number == 8 && record_n != 2 * (size_t)records.words)
         return 7;
-    if (breach_is("no_record_area_is_8") && number == 2 && sheet_n == 256 && sheet[23] == 0)
+    if (breach_is("no_record_area_is_8") && number == 2 && __real_cedarskein_sheet_check(sheet, sheet_n) == 0)
         return 8;
     return number;
 }
