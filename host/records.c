@@ -410,6 +410,11 @@ static void records_at_0(void)
     expect_number(CEDARSKEIN_SHEET_BREAKS_RULE, call_sheet_check(&meter), "sheet_check");
     set_word(meter.sheet.bytes, 10, 2);
     expect_number(CEDARSKEIN_DONE, call_sheet_check(&meter), "sheet_check, the clear address behind them");
+    start(0x02FF, 3, 5);
+    at_case("UX15/25 without 05, with records where its clear address was");
+    set_word(meter.sheet.bytes, 6, 13);
+    set_word(meter.sheet.bytes, 10, 0);
+    expect_number(CEDARSKEIN_DONE, call_sheet_check(&meter), "sheet_check");
 }
 
 /* 8 areas of 8 words, 64 items: with a record area the longest sheet there is. */
