@@ -74,7 +74,7 @@ static size_t stack_taken(const struct side *side, struct row *row)
     return STACK - untouched;
 }
 
-/* Both sides on a fresh row: number, length and rate or reason and address, bank and answer buffer. */
+/* Both sides on a fresh row: number, length and rate or reason and address, bank, ring and answer buffer. */
 static int agrees(const char *name)
 {
     static struct row one, other;

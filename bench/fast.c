@@ -2,7 +2,8 @@
 #include "cedarskein.h"
 #include "fast_table.h"
 
-enum { SHEET_HEADER = 24, AREA_ROW = 8, ITEM_ROW = 12, LONGEST_FRAME = 100, MOST_READ = 47, MOST_WORDS = 256 };
+enum { SHEET_HEADER = 24, AREA_ROW = 8, ITEM_ROW = 12, LONGEST_FRAME = 100, MOST_READ = 47, MOST_WORDS = 256,
+       MOST_RECORDS = 6600 };
 
 static inline uint32_t word(const uint8_t *at)
 {
@@ -62,10 +63,10 @@ static inline int header_sound(const uint8_t *sheet, size_t n)
 {
     if (n < SHEET_HEADER)
         return 0;
-    uint32_t areas = word(sheet + 2), items = word(sheet + 6), length = word(sheet + 14);
+    uint32_t areas = word(sheet + 2), items = word(sheet + 6), length = word(sheet + 14), record_areas = word(sheet + 22);
     return word(sheet) == 1 && areas - 1 < 8 && word(sheet + 4) == 12 && items - 2 < 63
         && word(sheet + 8) == 12 + 4 * areas && word(sheet + 10) - 2 < 255 && word(sheet + 12) < 16
-        && length == 12 + 4 * areas + 6 * items && word(sheet + 22) == 0 && n == 2 * (size_t)length;
+        && record_areas < 2 && length == 12 + 4 * areas + 6 * items + 3 * record_areas && n == 2 * (size_t)length;
 }
 
 static inline const uint8_t *area_rows_end(const uint8_t *sheet)
@@ -73,18 +74,50 @@ static inline const uint8_t *area_rows_end(const uint8_t *sheet)
     return sheet + SHEET_HEADER + AREA_ROW * word(sheet + 2);
 }
 
+/* The record area. A sheet without one has 0 records behind the last address, so that no address is a record's and no
+ * area reaches them. */
+struct records {
+    uint32_t first, count, words;
+};
+
+static inline struct records records_of(const uint8_t *sheet)
+{
+    struct records records = { 0x10000, 0, 0 };
+    const uint8_t *row = area_rows_end(sheet) + ITEM_ROW * word(sheet + 6);
+    if (sheet[23] == 1) {
+        records.first = word(row);
+        records.count = word(row + 2);
+        records.words = word(row + 4);
+    }
+    return records;
+}
+
+/* Below the first record the difference wraps and is large. */
+static inline int is_record(const struct records *records, uint32_t address)
+{
+    return address - records->first < records->count;
+}
+
+static inline int records_sound(const struct records *records)
+{
+    return records->first == 0x10000
+        || (records->count - 1 < MOST_RECORDS && records->words - 1 < MOST_READ && records->first + records->count <= 0x10000);
+}
+
 static inline int areas_sound(const uint8_t *sheet)
 {
     const uint8_t *end = area_rows_end(sheet);
+    struct records records = records_of(sheet);
     uint32_t clear = word(sheet + 20), clears = sheet[13] & 2, lowest = 0, places = 0;
-    if (!clears && clear != 0)
+    if ((clears ? is_record(&records, clear) : clear != 0) || !records_sound(&records))
         return 0;
     for (const uint8_t *row = sheet + SHEET_HEADER; row < end; row += AREA_ROW) {
         uint32_t first = word(row), last = word(row + 2);
         if (first < lowest || last < first || word(row + 4) != places || (word(row + 6) | 2) != 3)
             return 0;
-        /* Below first the difference wraps and is large. */
         if (clears && clear - first <= last - first)
+            return 0;
+        if (last >= records.first && first < records.first + records.count)
             return 0;
         lowest = last + 1;
         places += lowest - first;
@@ -206,6 +239,64 @@ uint32_t fast_bank_check(const uint8_t *sheet, size_t sheet_n, const uint8_t *ba
     return number;
 }
 
+/* ---- The ring ---- */
+
+/* The two words in front of the records: the place of the newest one, and how many are stored. */
+enum { NEWEST = 0, STORED = 2, RECORDS = 4 };
+
+static inline int ring_fits(const struct records *records, const uint8_t *ring, size_t ring_n)
+{
+    if (records->count == 0)
+        return ring_n == 0;
+    if (ring_n != RECORDS + 2 * (size_t)records->count * records->words)
+        return 0;
+    uint32_t newest = word(ring + NEWEST), stored = word(ring + STORED);
+    return newest < records->count && stored <= records->count && (stored != 0 || newest == 0);
+}
+
+uint32_t fast_ring_check(const uint8_t *sheet, size_t sheet_n, const uint8_t *ring, size_t ring_n)
+{
+    uint32_t number = fast_sheet_check(sheet, sheet_n);
+    if (number != CEDARSKEIN_DONE)
+        return number;
+    struct records records = records_of(sheet);
+    return ring_fits(&records, ring, ring_n) ? CEDARSKEIN_DONE : CEDARSKEIN_BAD_RING;
+}
+
+static inline size_t record_at(const struct records *records, uint32_t place)
+{
+    return RECORDS + 2 * (size_t)place * records->words;
+}
+
+/* Behind the newest record, round from the last place to 0; the first one at place 0. */
+static inline void store_record(const struct records *records, uint8_t *ring, const uint8_t *record)
+{
+    uint32_t stored = word(ring + STORED), place = stored == 0 ? 0 : word(ring + NEWEST) + 1;
+    place = place == records->count ? 0 : place;
+    uint8_t *at = ring + record_at(records, place);
+    for (uint32_t k = 0; k < 2 * records->words; k++)
+        at[k] = record[k];
+    put_word(ring + NEWEST, place);
+    put_word(ring + STORED, stored + (stored < records->count));
+}
+
+uint32_t fast_add_record(const uint8_t *sheet, size_t sheet_n, uint8_t *ring, size_t ring_n, const uint8_t *record,
+                         size_t record_n)
+{
+    uint32_t number = fast_sheet_check(sheet, sheet_n);
+    if (number != CEDARSKEIN_DONE)
+        return number;
+    struct records records = records_of(sheet);
+    if (records.count == 0)
+        return CEDARSKEIN_SHEET_BREAKS_RULE;
+    if (!ring_fits(&records, ring, ring_n))
+        return CEDARSKEIN_BAD_RING;
+    if (record_n != 2 * (size_t)records.words)
+        return CEDARSKEIN_BAD_INPUT;
+    store_record(&records, ring, record);
+    return CEDARSKEIN_DONE;
+}
+
 /* ---- The calls that change a bank ---- */
 
 static inline void store_lows(const uint8_t *sheet, uint8_t *bank)
@@ -291,9 +382,10 @@ uint32_t fast_set_mark(const uint8_t *sheet, size_t sheet_n, uint8_t *bank, size
 
 /* What a frame is answered with: all that the call is lent, once it is known to be sound. */
 struct call {
-    const uint8_t *sheet, *frame;
+    const uint8_t *sheet, *ring, *frame;
     uint8_t *bank, *out;
     uint32_t frame_n;
+    struct records records;
 };
 
 static inline uint32_t sealed(uint8_t *out, uint32_t n, uint32_t state)
@@ -327,7 +419,7 @@ static inline uint32_t echo(const struct call *call)
     return sealed(call->out, 6, copied(call->out, call->frame, 6, 0xFFFF));
 }
 
-static inline uint32_t read_reply(const struct call *call, uint32_t place, uint32_t count)
+static inline uint32_t read_reply(const struct call *call, const uint8_t *words, uint32_t count)
 {
     uint8_t *out = call->out;
     uint32_t bytes = 2 * count;
@@ -335,20 +427,35 @@ static inline uint32_t read_reply(const struct call *call, uint32_t place, uint3
     out[1] = 3;
     out[2] = (uint8_t)bytes;
     uint32_t state = taken(taken(taken(0xFFFF, out[0]), 3), out[2]);
-    return sealed(out, 3 + bytes, copied(out + 3, call->bank + 2 * place, bytes, state));
+    return sealed(out, 3 + bytes, copied(out + 3, words, bytes, state));
+}
+
+/* A record so many behind the newest one. */
+static inline uint32_t answer_record(const struct call *call, uint32_t behind, uint32_t count)
+{
+    const struct records *records = &call->records;
+    if (count != 1)
+        return error_reply(call, 3);
+    if (behind >= word(call->ring + STORED))
+        return error_reply(call, 2);
+    uint32_t newest = word(call->ring + NEWEST);
+    uint32_t place = newest - behind + (newest < behind ? records->count : 0);
+    return read_reply(call, call->ring + record_at(records, place), records->words);
 }
 
 static inline uint32_t answer_read(const struct call *call)
 {
     if (call->frame_n != 8)
         return 0;
-    uint32_t count = word(call->frame + 4);
+    uint32_t first = word(call->frame + 2), count = word(call->frame + 4);
+    if (is_record(&call->records, first))
+        return answer_record(call, first - call->records.first, count);
     if (count == 0)
         return error_reply(call, 3);
     if (count > MOST_READ)
         return error_reply(call, 2);
-    uint32_t place = place_of_run(call->sheet, word(call->frame + 2), count, ANY_ACCESS);
-    return place == NOWHERE ? error_reply(call, 2) : read_reply(call, place, count);
+    uint32_t place = place_of_run(call->sheet, first, count, ANY_ACCESS);
+    return place == NOWHERE ? error_reply(call, 2) : read_reply(call, call->bank + 2 * place, count);
 }
 
 static inline uint32_t answer_clear(const struct call *call)
@@ -458,12 +565,25 @@ static inline int passes(const uint8_t *frame, size_t n)
     return check_of(frame, n - 2) == ((uint32_t)frame[n - 1] << 8 | frame[n - 2]);
 }
 
-uint32_t fast_answer(const uint8_t *sheet, size_t sheet_n, uint8_t *bank, size_t bank_n, const uint8_t *frame,
-                     size_t frame_n, uint8_t *out, size_t out_n, uint32_t *length, uint32_t *rate)
+/* The refusals that the two calls on a frame share: the sheet's, the bank's and the ring's. */
+static inline uint32_t lent_judged(const uint8_t *sheet, size_t sheet_n, const uint8_t *bank, size_t bank_n,
+                                   const uint8_t *ring, size_t ring_n, struct records *records)
 {
+    uint32_t number = fast_bank_check(sheet, sheet_n, bank, bank_n);
+    if (number != CEDARSKEIN_DONE)
+        return number;
+    *records = records_of(sheet);
+    return ring_fits(records, ring, ring_n) ? CEDARSKEIN_DONE : CEDARSKEIN_BAD_RING;
+}
+
+uint32_t fast_answer(const uint8_t *sheet, size_t sheet_n, uint8_t *bank, size_t bank_n, const uint8_t *ring,
+                     size_t ring_n, const uint8_t *frame, size_t frame_n, uint8_t *out, size_t out_n, uint32_t *length,
+                     uint32_t *rate)
+{
+    struct call call = { sheet, ring, frame, bank, out, (uint32_t)frame_n, { 0, 0, 0 } };
     *length = 0;
     *rate = 0;
-    uint32_t number = fast_bank_check(sheet, sheet_n, bank, bank_n);
+    uint32_t number = lent_judged(sheet, sheet_n, bank, bank_n, ring, ring_n, &call.records);
     if (number != CEDARSKEIN_DONE)
         return number;
     if (out_n < LONGEST_FRAME)
@@ -471,7 +591,6 @@ uint32_t fast_answer(const uint8_t *sheet, size_t sheet_n, uint8_t *bank, size_t
     if (!passes(frame, frame_n) || frame[0] != word(bank + 2 * word(sheet + 16)))
         return CEDARSKEIN_SILENCE;
     uint32_t rate_before = word(bank + 2 * word(sheet + 18));
-    struct call call = { sheet, frame, bank, out, (uint32_t)frame_n };
     *length = reply_length(&call);
     if (*length == 0)
         return CEDARSKEIN_SILENCE;
@@ -483,8 +602,9 @@ uint32_t fast_answer(const uint8_t *sheet, size_t sheet_n, uint8_t *bank, size_t
 
 /* What a frame is judged with, and where the address goes that is told with the reason. */
 struct asked {
-    const uint8_t *sheet, *bank, *frame;
+    const uint8_t *sheet, *bank, *ring, *frame;
     uint32_t frame_n, *address;
+    struct records records;
 };
 
 /* The first address of a run that lies in no area of the access, or the one behind the run. Where all lie in areas, the
@@ -508,11 +628,23 @@ static inline uint32_t first_closed(const uint8_t *sheet, uint32_t first, uint32
     return from;
 }
 
+static inline uint32_t why_record(const struct asked *asked, uint32_t first, uint32_t count)
+{
+    if (count != 1)
+        return CEDARSKEIN_COUNT;
+    if (first - asked->records.first < word(asked->ring + STORED))
+        return CEDARSKEIN_NO_REASON;
+    *asked->address = first;
+    return CEDARSKEIN_ADDRESS;
+}
+
 static inline uint32_t why_read(const struct asked *asked)
 {
     if (asked->frame_n != 8)
         return CEDARSKEIN_BODY_LENGTH;
     uint32_t first = word(asked->frame + 2), count = word(asked->frame + 4), place;
+    if (is_record(&asked->records, first))
+        return why_record(asked, first, count);
     if (count - 1 >= MOST_READ)
         return CEDARSKEIN_COUNT;
     uint32_t closed = first_closed(asked->sheet, first, count, ANY_ACCESS, &place);
@@ -598,15 +730,15 @@ static inline uint32_t why_function(const struct asked *asked)
     }
 }
 
-uint32_t fast_why(const uint8_t *sheet, size_t sheet_n, const uint8_t *bank, size_t bank_n, const uint8_t *frame,
-                  size_t frame_n, uint32_t *reason, uint32_t *address)
+uint32_t fast_why(const uint8_t *sheet, size_t sheet_n, const uint8_t *bank, size_t bank_n, const uint8_t *ring,
+                  size_t ring_n, const uint8_t *frame, size_t frame_n, uint32_t *reason, uint32_t *address)
 {
+    struct asked asked = { sheet, bank, ring, frame, (uint32_t)frame_n, address, { 0, 0, 0 } };
     *reason = CEDARSKEIN_NO_REASON;
     *address = 0;
-    uint32_t number = fast_bank_check(sheet, sheet_n, bank, bank_n);
+    uint32_t number = lent_judged(sheet, sheet_n, bank, bank_n, ring, ring_n, &asked.records);
     if (number != CEDARSKEIN_DONE)
         return number;
-    struct asked asked = { sheet, bank, frame, (uint32_t)frame_n, address };
     if (frame_n < 4)
         *reason = CEDARSKEIN_TOO_SHORT;
     else if (frame_n > LONGEST_FRAME)

@@ -1,4 +1,4 @@
-/* The door's ten functions once more, written by hand in C for speed: the yardstick of the measurements in bench.c.
+/* The door's twelve functions once more, written by hand in C for speed: the yardstick of the measurements in bench.c.
  * They keep every rule that include/cedarskein.h states, make the same checks on every call, and owe the same. */
 #ifndef FAST_H
 #define FAST_H
@@ -15,9 +15,13 @@ uint32_t fast_bank_fresh(const uint8_t *sheet, size_t sheet_n, uint8_t *bank, si
 uint32_t fast_post(const uint8_t *sheet, size_t sheet_n, uint8_t *bank, size_t bank_n, uint32_t address,
                    const uint8_t *words, size_t words_n);
 uint32_t fast_set_mark(const uint8_t *sheet, size_t sheet_n, uint8_t *bank, size_t bank_n, uint32_t mark);
-uint32_t fast_answer(const uint8_t *sheet, size_t sheet_n, uint8_t *bank, size_t bank_n, const uint8_t *frame,
-                     size_t frame_n, uint8_t *out, size_t out_n, uint32_t *length, uint32_t *rate);
-uint32_t fast_why(const uint8_t *sheet, size_t sheet_n, const uint8_t *bank, size_t bank_n, const uint8_t *frame,
-                  size_t frame_n, uint32_t *reason, uint32_t *address);
+uint32_t fast_answer(const uint8_t *sheet, size_t sheet_n, uint8_t *bank, size_t bank_n, const uint8_t *ring,
+                     size_t ring_n, const uint8_t *frame, size_t frame_n, uint8_t *out, size_t out_n, uint32_t *length,
+                     uint32_t *rate);
+uint32_t fast_why(const uint8_t *sheet, size_t sheet_n, const uint8_t *bank, size_t bank_n, const uint8_t *ring,
+                  size_t ring_n, const uint8_t *frame, size_t frame_n, uint32_t *reason, uint32_t *address);
+uint32_t fast_ring_check(const uint8_t *sheet, size_t sheet_n, const uint8_t *ring, size_t ring_n);
+uint32_t fast_add_record(const uint8_t *sheet, size_t sheet_n, uint8_t *ring, size_t ring_n, const uint8_t *record,
+                         size_t record_n);
 
 #endif

@@ -15,25 +15,40 @@ static uint32_t empty_check(const uint8_t *sheet, size_t n)
     return 0;
 }
 
-static uint32_t empty_answer(const uint8_t *sheet, size_t sheet_n, uint8_t *bank, size_t bank_n, const uint8_t *frame,
-                             size_t frame_n, uint8_t *out, size_t out_n, uint32_t *length, uint32_t *rate)
+static uint32_t empty_answer(const uint8_t *sheet, size_t sheet_n, uint8_t *bank, size_t bank_n, const uint8_t *ring,
+                             size_t ring_n, const uint8_t *frame, size_t frame_n, uint8_t *out, size_t out_n,
+                             uint32_t *length, uint32_t *rate)
 {
-    (void)sheet, (void)sheet_n, (void)bank, (void)bank_n, (void)frame, (void)frame_n, (void)out, (void)out_n;
-    (void)length, (void)rate;
+    (void)sheet, (void)sheet_n, (void)bank, (void)bank_n, (void)ring, (void)ring_n, (void)frame, (void)frame_n;
+    (void)out, (void)out_n, (void)length, (void)rate;
     return 0;
 }
 
-static uint32_t empty_why(const uint8_t *sheet, size_t sheet_n, const uint8_t *bank, size_t bank_n, const uint8_t *frame,
-                          size_t frame_n, uint32_t *reason, uint32_t *address)
+static uint32_t empty_why(const uint8_t *sheet, size_t sheet_n, const uint8_t *bank, size_t bank_n, const uint8_t *ring,
+                          size_t ring_n, const uint8_t *frame, size_t frame_n, uint32_t *reason, uint32_t *address)
 {
-    (void)sheet, (void)sheet_n, (void)bank, (void)bank_n, (void)frame, (void)frame_n, (void)reason, (void)address;
+    (void)sheet, (void)sheet_n, (void)bank, (void)bank_n, (void)ring, (void)ring_n, (void)frame, (void)frame_n;
+    (void)reason, (void)address;
+    return 0;
+}
+
+static uint32_t empty_ring_check(const uint8_t *sheet, size_t sheet_n, const uint8_t *ring, size_t ring_n)
+{
+    (void)sheet, (void)sheet_n, (void)ring, (void)ring_n;
+    return 0;
+}
+
+static uint32_t empty_add(const uint8_t *sheet, size_t sheet_n, uint8_t *ring, size_t ring_n, const uint8_t *record,
+                          size_t record_n)
+{
+    (void)sheet, (void)sheet_n, (void)ring, (void)ring_n, (void)record, (void)record_n;
     return 0;
 }
 
 static const struct side sides[] = {
-    { "archive", cedarskein_sheet_check, cedarskein_answer, cedarskein_why },
-    { "fast", fast_sheet_check, fast_answer, fast_why },
-    { "empty", empty_check, empty_answer, empty_why },
+    { "archive", cedarskein_sheet_check, cedarskein_answer, cedarskein_why, cedarskein_ring_check, cedarskein_add_record },
+    { "fast", fast_sheet_check, fast_answer, fast_why, fast_ring_check, fast_add_record },
+    { "empty", empty_check, empty_answer, empty_why, empty_ring_check, empty_add },
 };
 
 const struct side *side_named(const char *name)
@@ -44,16 +59,24 @@ const struct side *side_named(const char *name)
     return NULL;
 }
 
+static uint32_t called(const struct side *side, struct row *row)
+{
+    switch (row->called) {
+    case ANSWER:
+        return side->answer(row->sheet, row->sheet_n, row->bank, row->bank_n, row->ring, row->ring_n, row->frame, row->frame_n,
+                            row->out, OUT_ROOM, &row->length, &row->rate);
+    case WHY:
+        return side->why(row->sheet, row->sheet_n, row->bank, row->bank_n, row->ring, row->ring_n, row->frame, row->frame_n,
+                         &row->reason, &row->address);
+    case RING_CHECK: return side->ring_check(row->sheet, row->sheet_n, row->ring, row->ring_n);
+    case ADD_RECORD: return side->add_record(row->sheet, row->sheet_n, row->ring, row->ring_n, row->record, row->record_n);
+    default: return side->sheet_check(row->sheet, row->sheet_n);
+    }
+}
+
 void row_call(const struct side *side, struct row *row)
 {
-    if (row->frame_n == 0)
-        row->number = side->sheet_check(row->sheet, row->sheet_n);
-    else if (row->asks)
-        row->number = side->why(row->sheet, row->sheet_n, row->bank, row->bank_n, row->frame, row->frame_n, &row->reason,
-                                &row->address);
-    else
-        row->number = side->answer(row->sheet, row->sheet_n, row->bank, row->bank_n, row->frame, row->frame_n, row->out,
-                                   OUT_ROOM, &row->length, &row->rate);
+    row->number = called(side, row);
 }
 
 /* ---- Sheets ---- */
@@ -177,6 +200,28 @@ static void use_ux(struct row *row)
     memcpy(row->sheet, cedarskein_ux_sheet, row->sheet_n);
 }
 
+/* The UX sheet with records at 0400, and its ring, full: the newest record lies in the middle. */
+enum { HISTORY = 0x0400 };
+
+static void use_records(struct row *row, uint32_t count, uint32_t words)
+{
+    use_ux(row);
+    put(row->sheet, row->sheet_n / 2, HISTORY);
+    put(row->sheet, row->sheet_n / 2 + 1, count);
+    put(row->sheet, row->sheet_n / 2 + 2, words);
+    row->sheet_n += 6;
+    put(row->sheet, 7, (uint32_t)row->sheet_n / 2);
+    put(row->sheet, 11, 1);
+    row->ring_n = 4 + 2 * (size_t)count * words;
+    for (size_t k = 4; k < row->ring_n; k++)
+        row->ring[k] = (uint8_t)(k ^ k >> 8);
+    put(row->ring, 0, count / 2);
+    put(row->ring, 1, count);
+    row->record_n = 2 * (size_t)words;
+    for (size_t k = 0; k < row->record_n; k++)
+        row->record[k] = (uint8_t)~k;
+}
+
 /* ---- Frames ---- */
 
 static void seal(struct row *row, size_t n)
@@ -185,6 +230,7 @@ static void seal(struct row *row, size_t n)
     row->frame[n] = (uint8_t)check;
     row->frame[n + 1] = (uint8_t)(check >> 8);
     row->frame_n = n + 2;
+    row->called = ANSWER;
 }
 
 static void short_frame(struct row *row, uint8_t station, uint8_t function, uint32_t start, uint32_t second)
@@ -229,7 +275,10 @@ const char *const row_names[] = {
     "areas_1_read", "areas_2_read", "areas_4_read", "areas_8_read",
     "ux_bad_check_50", "ux_bad_check_100",
     "why_ux_bad_check_8", "why_ux_other_station", "why_ux_read_2", "why_ux_read_24", "why_ux_write_2",
-    "why_largest_read_47", "why_largest_write_45", "why_largest_last_bad", NULL
+    "why_largest_read_47", "why_largest_write_45", "why_largest_last_bad",
+    "records_1_check", "records_6600_check", "records_1_read", "records_6600_read", "records_1_add", "records_6600_add",
+    "why_records_1_read", "why_records_6600_read", "record_words_1_read", "record_words_22_read", "record_words_47_read",
+    "record_words_1_add", "record_words_22_add", "record_words_47_add", NULL
 };
 
 static void make_ux_frame(struct row *row, const char *what)
@@ -277,19 +326,47 @@ static int make_growth(struct row *row, const char *name)
     return 1;
 }
 
-int row_make(struct row *row, const char *name)
+/* A ring of so many records of 22 words, or of 100 records of so many words: its check, a read of its oldest record, or
+ * an addition. */
+static int make_records(struct row *row, const char *name)
 {
-    memset(row, 0, sizeof *row);
-    row->asks = strncmp(name, "why_", 4) == 0;
-    name += row->asks ? 4 : 0;
+    unsigned size, count = 100, words = 22;
+    char what[8];
+    if (sscanf(name, "records_%u_%7s", &size, what) == 2)
+        count = size;
+    else if (sscanf(name, "record_words_%u_%7s", &size, what) == 2)
+        words = size;
+    else
+        return 0;
+    use_records(row, count, words);
+    if (strcmp(what, "read") == 0)
+        short_frame(row, 1, 3, HISTORY + count - 1, 1);
+    else
+        row->called = strcmp(what, "add") == 0 ? ADD_RECORD : RING_CHECK;
+    return 1;
+}
+
+static int make_named(struct row *row, const char *name)
+{
     if (strncmp(name, "ux_", 3) == 0) {
         use_ux(row);
         make_ux_frame(row, name + 3);
     } else if (strncmp(name, "largest_", 8) == 0) {
         use_sheet(row, NULL, 0);
         make_largest_frame(row, name + 8);
-    } else if (!make_growth(row, name)) {
-        return 0;
+    } else {
+        return make_records(row, name) || make_growth(row, name);
     }
+    return 1;
+}
+
+int row_make(struct row *row, const char *name)
+{
+    int asks = strncmp(name, "why_", 4) == 0;
+    memset(row, 0, sizeof *row);
+    if (!make_named(row, name + (asks ? 4 : 0)))
+        return 0;
+    if (asks)
+        row->called = WHY;
     return fast_bank_fresh(row->sheet, row->sheet_n, row->bank, row->bank_n) == CEDARSKEIN_DONE;
 }

@@ -1,25 +1,30 @@
-/* The calls that are measured: a sheet, a bank of it, and a frame. */
+/* The calls that are measured: a sheet, a bank and a ring of it, and a frame or a record. */
 #ifndef ROWS_H
 #define ROWS_H
 
 #include <stddef.h>
 #include <stdint.h>
 
-enum { SHEET_ROOM = 1024, BANK_ROOM = 1024, FRAME_ROOM = 128, OUT_ROOM = 128 };
+enum { SHEET_ROOM = 1024, BANK_ROOM = 1024, FRAME_ROOM = 128, OUT_ROOM = 128, RECORD_ROOM = 94, RING_ROOM = 4 + 2 * 6600 * 22 };
 
 /* Who is called. */
 struct side {
     const char *name;
     uint32_t (*sheet_check)(const uint8_t *, size_t);
-    uint32_t (*answer)(const uint8_t *, size_t, uint8_t *, size_t, const uint8_t *, size_t, uint8_t *, size_t, uint32_t *,
-                       uint32_t *);
-    uint32_t (*why)(const uint8_t *, size_t, const uint8_t *, size_t, const uint8_t *, size_t, uint32_t *, uint32_t *);
+    uint32_t (*answer)(const uint8_t *, size_t, uint8_t *, size_t, const uint8_t *, size_t, const uint8_t *, size_t, uint8_t *,
+                       size_t, uint32_t *, uint32_t *);
+    uint32_t (*why)(const uint8_t *, size_t, const uint8_t *, size_t, const uint8_t *, size_t, const uint8_t *, size_t, uint32_t *,
+                    uint32_t *);
+    uint32_t (*ring_check)(const uint8_t *, size_t, const uint8_t *, size_t);
+    uint32_t (*add_record)(const uint8_t *, size_t, uint8_t *, size_t, const uint8_t *, size_t);
 };
 
+enum called { SHEET_CHECK, ANSWER, WHY, RING_CHECK, ADD_RECORD };
+
 struct row {
-    uint8_t sheet[SHEET_ROOM], bank[BANK_ROOM], frame[FRAME_ROOM], out[OUT_ROOM];
-    size_t sheet_n, bank_n, frame_n;    /* a row without a frame is the sheet check alone */
-    int asks;                           /* why is called, not the answer */
+    uint8_t sheet[SHEET_ROOM], bank[BANK_ROOM], ring[RING_ROOM], frame[FRAME_ROOM], out[OUT_ROOM], record[RECORD_ROOM];
+    size_t sheet_n, bank_n, ring_n, frame_n, record_n;
+    enum called called;
     uint32_t number, length, rate, reason, address;
 };
 
@@ -27,7 +32,7 @@ extern const char *const row_names[];   /* ends with NULL */
 
 const struct side *side_named(const char *name);
 
-/* Makes a row ready by its name: its bank fresh, its answer buffer all zero. 0 if there is none of this name. */
+/* Makes a row ready by its name: its bank fresh, its ring full, its answer buffer all zero. 0 if there is none of this name. */
 int row_make(struct row *row, const char *name);
 
 void row_call(const struct side *side, struct row *row);

@@ -24,14 +24,23 @@ WHY = [("why_ux_bad_check_8", "why, UX, a bad check, 8 bytes"), ("why_ux_other_s
        ("why_ux_write_2", "why, UX, 10 of 2 words at 010F"), ("why_largest_read_47", "why, largest sheet, 03 of 47 words"),
        ("why_largest_write_45", "why, largest sheet, 10 of 45 words"),
        ("why_largest_last_bad", "why, largest sheet, 10 of 45 words, the last item bad")]
-CALLS = UX + LARGEST + WHY
+RECORDS = [("records_1_read", "03 of a record of 22 words, ring of 1 record"),
+           ("records_6600_read", "03 of a record of 22 words, ring of 6,600 records"),
+           ("records_1_add", "a record of 22 words added, ring of 1 record"),
+           ("records_6600_add", "a record of 22 words added, ring of 6,600 records"),
+           ("records_1_check", "the ring check, ring of 1 record"), ("records_6600_check", "the ring check, ring of 6,600 records"),
+           ("why_records_1_read", "why, 03 of a record of 22 words, ring of 1 record"),
+           ("why_records_6600_read", "why, 03 of a record of 22 words, ring of 6,600 records")]
+CALLS = UX + LARGEST + WHY + RECORDS
 GROWTH = [("items", "sheet check, 1 area, items: {}", "items_{}_check", (2, 8, 32, 64)),
           ("items", "03 of 2 words, 1 area, items: {}", "items_{}_read", (2, 8, 32, 64)),
           ("areas", "sheet check, 8 items, areas: {}", "areas_{}_check", (1, 2, 4, 8)),
           ("areas", "03 of 8 words, 8 items, areas: {}", "areas_{}_read", (1, 2, 4, 8)),
-          ("bytes", "UX, a bad check, {} bytes", "ux_bad_check_{}", (8, 50, 100))]
+          ("bytes", "UX, a bad check, {} bytes", "ux_bad_check_{}", (8, 50, 100)),
+          ("words", "03 of a record, words: {}", "record_words_{}_read", (1, 22, 47)),
+          ("words", "a record added, words: {}", "record_words_{}_add", (1, 22, 47))]
 PROFILED = ["ux_read_2", "ux_write", "ux_sheet_check", "largest_write_45", "largest_sheet_check", "why_ux_read_2",
-            "why_largest_write_45"]
+            "why_largest_write_45", "records_6600_read", "records_6600_add"]
 SIDES = ["archive", "fast"]
 RUN = shlex.split(os.environ.get("RUN", ""))
 

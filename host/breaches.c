@@ -12,14 +12,23 @@ uint32_t __real_cedarskein_bank_fresh(const uint8_t *sheet, size_t sheet_n, uint
 uint32_t __real_cedarskein_post(const uint8_t *sheet, size_t sheet_n, uint8_t *bank, size_t bank_n, uint32_t address,
                                 const uint8_t *words, size_t words_n);
 uint32_t __real_cedarskein_set_mark(const uint8_t *sheet, size_t sheet_n, uint8_t *bank, size_t bank_n, uint32_t mark);
-uint32_t __real_cedarskein_answer(const uint8_t *sheet, size_t sheet_n, uint8_t *bank, size_t bank_n, const uint8_t *frame,
-                                  size_t frame_n, uint8_t *out, size_t out_n, uint32_t *length, uint32_t *rate);
-uint32_t __real_cedarskein_why(const uint8_t *sheet, size_t sheet_n, const uint8_t *bank, size_t bank_n, const uint8_t *frame,
-                               size_t frame_n, uint32_t *reason, uint32_t *address);
+uint32_t __real_cedarskein_answer(const uint8_t *sheet, size_t sheet_n, uint8_t *bank, size_t bank_n, const uint8_t *ring,
+                                  size_t ring_n, const uint8_t *frame, size_t frame_n, uint8_t *out, size_t out_n, uint32_t *length,
+                                  uint32_t *rate);
+uint32_t __real_cedarskein_why(const uint8_t *sheet, size_t sheet_n, const uint8_t *bank, size_t bank_n, const uint8_t *ring,
+                               size_t ring_n, const uint8_t *frame, size_t frame_n, uint32_t *reason, uint32_t *address);
+uint32_t __real_cedarskein_ring_check(const uint8_t *sheet, size_t sheet_n, const uint8_t *ring, size_t ring_n);
+uint32_t __real_cedarskein_add_record(const uint8_t *sheet, size_t sheet_n, uint8_t *ring, size_t ring_n, const uint8_t *record,
+                                      size_t record_n);
 
+/* The environment is asked once: a test makes some hundred thousand calls, and each asks for every breach of its door. */
 static int breach_is(const char *name)
 {
-    const char *breach = getenv("BREACH");
+    static const char *breach;
+    static int asked;
+    if (!asked)
+        breach = getenv("BREACH");
+    asked = 1;
     return breach != NULL && strcmp(breach, name) == 0;
 }
 
@@ -169,18 +178,146 @@ static const uint8_t *as_own(const uint8_t *sheet, size_t sheet_n, const uint8_t
 }
 
 /* A frame for station 0 stores what it would at the bank's own station. */
-static void store_broadcast(const uint8_t *sheet, size_t sheet_n, uint8_t *bank, size_t bank_n, const uint8_t *frame, size_t frame_n)
+static void store_broadcast(const uint8_t *sheet, size_t sheet_n, uint8_t *bank, size_t bank_n, const uint8_t *ring, size_t ring_n,
+                            const uint8_t *frame, size_t frame_n)
 {
     const uint8_t *own = as_own(sheet, sheet_n, bank, bank_n, frame, frame_n, 0);
     uint8_t out[CEDARSKEIN_LEAST_OUT];
     uint32_t length, rate;
     if (own != frame)
-        __real_cedarskein_answer(sheet, sheet_n, bank, bank_n, own, frame_n, out, sizeof out, &length, &rate);
+        __real_cedarskein_answer(sheet, sheet_n, bank, bank_n, ring, ring_n, own, frame_n, out, sizeof out, &length, &rate);
 }
 
-uint32_t __wrap_cedarskein_answer(const uint8_t *sheet, size_t sheet_n, uint8_t *bank, size_t bank_n, const uint8_t *frame,
-                                  size_t frame_n, uint8_t *out, size_t out_n, uint32_t *length, uint32_t *rate)
+/* ---- The ring, as the two calls on a frame are lent it ---- */
+
+/* A record area as the sheet's row has it, and whether a frame reads a record: one that starts there, with a right check. */
+struct records {
+    uint32_t first, count, words;
+};
+
+static struct records records_of(const uint8_t *sheet, size_t sheet_n)
 {
+    struct records records = { 0, 0, 0 };
+    size_t row;
+    if (sheet_n < 24 || sheet[23] != 1 || __real_cedarskein_sheet_check(sheet, sheet_n) != 0)
+        return records;
+    row = 2 * (12 + 4 * word_of(sheet + 2) + 6 * word_of(sheet + 6));
+    records.first = word_of(sheet + row);
+    records.count = word_of(sheet + row + 2);
+    records.words = word_of(sheet + row + 4);
+    return records;
+}
+
+static int reads_record(const struct records *records, const uint8_t *frame, size_t frame_n)
+{
+    return frame_n == 8 && frame[1] == 0x03 && __real_cedarskein_check_value(frame, frame_n) == 0
+        && word_of(frame + 2) - records->first < records->count;
+}
+
+/* The ring with another number stored, or the newest record one place on: as a door would see it that reckons otherwise. */
+static const uint8_t *other_ring(const uint8_t *ring, size_t ring_n, uint32_t newest, uint32_t stored)
+{
+    static uint8_t other[2 * (2 + 6600 * 47)];
+    memcpy(other, ring, ring_n);
+    other[0] = (uint8_t)(newest >> 8);
+    other[1] = (uint8_t)newest;
+    other[2] = (uint8_t)(stored >> 8);
+    other[3] = (uint8_t)stored;
+    return other;
+}
+
+/* The ring that a broken door answers from, where the ring is sound. */
+static const uint8_t *ring_seen(const uint8_t *sheet, size_t sheet_n, const uint8_t *ring, size_t ring_n, const struct records *records)
+{
+    if (records->count == 0 || __real_cedarskein_ring_check(sheet, sheet_n, ring, ring_n) != 0)
+        return ring;
+    if (breach_is("record_off_by_one") && word_of(ring + 2) == records->count)
+        return other_ring(ring, ring_n, (word_of(ring) + 1) % records->count, word_of(ring + 2));
+    if (breach_is("record_round_is_missed") && word_of(ring) + 1 < word_of(ring + 2))
+        return other_ring(ring, ring_n, records->count - 1, word_of(ring + 2));
+    if (breach_is("record_beyond_is_answered") && word_of(ring + 2) < records->count && word_of(ring + 2) > 0)
+        return other_ring(ring, ring_n, word_of(ring), word_of(ring + 2) + 1);
+    if (breach_is("last_record_is_not_stored") && word_of(ring + 2) == records->count && records->count > 1)
+        return other_ring(ring, ring_n, word_of(ring), word_of(ring + 2) - 1);
+    return ring;
+}
+
+/* The count that a broken door takes a read of a record to have: 1. */
+static const uint8_t *as_count_1(const struct records *records, const uint8_t *frame, size_t frame_n)
+{
+    static uint8_t one[8];
+    uint16_t value;
+    if (!reads_record(records, frame, frame_n))
+        return frame;
+    memcpy(one, frame, 4);
+    one[4] = 0;
+    one[5] = 1;
+    value = __real_cedarskein_check_value(one, 6);
+    one[6] = (uint8_t)(value & 0xFF);
+    one[7] = (uint8_t)(value >> 8);
+    return one;
+}
+
+/* Error 03 where 02 belongs, or the other way round, for a read that starts at a record. */
+static void spoil_code(uint8_t *out, uint8_t code)
+{
+    uint16_t value;
+    out[2] = code;
+    value = __real_cedarskein_check_value(out, 3);
+    out[3] = (uint8_t)(value & 0xFF);
+    out[4] = (uint8_t)(value >> 8);
+}
+
+/* The reply to a read of a record, right but for one thing. */
+static void spoil_record(const struct records *records, const uint8_t *frame, size_t frame_n, uint8_t *out, uint32_t *length)
+{
+    uint32_t n = *length;
+    uint16_t value;
+    if (!reads_record(records, frame, frame_n))
+        return;
+    if (breach_is("record_count_48_is_an_address") && out[1] == 0x83 && out[2] == 3 && word_of(frame + 4) > 47)
+        spoil_code(out, 2);
+    if (breach_is("record_beyond_is_a_count") && out[1] == 0x83 && out[2] == 2)
+        spoil_code(out, 3);
+    if (!breach_is("record_of_one_word_short") || out[1] != 0x03 || n < 9)
+        return;
+    out[2] = (uint8_t)(out[2] - 2);
+    value = __real_cedarskein_check_value(out, n - 4);
+    out[n - 4] = (uint8_t)(value & 0xFF);
+    out[n - 3] = (uint8_t)(value >> 8);
+    *length = n - 2;
+}
+
+/* What an answer may not do to the ring, or read of it. */
+static void spoil_ring(uint8_t *ring, size_t ring_n, uint32_t number)
+{
+    volatile uint8_t read = 0;
+    if (breach_is("answer_writes_the_ring") && number == 0 && ring_n > 0)
+        ring[ring_n - 1] ^= 1;
+    if (breach_is("refused_answer_writes_the_ring") && number != 0 && ring_n > 0)
+        ring[0] ^= 1;
+    if (breach_is("answer_reads_behind_the_ring") && ring_n > 0)
+        read = *(volatile const uint8_t *)(ring + ring_n);
+    (void)read;
+}
+
+/* The refusals of a frame in another order, or one that is missed. No sheet has a ring of two bytes. */
+static uint32_t other_refusal(uint32_t number, size_t ring_n, size_t out_n)
+{
+    if (breach_is("ring_behind_out") && number == 8 && out_n < CEDARSKEIN_LEAST_OUT)
+        return 5;
+    if (breach_is("ring_before_bank") && number == 4 && ring_n == 2)
+        return 8;
+    if (breach_is("small_out_is_silence") && number == 5)
+        return 1;
+    return number;
+}
+
+uint32_t __wrap_cedarskein_answer(const uint8_t *sheet, size_t sheet_n, uint8_t *bank, size_t bank_n, const uint8_t *ring,
+                                  size_t ring_n, const uint8_t *frame, size_t frame_n, uint8_t *out, size_t out_n, uint32_t *length,
+                                  uint32_t *rate)
+{
+    struct records records = records_of(sheet, sheet_n);
     uint8_t bank_before[CEDARSKEIN_LONGEST_BANK];
     uint32_t number;
     if (breach_is("frame_of_101_is_answered") && frame_n == 101) {
@@ -192,20 +329,88 @@ uint32_t __wrap_cedarskein_answer(const uint8_t *sheet, size_t sheet_n, uint8_t 
     if (breach_is("station_255_is_answered"))
         frame = as_own(sheet, sheet_n, bank, bank_n, frame, frame_n, 255);
     if (breach_is("broadcast_is_stored"))
-        store_broadcast(sheet, sheet_n, bank, bank_n, frame, frame_n);
+        store_broadcast(sheet, sheet_n, bank, bank_n, ring, ring_n, frame, frame_n);
     if (breach_is("frame_is_written") && frame_n > 0)
         ((uint8_t *)(uintptr_t)frame)[frame_n - 1] ^= 1;
+    if (breach_is("record_count_2_is_answered"))
+        frame = as_count_1(&records, frame, frame_n);
     if (bank_n > 0 && bank_n <= sizeof bank_before)
         memcpy(bank_before, bank, bank_n);
-    number = __real_cedarskein_answer(sheet, sheet_n, bank, bank_n, frame, frame_n, out, out_n, length, rate);
+    number = __real_cedarskein_answer(sheet, sheet_n, bank, bank_n, ring_seen(sheet, sheet_n, ring, ring_n, &records), ring_n, frame,
+                                      frame_n, out, out_n, length, rate);
     if (breach_is("nothing_is_stored") && number == 0)
         memcpy(bank, bank_before, bank_n);
-    if (breach_is("small_out_is_silence") && number == 5)
-        return 1;
-    if (number == 0)
+    if (number == 0) {
         spoil_reply(out, out_n, length, rate);
-    else
+        spoil_record(&records, frame, frame_n, out, length);
+    } else {
         spoil_refusal(bank, bank_n, out, out_n, length, rate);
+    }
+    spoil_ring((uint8_t *)(uintptr_t)ring, ring_n, number);
+    return other_refusal(number, ring_n, out_n);
+}
+
+/* ---- The two calls on a ring ---- */
+
+uint32_t __wrap_cedarskein_ring_check(const uint8_t *sheet, size_t sheet_n, const uint8_t *ring, size_t ring_n)
+{
+    struct records records = records_of(sheet, sheet_n);
+    uint32_t number = __real_cedarskein_ring_check(sheet, sheet_n, ring, ring_n);
+    int fits = records.count != 0 && ring_n == 2 * (2 + (size_t)records.count * records.words);
+    if (breach_is("ring_at_place_n_is_sound") && number == 8 && fits && word_of(ring) == records.count && word_of(ring + 2) <= records.count)
+        return 0;
+    if (breach_is("ring_above_n_is_sound") && number == 8 && fits && word_of(ring) < records.count && word_of(ring + 2) > records.count)
+        return 0;
+    if (breach_is("empty_ring_elsewhere_is_sound") && number == 8 && fits && word_of(ring + 2) == 0 && word_of(ring) < records.count)
+        return 0;
+    if (breach_is("ring_off_its_round_is_refused") && number == 0 && fits && word_of(ring + 2) != 0
+        && word_of(ring + 2) < records.count && word_of(ring) + 1 != word_of(ring + 2))
+        return 8;
+    if (breach_is("longer_ring_is_sound") && number == 8 && records.count != 0 && ring_n == 2 * (2 + (size_t)records.count * records.words) + 1)
+        return 0;
+    if (breach_is("ring_without_records_is_sound") && number == 8 && sheet[23] == 0)
+        return 0;
+    return number;
+}
+
+/* An addition, right but for one thing. */
+static void spoil_added(uint8_t *ring, const struct records *records, const uint8_t *before)
+{
+    uint32_t stored = word_of(before + 2);
+    uint8_t *at = ring + 4 + 2 * (size_t)word_of(ring) * records->words;
+    if (breach_is("added_number_goes_past_n") && stored == records->count)
+        ring[3]++;
+    if (breach_is("oldest_is_not_overwritten") && stored == records->count)
+        memcpy(ring, before, 4);
+    if (breach_is("added_number_stays") && stored == 0)
+        ring[3] = 0;
+    if (breach_is("added_last_word_is_missed"))
+        at[2 * records->words - 1] ^= 1;
+    if (breach_is("added_writes_the_next_place") && records->count > 1)
+        ring[4 + 2 * (size_t)((word_of(ring) + 1) % records->count) * records->words] ^= 1;
+    if (breach_is("added_behind_the_ring"))
+        ring[4 + 2 * (size_t)records->count * records->words] ^= 1;
+}
+
+uint32_t __wrap_cedarskein_add_record(const uint8_t *sheet, size_t sheet_n, uint8_t *ring, size_t ring_n, const uint8_t *record,
+                                      size_t record_n)
+{
+    struct records records = records_of(sheet, sheet_n);
+    uint8_t before[4] = { 0, 0, 0, 0 };
+    uint32_t number;
+    if (ring_n >= sizeof before)
+        memcpy(before, ring, sizeof before);
+    if (breach_is("longer_record_is_cut") && records.count != 0 && record_n > 2 * (size_t)records.words)
+        record_n = 2 * (size_t)records.words;
+    number = __real_cedarskein_add_record(sheet, sheet_n, ring, ring_n, record, record_n);
+    if (number == 0)
+        spoil_added(ring, &records, before);
+    if (breach_is("refused_record_is_written") && number != 0 && ring_n > 0)
+        ring[ring_n - 1] ^= 1;
+    if (breach_is("record_length_before_ring") && number == 8 && record_n != 2 * (size_t)records.words)
+        return 7;
+    if (breach_is("no_record_area_is_8") && number == 2 && __real_cedarskein_sheet_check(sheet, sheet_n) == 0)
+        return 8;
     return number;
 }
 
@@ -239,8 +444,8 @@ static void spoil_reason(const uint8_t *frame, size_t frame_n, uint32_t *reason,
 }
 
 /* A 10 of which only the words in front of the first bad address are asked about. */
-static void spoil_long_write(const uint8_t *sheet, size_t sheet_n, const uint8_t *bank, size_t bank_n, const uint8_t *frame,
-                             uint32_t *reason, uint32_t *address)
+static void spoil_long_write(const uint8_t *sheet, size_t sheet_n, const uint8_t *bank, size_t bank_n, const uint8_t *ring,
+                             size_t ring_n, const uint8_t *frame, uint32_t *reason, uint32_t *address)
 {
     uint8_t front[CEDARSKEIN_LONGEST_FRAME];
     uint32_t words = *address - word_of(frame + 2), front_reason, front_address;
@@ -252,7 +457,7 @@ static void spoil_long_write(const uint8_t *sheet, size_t sheet_n, const uint8_t
     value = __real_cedarskein_check_value(front, n);
     front[n] = (uint8_t)(value & 0xFF);
     front[n + 1] = (uint8_t)(value >> 8);
-    __real_cedarskein_why(sheet, sheet_n, bank, bank_n, front, n + 2, &front_reason, &front_address);
+    __real_cedarskein_why(sheet, sheet_n, bank, bank_n, ring, ring_n, front, n + 2, &front_reason, &front_address);
     if (front_reason != CEDARSKEIN_ITEM)
         return;
     *reason = front_reason;
@@ -303,22 +508,47 @@ static void spoil_refused_why(uint32_t reason_before, uint32_t *reason, uint32_t
         *reason = reason_before;
 }
 
-uint32_t __wrap_cedarskein_why(const uint8_t *sheet, size_t sheet_n, const uint8_t *bank, size_t bank_n, const uint8_t *frame,
-                               size_t frame_n, uint32_t *reason, uint32_t *address)
+/* What is told of a read that starts at a record. */
+static void spoil_record_reason(const struct records *records, const uint8_t *frame, size_t frame_n, uint32_t *reason, uint32_t *address)
 {
+    if (!reads_record(records, frame, frame_n))
+        return;
+    if (breach_is("why_record_count_2_is_an_address") && *reason == CEDARSKEIN_COUNT && word_of(frame + 4) == 2) {
+        *reason = CEDARSKEIN_ADDRESS;
+        *address = word_of(frame + 2) + 1;
+    }
+    if (breach_is("why_record_beyond_is_a_count") && *reason == CEDARSKEIN_ADDRESS) {
+        *reason = CEDARSKEIN_COUNT;
+        *address = 0;
+    }
+    if (breach_is("why_record_beyond_has_no_reason") && *reason == CEDARSKEIN_ADDRESS) {
+        *reason = CEDARSKEIN_NO_REASON;
+        *address = 0;
+    }
+}
+
+uint32_t __wrap_cedarskein_why(const uint8_t *sheet, size_t sheet_n, const uint8_t *bank, size_t bank_n, const uint8_t *ring,
+                               size_t ring_n, const uint8_t *frame, size_t frame_n, uint32_t *reason, uint32_t *address)
+{
+    struct records records = records_of(sheet, sheet_n);
     uint32_t reason_before = *reason, address_before = *address;
-    uint32_t number = __real_cedarskein_why(sheet, sheet_n, bank, bank_n, frame, frame_n, reason, address);
+    uint32_t number = __real_cedarskein_why(sheet, sheet_n, bank, bank_n, ring, ring_n, frame, frame_n, reason, address);
     spoil_lent((uint8_t *)(uintptr_t)bank, bank_n, (uint8_t *)(uintptr_t)frame, frame_n);
+    if (breach_is("why_writes_the_ring") && ring_n > 0)
+        ((uint8_t *)(uintptr_t)ring)[ring_n - 1] ^= 1;
     if (breach_is("why_leaves_the_address") && *address == 0)
         *address = address_before;
     if (breach_is("why_size_before_sheet") && number == 2 && sheet_n > 12 && bank_n != 2 * word_of(sheet + 10) + 2)
         return 3;
     if (breach_is("why_of_an_unsound_bank") && number == 4)
         return 0;
+    if (breach_is("why_of_a_bad_ring") && number == 8)
+        return 0;
     if (breach_is("why_item_before_address") && *reason == CEDARSKEIN_ADDRESS && frame[1] == 0x10)
-        spoil_long_write(sheet, sheet_n, bank, bank_n, frame, reason, address);
+        spoil_long_write(sheet, sheet_n, bank, bank_n, ring, ring_n, frame, reason, address);
     if (number == 0) {
         spoil_reason(frame, frame_n, reason, address);
+        spoil_record_reason(&records, frame, frame_n, reason, address);
         spoil_address(frame, reason, address);
     } else {
         spoil_refused_why(reason_before, reason, address);

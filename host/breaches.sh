@@ -15,7 +15,7 @@ try() {
 
 # The tests that fail, by name.
 failing() {
-    for test in refusals buffers check_values edges power_cut stations; do
+    for test in refusals buffers check_values edges power_cut stations records ring_power_cut; do
         try "$test" "$@" "$folder/broken_$test"
     done
     try set_p "$@" "$folder/broken_rows" "$folder/broken.out" "case set P" <"$host/set_p.rows"

@@ -5,6 +5,8 @@
 #include "cedarskein_sheets.h"
 #include "expect.h"
 
+#include <string.h>
+
 #define LONGEST_TRIED 300
 
 static const size_t out_sizes[] = { 0, 1, 99, 100, 101, 5000 };
@@ -107,6 +109,69 @@ static void shifted(size_t shift)
     expect_number(0, call_sheet_check(&meter), "sheet_check");
 }
 
+/* The ring and the record, each at its own alignment: three records are added to two places, and each is read. */
+static void ring_shifted(size_t shift)
+{
+    static const struct records records = { 0x0400, 2, 47 };
+    uint8_t sheet[CEDARSKEIN_UX_SHEET_SIZE + RECORD_ROW], read[8] = { 0x01, 0x03, 0x04, 0x00, 0x00, 0x01 };
+    size_t k, ring_shift = (3 * shift + 1) % LENT_SHIFTS;
+    at_case("a ring at alignment %lu", (unsigned long)ring_shift);
+    put_records(sheet, cedarskein_ux_sheet, CEDARSKEIN_UX_SHEET_SIZE, records);
+    meter_fresh(&meter, sheet, sizeof sheet, ring_shift);
+    for (k = 0; k < 3; k++) {
+        lend(&meter.record, 94, (5 * shift + k) % LENT_SHIFTS);
+        expect_number(0, call_add_record(&meter), "add_record");
+        expect_number(0, call_ring_check(&meter), "ring_check");
+        meter_frame(&meter, read, sizeof read, (7 * shift + k) % LENT_SHIFTS);
+        expect_number(0, call_why(&meter), "why");
+        expect_number(CEDARSKEIN_NO_REASON, meter.reason, "the reason");
+        expect_number(0, call_answer(&meter), "answer");
+        expect_number(99, meter.length, "length");
+        expect(memcmp(meter.out.bytes + 3, meter.record.bytes, 94) == 0, "the reply has the record");
+    }
+}
+
+/* No record area: a ring of no bytes, null or not, is right, and any other is not. */
+static void null_ring(void)
+{
+    at_case("no ring");
+    meter_fresh(&meter, cedarskein_ux_sheet, CEDARSKEIN_UX_SHEET_SIZE, 0);
+    lend_null(&meter.ring);
+    expect_number(0, call_ring_check(&meter), "ring_check without a ring");
+    expect_number(0, call_why(&meter), "why without a ring");
+    expect_number(0, call_answer(&meter), "answer without a ring");
+    expect_number(2, call_add_record(&meter), "add_record without a ring");
+    lend(&meter.ring, 0, 3);
+    expect_number(0, call_ring_check(&meter), "ring_check with a ring of no bytes");
+    expect_number(0, call_why(&meter), "why with a ring of no bytes");
+    expect_number(0, call_answer(&meter), "answer with a ring of no bytes");
+    lend(&meter.ring, 1, 3);
+    expect_number(8, call_ring_check(&meter), "ring_check with a ring of one byte");
+    expect_number(8, call_why(&meter), "why with a ring of one byte");
+    expect_number(8, call_answer(&meter), "answer with a ring of one byte");
+    expect_number(2, call_add_record(&meter), "add_record with a ring of one byte");
+}
+
+/* A record area, and nothing lent for it. */
+static void null_record(void)
+{
+    static const struct records records = { 0x0400, 2, 47 };
+    uint8_t sheet[CEDARSKEIN_UX_SHEET_SIZE + RECORD_ROW];
+    at_case("no record, no ring");
+    put_records(sheet, cedarskein_ux_sheet, CEDARSKEIN_UX_SHEET_SIZE, records);
+    meter_fresh(&meter, sheet, sizeof sheet, 0);
+    lend_null(&meter.record);
+    expect_number(7, call_add_record(&meter), "add_record without a record");
+    lend_null(&meter.ring);
+    expect_number(8, call_add_record(&meter), "add_record without a ring");
+    expect_number(8, call_ring_check(&meter), "ring_check without a ring");
+    expect_number(8, call_why(&meter), "why without a ring");
+    expect_number(8, call_answer(&meter), "answer without a ring");
+    lend_null(&meter.sheet);
+    expect_number(2, call_add_record(&meter), "add_record without anything");
+    expect_number(2, call_ring_check(&meter), "ring_check without anything");
+}
+
 static void null_sheet(void)
 {
     at_case("no sheet");
@@ -139,6 +204,8 @@ static void nulls(void)
 {
     null_sheet();
     null_bank();
+    null_ring();
+    null_record();
     at_case("no frame, no out, no words");
     meter_fresh(&meter, cedarskein_ux_sheet, CEDARSKEIN_UX_SHEET_SIZE, 0);
     lend_null(&meter.words);
@@ -166,8 +233,10 @@ static void all_sizes(void)
 static void all_shifts(void)
 {
     size_t shift;
-    for (shift = 0; shift < LENT_SHIFTS; shift++)
+    for (shift = 0; shift < LENT_SHIFTS; shift++) {
         shifted(shift);
+        ring_shifted(shift);
+    }
 }
 
 int main(void)

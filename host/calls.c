@@ -67,15 +67,64 @@ void meter_frame(struct meter *meter, const uint8_t *bytes, size_t n, size_t shi
     seal(meter->frame.bytes, n);
 }
 
+struct records records_of(const uint8_t *sheet, size_t n)
+{
+    static const struct records none = { 0, 0, 0 };
+    struct records records;
+    size_t row = n < 24 ? 0 : 12 + 4 * (size_t)word_at(sheet, 1) + 6 * (size_t)word_at(sheet, 3);
+    if (row == 0 || word_at(sheet, 11) != 1 || 2 * (row + 3) > n)
+        return none;
+    records.first = word_at(sheet, row);
+    records.count = word_at(sheet, row + 1);
+    records.words = word_at(sheet, row + 2);
+    return records.count > 6600 || records.words > 47 ? none : records;
+}
+
+size_t record_at(struct records records, size_t place)
+{
+    return 2 * (2 + place * records.words);
+}
+
+size_t ring_size(struct records records)
+{
+    return records.count == 0 ? 0 : record_at(records, records.count);
+}
+
+size_t put_records(uint8_t *into, const uint8_t *sheet, size_t n, struct records records)
+{
+    memcpy(into, sheet, n);
+    set_word(into, 7, (uint16_t)((n + RECORD_ROW) / 2));
+    set_word(into, 11, 1);
+    set_word(into + n, 0, records.first);
+    set_word(into + n, 1, records.count);
+    set_word(into + n, 2, records.words);
+    return n + RECORD_ROW;
+}
+
+/* An empty ring: the two words are 0, and the records' bytes are noise. */
+static void lend_ring(struct meter *meter, struct records records, size_t shift)
+{
+    if (ring_size(records) == 0) {
+        lend_null(&meter->ring);
+        return;
+    }
+    lend(&meter->ring, ring_size(records), shift);
+    set_word(meter->ring.bytes, 0, 0);
+    set_word(meter->ring.bytes, 1, 0);
+}
+
 void meter_fresh(struct meter *meter, const uint8_t *sheet, size_t n, size_t shift)
 {
     static const uint8_t read_two[8] = { 0x01, 0x03, 0x01, 0x01, 0x00, 0x02 };
+    struct records records = records_of(sheet, n);
     size_t bank_words = n < 12 ? 0 : word_at(sheet, 5);
     lend_copy(&meter->sheet, sheet, n, shift);
     lend(&meter->bank, bank_words <= 256 ? 2 * bank_words + 2 : CEDARSKEIN_LONGEST_BANK, shift);
+    lend_ring(meter, records, shift);
     meter_frame(meter, read_two, sizeof read_two, shift);
     lend(&meter->out, CEDARSKEIN_LEAST_OUT, shift);
     lend(&meter->words, 2, shift);
+    lend(&meter->record, 2 * (size_t)records.words, shift);
     call_bank_fresh(meter);
 }
 
@@ -83,19 +132,29 @@ static void keep_all(struct meter *meter)
 {
     lent_keep(&meter->sheet);
     lent_keep(&meter->bank);
+    lent_keep(&meter->ring);
     lent_keep(&meter->frame);
     lent_keep(&meter->out);
     lent_keep(&meter->words);
+    lent_keep(&meter->record);
 }
 
-/* What every call leaves alone: all but the bank and out, and what lies around these. */
-static void expect_left_alone(const struct meter *meter)
+/* What every call leaves alone: all but the bank, out and the ring, and what lies around these. */
+static void expect_only_read(const struct meter *meter)
 {
     expect(lent_as_before(&meter->sheet), "the sheet is as before");
     expect(lent_as_before(&meter->frame), "the frame is as before");
     expect(lent_as_before(&meter->words), "the posted bytes are as before");
+    expect(lent_as_before(&meter->record), "the record is as before");
     expect(lent_as_before_but(&meter->bank, meter->bank.n), "the memory around the bank is as before");
     expect(lent_as_before_but(&meter->out, meter->out.n), "the memory around out is as before");
+}
+
+/* The ring too, which one call alone may write. */
+static void expect_left_alone(const struct meter *meter)
+{
+    expect_only_read(meter);
+    expect(lent_as_before(&meter->ring), "the ring is as before");
 }
 
 /* A number of a call that may write the bank and nothing else. */
@@ -187,8 +246,8 @@ uint32_t call_answer(struct meter *meter)
     const struct lent *sheet = &meter->sheet, *bank = &meter->bank;
     memset(&numbers, 0xA5, sizeof numbers);
     keep_all(meter);
-    number = cedarskein_answer(sheet->bytes, sheet->n, bank->bytes, bank->n, meter->frame.bytes, meter->frame.n,
-                               meter->out.bytes, meter->out.n, &numbers.first, &numbers.second);
+    number = cedarskein_answer(sheet->bytes, sheet->n, bank->bytes, bank->n, meter->ring.bytes, meter->ring.n, meter->frame.bytes,
+                               meter->frame.n, meter->out.bytes, meter->out.n, &numbers.first, &numbers.second);
     meter->length = numbers.first;
     meter->rate = numbers.second;
     expect_left_alone(meter);
@@ -220,11 +279,52 @@ uint32_t call_why(struct meter *meter)
     uint32_t number;
     memset(&numbers, 0xA5, sizeof numbers);
     keep_all(meter);
-    number = cedarskein_why(meter->sheet.bytes, meter->sheet.n, meter->bank.bytes, meter->bank.n, meter->frame.bytes,
-                            meter->frame.n, &numbers.first, &numbers.second);
+    number = cedarskein_why(meter->sheet.bytes, meter->sheet.n, meter->bank.bytes, meter->bank.n, meter->ring.bytes, meter->ring.n,
+                            meter->frame.bytes, meter->frame.n, &numbers.first, &numbers.second);
     meter->reason = numbers.first;
     meter->address = numbers.second;
     expect_numbers_alone(&numbers);
     expect_told(meter, number);
     return judged(meter, number);
+}
+
+uint32_t call_ring_check(struct meter *meter)
+{
+    keep_all(meter);
+    return judged(meter, cedarskein_ring_check(meter->sheet.bytes, meter->sheet.n, meter->ring.bytes, meter->ring.n));
+}
+
+/* The ring as it was, with the record behind the newest one and counted, and nothing else in it. */
+static void expect_added(const struct meter *meter)
+{
+    struct records records = records_of(meter->sheet.bytes, meter->sheet.n);
+    const uint8_t *before = meter->ring.before + (meter->ring.bytes - meter->ring.block), *after = meter->ring.bytes;
+    uint16_t stored = word_at(before, 1);
+    size_t place = stored == 0 || word_at(before, 0) + 1u >= records.count ? 0 : word_at(before, 0) + 1u;
+    size_t at = record_at(records, place), end = record_at(records, place + 1);
+    expect(records.count != 0 && meter->ring.n == ring_size(records), "a record is added to no other than a ring of the sheet");
+    if (records.count == 0 || meter->ring.n != ring_size(records))
+        return;
+    expect_number(place, word_at(after, 0), "the place of the newest record is then");
+    expect_number(stored < records.count ? stored + 1u : records.count, word_at(after, 1), "the number stored is then");
+    expect(memcmp(after + at, meter->record.bytes, end - at) == 0, "the record is stored whole");
+    expect(memcmp(after + 4, before + 4, at - 4) == 0 && memcmp(after + end, before + end, meter->ring.n - end) == 0,
+           "the other records are as before");
+    expect(lent_as_before_but(&meter->ring, meter->ring.n), "the memory around the ring is as before");
+}
+
+uint32_t call_add_record(struct meter *meter)
+{
+    uint32_t number;
+    keep_all(meter);
+    number = cedarskein_add_record(meter->sheet.bytes, meter->sheet.n, meter->ring.bytes, meter->ring.n, meter->record.bytes,
+                                   meter->record.n);
+    expect_only_read(meter);
+    expect(lent_as_before(&meter->bank), "the bank is as before");
+    expect(lent_as_before(&meter->out), "out is as before");
+    if (number == CEDARSKEIN_DONE)
+        expect_added(meter);
+    else
+        expect(lent_as_before(&meter->ring), "the ring of a refused call is as before");
+    return number;
 }

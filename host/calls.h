@@ -5,14 +5,29 @@
 #include "lent.h"
 
 struct meter {
-    struct lent sheet, bank, frame, out, words;
+    struct lent sheet, bank, ring, frame, out, words, record;
     uint32_t length, rate;    /* of the last frame answered */
     uint32_t reason, address; /* of the last frame asked about */
 };
 
-/* A sheet of n bytes, a bank of the size that it asks for, made fresh (noise where the sheet is refused), the frame
- * 01 03 01 01 00 02 with its check, an answer buffer of 100 bytes, and two posted bytes; all shifted alike. */
+/* A sheet of n bytes, a bank of the size that it asks for, made fresh (noise where the sheet is refused), an empty ring of the size
+ * that it asks for (null where it has no record area), the frame 01 03 01 01 00 02 with its check, an answer buffer of 100 bytes, two
+ * posted bytes, and a record of the size that it asks for; all shifted alike. */
 void meter_fresh(struct meter *meter, const uint8_t *sheet, size_t n, size_t shift);
+
+/* A record area: its row, the three words behind the item rows. All 0 where a sheet has none. */
+struct records {
+    uint16_t first, count, words;
+};
+
+/* The record area of what may be a sheet; the bytes that its ring has; and the bytes of a ring in front of a place's record. */
+struct records records_of(const uint8_t *sheet, size_t n);
+size_t ring_size(struct records records);
+size_t record_at(struct records records, size_t place);
+
+/* A sheet of n bytes without a record area, and this one put behind it. Hands back the bytes that it has then. */
+#define RECORD_ROW 6
+size_t put_records(uint8_t *into, const uint8_t *sheet, size_t n, struct records records);
 
 /* A frame of n bytes, of which the last two become the check of those in front. */
 void meter_frame(struct meter *meter, const uint8_t *bytes, size_t n, size_t shift);
@@ -34,5 +49,7 @@ uint32_t call_post(struct meter *meter, uint32_t address);
 uint32_t call_set_mark(struct meter *meter, uint32_t mark);
 uint32_t call_answer(struct meter *meter);
 uint32_t call_why(struct meter *meter);
+uint32_t call_ring_check(struct meter *meter);
+uint32_t call_add_record(struct meter *meter);
 
 #endif

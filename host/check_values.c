@@ -30,6 +30,6 @@ int main(void)
     size_t n;
     for (n = 0; n <= 300; n++)
         noise_of(n);
-    noise_of(LENT_LONGEST);
+    noise_of(5000);
     return told("check values of 0 to 300 and 5000 bytes of noise");
 }

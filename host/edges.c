@@ -22,7 +22,7 @@ struct edge {
     size_t n;
 };
 
-static struct edge sheet, bank, frame, out, words;
+static struct edge sheet, bank, ring, frame, out, words;
 static int at_end;
 
 static const char *edge_name(void)
@@ -68,13 +68,15 @@ static void edge_noise(struct edge *edge, size_t n)
 static uint32_t answer(void)
 {
     uint32_t length, rate;
-    return cedarskein_answer(sheet.bytes, sheet.n, bank.bytes, bank.n, frame.bytes, frame.n, out.bytes, out.n, &length, &rate);
+    return cedarskein_answer(sheet.bytes, sheet.n, bank.bytes, bank.n, ring.bytes, ring.n, frame.bytes, frame.n, out.bytes, out.n,
+                             &length, &rate);
 }
 
 /* Why, of the same frame: silence where it says so, and else a reply. */
 static void told_why(uint32_t *reason, uint32_t *address)
 {
-    expect_number(CEDARSKEIN_DONE, cedarskein_why(sheet.bytes, sheet.n, bank.bytes, bank.n, frame.bytes, frame.n, reason, address), "why");
+    expect_number(CEDARSKEIN_DONE, cedarskein_why(sheet.bytes, sheet.n, bank.bytes, bank.n, ring.bytes, ring.n, frame.bytes, frame.n,
+                                                  reason, address), "why");
     expect_number((CEDARSKEIN_TOO_SHORT <= *reason && *reason <= CEDARSKEIN_STATION) || *reason == CEDARSKEIN_BODY_LENGTH
                       ? CEDARSKEIN_SILENCE : CEDARSKEIN_DONE, answer(), "the answer that the reason says");
 }
@@ -125,6 +127,7 @@ static void start(const char *meter, const uint8_t *bytes, size_t n)
     at_case("a fresh bank of %s, at the %s", meter, edge_name());
     edge_copy(&sheet, bytes, n);
     edge_noise(&bank, 2 * (size_t)word_at(bytes, 5) + 2);
+    edge_noise(&ring, ring_size(records_of(bytes, n)));
     edge_noise(&out, CEDARSKEIN_LEAST_OUT);
     expect_number(CEDARSKEIN_DONE, cedarskein_bank_fresh(sheet.bytes, sheet.n, bank.bytes, bank.n), "a fresh bank");
 }
@@ -135,6 +138,63 @@ static void frames(void)
     size_t i;
     for (i = 0; i < sizeof functions * (LONGEST_TRIED + 1); i++)
         frame_of(i / sizeof functions, functions[i % sizeof functions]);
+}
+
+static void read_record(const struct records *records, uint16_t number)
+{
+    uint32_t reason, address;
+    at_case("record %u of %u, %u words each, at the %s", number, records->count, records->words, edge_name());
+    read_of((uint16_t)(records->first + number - 1), 1);
+    told_why(&reason, &address);
+    expect_number(number <= word_at(ring.bytes, 1) ? CEDARSKEIN_NO_REASON : CEDARSKEIN_ADDRESS, reason, "the reason for a record");
+}
+
+/* A record is added at the ring's first place and at its last, and read there. */
+static void add_and_read(const struct records *records, uint16_t newest, uint16_t stored)
+{
+    uint16_t number;
+    at_case("a record behind place %u of %u, at the %s", newest, records->count, edge_name());
+    set_word(ring.bytes, 0, newest);
+    set_word(ring.bytes, 1, stored);
+    edge_noise(&words, 2 * (size_t)records->words);
+    expect_number(CEDARSKEIN_DONE, cedarskein_add_record(sheet.bytes, sheet.n, ring.bytes, ring.n, words.bytes, words.n), "add_record");
+    expect_number(CEDARSKEIN_DONE, cedarskein_ring_check(sheet.bytes, sheet.n, ring.bytes, ring.n), "ring_check");
+    for (number = 1; number <= records->count; number++)
+        read_record(records, number);
+}
+
+/* A ring too short for its two words, for its records, or one of another sheet: no more of it is read than there is. */
+static void ring_of(size_t n, size_t right)
+{
+    uint8_t zeros[8] = { 0 };
+    at_case("a ring of %lu bytes, at the %s", (unsigned long)n, edge_name());
+    edge_noise(&ring, n);
+    memcpy(ring.bytes, zeros, n < sizeof zeros ? n : sizeof zeros);
+    expect_number(n == right ? CEDARSKEIN_DONE : CEDARSKEIN_BAD_RING, cedarskein_ring_check(sheet.bytes, sheet.n, ring.bytes, ring.n),
+                  "ring_check");
+    read_of(0x0400, 0);
+    expect_number(n == right ? CEDARSKEIN_DONE : CEDARSKEIN_BAD_RING, answer(), "answer");
+}
+
+/* The UX15/25's sheet with records at 0400, its ring full and at its ends. */
+static void records_of_ux(uint16_t count, uint16_t words_each)
+{
+    struct records records = { 0x0400, 0, 0 };
+    uint8_t bytes[CEDARSKEIN_UX_SHEET_SIZE + RECORD_ROW];
+    size_t n;
+    records.count = count;
+    records.words = words_each;
+    put_records(bytes, cedarskein_ux_sheet, CEDARSKEIN_UX_SHEET_SIZE, records);
+    start("UX15/25 with records", bytes, sizeof bytes);
+    add_and_read(&records, 0, 0);
+    add_and_read(&records, (uint16_t)(count - 1), count);
+    add_and_read(&records, (uint16_t)(count < 2 ? 0 : count - 2), count);
+    set_word(ring.bytes, 1, (uint16_t)(count / 2 + 1));
+    frames();
+    for (n = 0; n < 20; n++)
+        ring_of(n, ring_size(records));
+    for (n = ring_size(records) - 2; n < ring_size(records) + 3; n++)
+        ring_of(n, ring_size(records));
 }
 
 /* The front of a sheet; where it is longer, the whole sheet and noise behind it. */
@@ -149,14 +209,16 @@ static void sheet_of(size_t n)
 }
 
 /* Noise behind a header that allows the most areas and items and says this length: as many rows are read as the bytes hold, and more. */
-static void noise_of(size_t n)
+static void noise_of(size_t n, uint16_t record_areas)
 {
     static const uint8_t most[16] = { 0, 1, 0, 8, 0, 12, 0, 64, 0, 44, 1, 0, 0, 15 };
-    at_case("noise behind the front of a sheet's header, %lu bytes, at the %s", (unsigned long)n, edge_name());
+    at_case("noise behind the front of a sheet's header, %lu bytes, word 11 %u, at the %s", (unsigned long)n, record_areas, edge_name());
     edge_noise(&sheet, n);
     memcpy(sheet.bytes, most, n < sizeof most ? n : sizeof most);
     if (n >= sizeof most)
         set_word(sheet.bytes, 7, (uint16_t)(n / 2));
+    if (n >= 24)
+        set_word(sheet.bytes, 11, record_areas);
     expect_number(CEDARSKEIN_SHEET_BREAKS_RULE, cedarskein_sheet_check(sheet.bytes, sheet.n), "sheet_check");
 }
 
@@ -165,7 +227,8 @@ static void sheets(void)
     size_t n;
     for (n = 0; n <= CEDARSKEIN_LONGEST_SHEET; n++) {
         sheet_of(n);
-        noise_of(n);
+        noise_of(n, 0);
+        noise_of(n, 1);
     }
 }
 
@@ -180,6 +243,9 @@ static void run(int end)
     whole_area(0x00FF, 11, 6);
     whole_area(0x01FF, 16, 0);
     frames();
+    records_of_ux(1, 1);
+    records_of_ux(3, 47);
+    records_of_ux(600, 47);
     sheets();
 }
 
@@ -188,6 +254,7 @@ int main(void)
     signal(SIGSEGV, touched);
     edge_make(&sheet);
     edge_make(&bank);
+    edge_make(&ring);
     edge_make(&frame);
     edge_make(&out);
     edge_make(&words);

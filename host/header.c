@@ -1,5 +1,5 @@
-/* The headers, as C and as C++: the named sizes, the sheets, the registers' addresses, every function of the door, and where a bank holds
- * rate and station. */
+/* The headers, as C and as C++: the named sizes, the sheets, the registers' addresses, every function of the door, where a bank holds
+ * rate and station, and where a ring holds a record. */
 #include "cedarskein.h"
 #include "cedarskein_registers.h"
 #include "cedarskein_sheets.h"
@@ -47,8 +47,8 @@ static void next_rate_and_station(void)
     frame[11] = (uint8_t)(value & 0xFF);
     frame[12] = (uint8_t)(value >> 8);
     cedarskein_bank_fresh(sheet, CEDARSKEIN_UX_SHEET_SIZE, bank, sizeof bank);
-    expect(cedarskein_answer(sheet, CEDARSKEIN_UX_SHEET_SIZE, bank, sizeof bank, frame, sizeof frame, out, sizeof out, &length, &rate)
-               == CEDARSKEIN_DONE, "a reply");
+    expect(cedarskein_answer(sheet, CEDARSKEIN_UX_SHEET_SIZE, bank, sizeof bank, NULL, 0, frame, sizeof frame, out, sizeof out, &length,
+                             &rate) == CEDARSKEIN_DONE, "a reply");
     expect(length == 8 && rate == 1 && out[0] == 1, "the reply goes out as before the frame");
     expect(bank[2 * (256 * sheet[18] + sheet[19]) + 1] == 0, "the next rate");
     expect(bank[2 * (256 * sheet[16] + sheet[17]) + 1] == 7, "the next station");
@@ -83,9 +83,48 @@ static void reasons(void)
     for (i = 0; i < 11; i++)
         expect(numbers[i] == i, "the reasons are 0 to 10");
     cedarskein_bank_fresh(cedarskein_ux_sheet, CEDARSKEIN_UX_SHEET_SIZE, bank, sizeof bank);
-    expect(cedarskein_why(cedarskein_ux_sheet, CEDARSKEIN_UX_SHEET_SIZE, bank, sizeof bank, frame, sizeof frame, &reason, &address)
+    expect(cedarskein_why(cedarskein_ux_sheet, CEDARSKEIN_UX_SHEET_SIZE, bank, sizeof bank, NULL, 0, frame, sizeof frame, &reason, &address)
                == CEDARSKEIN_DONE, "why");
     expect(reason == CEDARSKEIN_ADDRESS && address == 0x0117, "the reason and the address");
+}
+
+/* A ring's size and the place of a record, by the header's own expressions. N is 3 and w 2; five records are added, 1 to 5. */
+static void ring_of(const uint8_t *sheet, size_t sheet_n)
+{
+    static uint8_t ring[2 * (2 + 3 * 2)];
+    size_t row = 2 * (12 + 4 * (size_t)sheet[3] + 6 * (size_t)sheet[7]);
+    size_t first = 256 * (size_t)sheet[row] + sheet[row + 1];
+    size_t N = 256 * (size_t)sheet[row + 2] + sheet[row + 3];
+    size_t w = sheet[row + 5];
+    size_t ring_n = 2 * (2 + (size_t)N * w);
+    size_t newest, place, k;
+    uint8_t record[4] = { 0, 0, 0, 0 };
+    expect(first == 0x0400 && ring_n == sizeof ring, "the first address, and a ring's size");
+    for (k = 1; k <= 5; k++) {
+        record[3] = (uint8_t)k;
+        expect(cedarskein_add_record(sheet, sheet_n, ring, ring_n, record, sizeof record) == CEDARSKEIN_DONE, "add_record");
+    }
+    expect(cedarskein_ring_check(sheet, sheet_n, ring, ring_n) == CEDARSKEIN_DONE, "ring_check");
+    expect(cedarskein_ring_check(sheet, sheet_n, ring, ring_n - 2) == CEDARSKEIN_BAD_RING, "ring_check of a shorter one");
+    for (k = 1; k <= N; k++) {
+        newest = 256 * (size_t)ring[0] + ring[1];
+        place = (newest + N - (k - 1)) % N;
+        expect((ring + 2 * (2 + (size_t)place * w))[3] == 6 - k, "where a record lies");
+    }
+}
+
+static void records(void)
+{
+    static const uint8_t row[6] = { 0x04, 0x00, 0x00, 0x03, 0x00, 0x02 };
+    static uint8_t sheet[CEDARSKEIN_UX_SHEET_SIZE + sizeof row];
+    memcpy(sheet, cedarskein_ux_sheet, CEDARSKEIN_UX_SHEET_SIZE);
+    memcpy(sheet + CEDARSKEIN_UX_SHEET_SIZE, row, sizeof row);
+    sheet[14] = (uint8_t)(sizeof sheet / 2 / 256);
+    sheet[15] = (uint8_t)(sizeof sheet / 2 % 256);
+    sheet[23] = 1;
+    expect(cedarskein_sheet_check(sheet, sizeof sheet) == CEDARSKEIN_DONE, "a sheet with a record area");
+    ring_of(sheet, sizeof sheet);
+    expect(cedarskein_ring_check(cedarskein_ux_sheet, CEDARSKEIN_UX_SHEET_SIZE, NULL, 0) == CEDARSKEIN_DONE, "no record area and no ring");
 }
 
 static void versions(void)
@@ -102,6 +141,7 @@ int main(void)
     next_rate_and_station();
     posted_and_marked();
     reasons();
+    records();
     versions();
     return failures != 0;
 }

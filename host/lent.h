@@ -5,7 +5,7 @@
 #include <stddef.h>
 #include <stdint.h>
 
-#define LENT_LONGEST 5000
+#define LENT_LONGEST 620420 /* a ring of 6,600 records of 47 words, and some more */
 #define LENT_CANARY 64
 #define LENT_SHIFTS 8
 #define LENT_ROOM (LENT_CANARY + LENT_SHIFTS + LENT_LONGEST + LENT_CANARY)

@@ -47,7 +47,8 @@ static void send(uint8_t *frame, size_t n)
     uint8_t out[CEDARSKEIN_LEAST_OUT];
     uint32_t length, rate;
     seal(frame, n);
-    expect_number(CEDARSKEIN_DONE, cedarskein_answer(SHEET, bank, BANK, frame, n, out, sizeof out, &length, &rate), "the frame");
+    expect_number(CEDARSKEIN_DONE, cedarskein_answer(SHEET, bank, BANK, NULL, 0, frame, n, out, sizeof out, &length, &rate),
+                  "the frame");
     keep_settings(&kept);
 }
 

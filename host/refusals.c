@@ -5,59 +5,97 @@
 #include "cedarskein_sheets.h"
 #include "expect.h"
 
-/* What is wrong with a call, as bits. The order of the bits is rule N50's: 2, 3, 4, 5, 7, 6. */
-enum { BAD_SHEET = 1, BAD_SIZE = 2, UNSOUND = 4, SMALL_OUT = 8, BAD_INPUT = 16, BAD_ADDRESS = 32, ALL = 64 };
+/* What is wrong with a call, as bits. The order of the bits is rule N50's: 2, 3, 4, 8, 5, 7, 6. */
+enum { BAD_SHEET = 1, BAD_SIZE = 2, UNSOUND = 4, BAD_RING = 8, SMALL_OUT = 16, BAD_INPUT = 32, BAD_ADDRESS = 64, ALL = 128 };
 
 static const uint8_t *const UX = cedarskein_ux_sheet;
 #define UX_N CEDARSKEIN_UX_SHEET_SIZE
 #define MARK (CEDARSKEIN_UX_BANK_SIZE / 2 - 1)
+
+/* The same meter with records at 0400. */
+static const struct records RECORDS = { 0x0400, 3, 2 };
+static uint8_t ux_with_records[UX_N + RECORD_ROW];
+
+/* What is wrong with a ring; of a sheet without a record area, that there is one. */
+enum ring_fault { LONG_RING, SHORT_RING, NO_RING, BAD_PLACE, BAD_COUNT, EMPTY_ELSEWHERE, RING_FAULTS };
 
 static struct meter meter;
 
 /* The number that is told of what is wrong, where the call looks at some of it. */
 static uint32_t first_of(unsigned breaks)
 {
-    static const uint32_t numbers[6] = { 2, 3, 4, 5, 7, 6 };
+    static const uint32_t numbers[7] = { 2, 3, 4, 8, 5, 7, 6 };
     unsigned i;
-    for (i = 0; i < 6; i++)
+    for (i = 0; i < 7; i++)
         if (breaks & (1u << i))
             return numbers[i];
     return 0;
 }
 
-/* A meter with that wrong; a wrong size leaves the bank's words as they are. */
-static void break_meter(unsigned breaks, size_t shift)
+static void break_ring(enum ring_fault fault)
 {
-    meter_fresh(&meter, UX, UX_N, shift);
+    uint8_t *ring = meter.ring.bytes;
+    switch (fault) {
+    case LONG_RING: lent_resize(&meter.ring, meter.ring.n + 2); break;
+    case SHORT_RING: lent_resize(&meter.ring, meter.ring.n - 2); break;
+    case NO_RING: lend_null(&meter.ring); break;
+    case BAD_PLACE: set_word(ring, 0, RECORDS.count); set_word(ring, 1, 1); break;
+    case BAD_COUNT: set_word(ring, 1, (uint16_t)(RECORDS.count + 1)); break;
+    default: set_word(ring, 0, 1); break;
+    }
+}
+
+/* A meter with that wrong; a wrong size leaves the bank's words as they are. */
+static void break_meter(unsigned breaks, const enum ring_fault *fault, size_t shift)
+{
+    if (fault != NULL)
+        meter_fresh(&meter, ux_with_records, sizeof ux_with_records, shift);
+    else
+        meter_fresh(&meter, UX, UX_N, shift);
+    if (breaks & BAD_RING && fault != NULL)
+        break_ring(*fault);
+    else if (breaks & BAD_RING)
+        lend(&meter.ring, 2, shift);
     if (breaks & BAD_SHEET)
-        meter.sheet.bytes[23] = 1;
+        meter.sheet.bytes[23] ^= 1;
     if (breaks & UNSOUND)
         set_word(meter.bank.bytes, 1, 5);
     if (breaks & BAD_SIZE)
         lent_resize(&meter.bank, meter.bank.n + 2);
     lend(&meter.out, breaks & SMALL_OUT ? 99 : 100, shift);
     lend(&meter.words, breaks & BAD_INPUT ? 3 : 4, shift);
+    if (breaks & BAD_INPUT)
+        lent_resize(&meter.record, meter.record.n + 1);
 }
 
-static void all_calls(unsigned breaks)
+/* The two calls on a ring know of the sheet, the ring and the record alone. Adding asks for a record area. */
+static void ring_calls(unsigned breaks, int has_records)
+{
+    unsigned ring = breaks & (BAD_SHEET | BAD_RING);
+    expect_number(first_of(ring), call_ring_check(&meter), "ring_check");
+    expect_number(has_records ? first_of(ring | (breaks & BAD_INPUT)) : 2, call_add_record(&meter), "add_record");
+}
+
+static void all_calls(unsigned breaks, const enum ring_fault *fault)
 {
     uint32_t address = breaks & BAD_ADDRESS ? 0x020A : 0x0209;
-    unsigned bank = breaks & (BAD_SHEET | BAD_SIZE | UNSOUND);
-    uint32_t refused = first_of(bank | (breaks & SMALL_OUT));
-    at_case("breaks %02X", breaks);
-    break_meter(breaks, breaks % LENT_SHIFTS);
+    unsigned bank = breaks & (BAD_SHEET | BAD_SIZE | UNSOUND), lent = breaks & (BAD_SHEET | BAD_SIZE | UNSOUND | BAD_RING);
+    uint32_t refused = first_of(lent | (breaks & SMALL_OUT));
+    at_case("breaks %02X, ring fault %d", breaks, fault == NULL ? -1 : (int)*fault);
+    break_meter(breaks, fault, breaks % LENT_SHIFTS);
     expect_number(first_of(breaks & BAD_SHEET), call_sheet_check(&meter), "sheet_check");
     expect_number(first_of(bank), call_bank_check(&meter), "bank_check");
-    expect_number(first_of(breaks & ~(unsigned)SMALL_OUT), call_post(&meter, address), "post");
+    expect_number(first_of(breaks & ~(unsigned)(SMALL_OUT | BAD_RING)), call_post(&meter, address), "post");
     expect_number(first_of(bank | (breaks & BAD_INPUT)), call_set_mark(&meter, breaks & BAD_INPUT ? 2 : 1), "set_mark");
-    expect_number(first_of(bank), call_why(&meter), "why");
+    expect_number(first_of(lent), call_why(&meter), "why");
     expect_number(refused, call_answer(&meter), "answer");
     meter.frame.bytes[0] = 2;
     seal(meter.frame.bytes, meter.frame.n);
-    expect_number(first_of(bank), call_why(&meter), "why, of a frame for another station");
-    expect_number(bank ? CEDARSKEIN_NO_REASON : CEDARSKEIN_STATION, meter.reason, "the reason, of a frame for another station");
+    expect_number(first_of(lent), call_why(&meter), "why, of a frame for another station");
+    expect_number(lent ? CEDARSKEIN_NO_REASON : CEDARSKEIN_STATION, meter.reason, "the reason, of a frame for another station");
     expect_number(refused ? refused : 1, call_answer(&meter), "answer to a frame for another station");
     expect_number(first_of(breaks & (BAD_SHEET | BAD_SIZE)), call_bank_fresh(&meter), "bank_fresh");
+    ring_calls(breaks, fault != NULL);
 }
 
 /* The five calls that begin with a sheet and a bank. */
@@ -84,6 +122,21 @@ static void sheet_of(size_t n)
     expect_number(2, call_sheet_check(&meter), "sheet_check");
     expect_number(2, call_bank_fresh(&meter), "bank_fresh");
     same_number(2);
+    expect_number(2, call_ring_check(&meter), "ring_check");
+    expect_number(2, call_add_record(&meter), "add_record");
+}
+
+/* The sheet with a record area, cut to any length or with bytes too many: it is none without its last three words. */
+static void records_sheet_of(size_t n)
+{
+    uint32_t number = n == sizeof ux_with_records ? 0 : 2;
+    at_case("the front of the UX sheet with records and noise, %lu bytes", (unsigned long)n);
+    meter_fresh(&meter, ux_with_records, sizeof ux_with_records, n % LENT_SHIFTS);
+    lent_resize(&meter.sheet, n);
+    expect_number(number, call_sheet_check(&meter), "sheet_check");
+    expect_number(number, call_ring_check(&meter), "ring_check");
+    expect_number(number, call_add_record(&meter), "add_record");
+    same_number(number);
 }
 
 static void bank_of(size_t n)
@@ -175,15 +228,23 @@ static void unsounds(void)
 static void all_breaks(void)
 {
     unsigned breaks;
-    for (breaks = 0; breaks < ALL; breaks++)
-        all_calls(breaks);
+    int fault;
+    for (breaks = 0; breaks < ALL; breaks++) {
+        all_calls(breaks, NULL);
+        for (fault = LONG_RING; fault < RING_FAULTS; fault++) {
+            enum ring_fault one = (enum ring_fault)fault;
+            all_calls(breaks, &one);
+        }
+    }
 }
 
 static void all_sheets(void)
 {
     size_t n;
-    for (n = 0; n <= 900; n++)
+    for (n = 0; n <= 900; n++) {
         sheet_of(n);
+        records_sheet_of(n);
+    }
 }
 
 static void all_banks(void)
@@ -195,6 +256,7 @@ static void all_banks(void)
 
 int main(void)
 {
+    put_records(ux_with_records, UX, UX_N, RECORDS);
     all_breaks();
     all_sheets();
     all_banks();

@@ -1,8 +1,9 @@
-/* Rows of cases through the archive. The rows are lines of standard input, as crates/cases/src/main.rt says; three letters are
- * added, for the check value and for why:
+/* Rows of cases through the archive. The rows are lines of standard input, as crates/cases/src/main.rt says; four signs are
+ * added, for the check value, for why and for records:
  *   C bytes value name            the check value of the bytes
  *   Y frame reason address name   the reason for a frame without its check, which is put behind it, and the address told; both hexadecimal
  *   Z frame reason address name   the same for a frame as it is
+ *   + bytes                       adds a record to the ring, which is empty at first
  * The file that is named first gets a line for each row, the same that the program cases writes. The second word says what the rows are. */
 #include "calls.h"
 
@@ -102,6 +103,14 @@ static void post(const char *line)
     call_post(&meter, address);
 }
 
+static void add(const char *line)
+{
+    uint8_t record[94];
+    size_t n = field(&line, record, sizeof record);
+    lend_copy(&meter.record, record, n, rows % LENT_SHIFTS);
+    expect_number(CEDARSKEIN_DONE, call_add_record(&meter), "add_record");
+}
+
 static int as_expected(uint32_t number, const uint8_t *expected, size_t n)
 {
     if (n == 0)
@@ -192,6 +201,7 @@ static void run(char letter, const char *line)
     case 'B': resize(line); break;
     case 'P': put(line); break;
     case 'T': post(line); break;
+    case '+': add(line); break;
     case 'Q': ask(line, 0); break;
     case 'W': ask(line, 1); break;
     case 'H': held(line); break;

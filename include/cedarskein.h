@@ -1,21 +1,52 @@
 /* Cedarskein: the registers of a Modbus gas flowmeter, for its C firmware.
  *
- * A sheet says which registers a meter has. A bank holds their words. The functions check both, make a bank fresh,
- * post readings, set the alarm mark, answer frames and tell why a frame gets silence or an error. They call nothing, keep
- * nothing between calls and use no heap: all that a call works on is lent to it, as a pointer and a number of bytes.
+ * A sheet says which registers a meter has. A bank holds their words, and a ring the records of the meter's history, where
+ * the sheet has any. The functions check all three, make a bank fresh, post readings, set the alarm mark, add records,
+ * answer frames and tell why a frame gets silence or an error. They call nothing, keep nothing between calls and use no
+ * heap: all that a call works on is lent to it, as a pointer and a number of bytes.
  *
  * docs/RULES.md has the rules that the functions are proved against, by number.
  *
  * Sizes
  *
  *   At most 12 KiB of code and constants, nothing writable among it, and at most 1 KiB of stack in a call; docs/BENCH.md has
- *   what was measured, under 10 KiB and under 600 bytes. A sheet has at most 856 bytes, a bank 514, and out 100.
+ *   what was measured. A sheet has at most 862 bytes, a bank 514, and out 100. A ring has as many bytes as its sheet asks
+ *   for, 620,404 at most, and none where the sheet has no record area (see "The ring"). What a call costs does not grow with
+ *   the ring.
  *
  * The bank
  *
  *   2B + 2 bytes: the words of places 0 to B - 1, and the alarm mark behind them. B is word 5 of the sheet. Every word, of
- *   a sheet, of a bank and of posted bytes, is two bytes, the upper one first. The word of place p is bytes 2p and 2p + 1
- *   of the bank; an area's addresses have the places from the area's first place upward. The mark is the last two bytes.
+ *   a sheet, of a bank, of a ring, of posted bytes and of a record, is two bytes, the upper one first. The word of place p
+ *   is bytes 2p and 2p + 1 of the bank; an area's addresses have the places from the area's first place upward. The mark is
+ *   the last two bytes.
+ *
+ * The ring
+ *
+ *   A sheet whose word 11 is 0 has no record area: it has no ring, and the ring is lent as NULL, 0. One whose word 11 is 1
+ *   has N records of w words, at N addresses. Three words behind its item rows say so, from word 12 + 4A + 6I on, with A
+ *   word 1 and I word 3 of the sheet: the first address, N (1 to 6600) and w (1 to 47). They are there where sheet[23] is
+ *   1, and in a sound sheet A, I and w fit a byte:
+ *
+ *     row    = 2 * (12 + 4 * sheet[3] + 6 * sheet[7]);
+ *     first  = 256 * sheet[row] + sheet[row + 1];
+ *     N      = 256 * sheet[row + 2] + sheet[row + 3];
+ *     w      = sheet[row + 5];
+ *     ring_n = 2 * (2 + (size_t)N * w);
+ *
+ *   The first word of a ring is the place of the newest record, 0 to N - 1, the second the number of records stored, 0 to
+ *   N. Behind them are the places 0 to N - 1, of w words each. An empty ring has 0 in both words; the bytes behind them are
+ *   free. So four bytes of 0 make a ring, and no call is needed for it.
+ *
+ *   Records are added one by one, each whole: the first at place 0, each next one behind the newest, and behind place N - 1
+ *   at place 0 again. Once N are stored, the next one overwrites the oldest. Record 1 is always the newest. A master reads
+ *   record k by 03 at address first + k - 1 with count 1, and k is at most the number stored. It lies here:
+ *
+ *     newest = 256 * ring[0] + ring[1];
+ *     place  = (newest + N - (k - 1)) % N;
+ *     record = ring + 2 * (2 + (size_t)place * w);
+ *
+ *   Call cedarskein_ring_check at start-up, and whenever the two words were written by anything but cedarskein_add_record.
  *
  * The next station and the next rate
  *
@@ -53,16 +84,25 @@
  *   station. With 4 the station is none of 1 to 247, or something else in the bank is out of its range. host/stations.c
  *   does this to boards of each old sheet, at each station.
  *
+ * A board from version 1
+ *
+ *   From 2.0 on cedarskein_answer and cedarskein_why take a ring behind the bank, and a program that is compiled with this
+ *   header shows each place to change: pass NULL, 0 there. Sheets of version 1.3 have word 11 at 0 and are taken as before,
+ *   banks are as they were, and so is every reply. Two calls are new, cedarskein_ring_check and cedarskein_add_record, and
+ *   one number, 8; a board whose sheet has no record area gets it only for a ring that is not 0 bytes.
+ *
  * What the caller owes
  *
  *   The proofs hold for any bytes in the buffers, and for calls that keep to this:
  *
  *   - each pointer is valid for the number of bytes given with it; it may be null only where that number is 0;
  *   - the pointers length, rate, reason and address are valid and aligned; byte buffers may start at any address;
- *   - what a call writes (bank, out, *length, *rate, *reason, *address) overlaps nothing else that the call is lent: a
- *     frame is not answered in its own buffer;
+ *   - what a call writes (bank, out, *length, *rate, *reason, *address, and the ring, which only cedarskein_add_record
+ *     writes) overlaps nothing else that the call is lent: a frame is not answered in its own buffer, and a record that is
+ *     added does not lie in the ring;
  *   - while a call runs nobody else writes what it is lent, or reads what it writes: one bank is not used by two tasks,
- *     or a task and an interrupt, at once. Calls on different banks may run at once, on one sheet too.
+ *     or a task and an interrupt, at once, and no record is added while a frame is answered from the ring. Calls on
+ *     different banks may run at once, on one sheet and on one ring too.
  *
  * A power cut
  *
@@ -93,6 +133,23 @@
  *   that is too much, keep the totals in a memory that does not wear.
  *
  *   demo/last_good.c has this as C; host/power_cut.c tries it with a cut at every byte, and counts the writes of an hour.
+ *
+ *   A ring is large, and an addition changes little of it, so it is kept otherwise. Its records lie once in memory that
+ *   outlasts a cut, its two words twice, each copy followed by its check value as a bank's is:
+ *
+ *   - add a record to the ring at work; where that answers 0, write the record's bytes to their place in the lasting
+ *     memory (a ring that lies there itself has them already), when that is done the first copy of the two words, and when
+ *     that is done the second;
+ *   - at start-up load the records, and put the first copy into the two words where its check value agrees and
+ *     cedarskein_ring_check answers 0, else the second on the same terms; write the other copy anew where it differs;
+ *   - where neither copy is good, the two words are 0, and the history is lost. Report it.
+ *
+ *   After a cut the new record is there whole and counted, or it is not counted; the others are as they were. One thing
+ *   this does not save: in a full ring the new record is written over the oldest, which the two words count until the first
+ *   copy is written. A cut in between leaves record N torn, with the front of the new record and the rest of the old one,
+ *   and nothing here shows it. Where that matters, let a word of each record be a check value over the others.
+ *
+ *   demo/ring_kept.c has this as C; host/ring_power_cut.c tries it with a cut at every byte.
  */
 #ifndef CEDARSKEIN_H
 #define CEDARSKEIN_H
@@ -114,16 +171,17 @@ extern "C" {
 #define CEDARSKEIN_LONGEST_SHEET 862 /* bytes of a sheet with 8 areas, 64 items and a record area */
 #define CEDARSKEIN_LONGEST_BANK 514  /* bytes of a bank with 256 words and the mark */
 
-/* The numbers that a call hands back, and what the firmware does then. With any number but 0 the bank and out are as they
- * were. Where several would hold, the first of 2, 3, 4, 5, 7, 6 is told. */
+/* The numbers that a call hands back, and what the firmware does then. With any number but 0 the bank, the ring and out are
+ * as they were. Where several would hold, the first of 2, 3, 4, 8, 5, 7, 6 is told, so far as the call has that part. */
 enum cedarskein_number {
-    /* Done. Keep the bank (see "A power cut"). Of cedarskein_answer: then send the first *length bytes of out at *rate, and go
-     * on at the bank's rate. An error reply is a reply. */
+    /* Done. Keep the bank, or the record that was added (see "A power cut"). Of cedarskein_answer: then send the first
+     * *length bytes of out at *rate, and go on at the bank's rate. An error reply is a reply. */
     CEDARSKEIN_DONE = 0,
     /* Silence: send nothing, and wait for the next frame. */
     CEDARSKEIN_SILENCE = 1,
     /* The sheet is not sound: it is damaged, not a sheet, or one with stations outside 1 to 247 from before 1.3 (see
-     * "Stations"). Stay off the line; nothing but a good sheet helps. */
+     * "Stations"). Stay off the line; nothing but a good sheet helps. Of cedarskein_add_record also: the sheet has no record
+     * area, and so no ring. */
     CEDARSKEIN_SHEET_BREAKS_RULE = 2,
     /* The bank has not 2B + 2 bytes: it belongs to another sheet, or bank_n is wrong. Mend the program; after a change of
      * sheet, make a new bank fresh. */
@@ -138,9 +196,12 @@ enum cedarskein_number {
     /* Not all posted addresses lie in access 1 (read only) areas; none of the words is stored. Mend the address or the
      * number of words. */
     CEDARSKEIN_NOT_READ_ONLY = 6,
-    /* The posted bytes are none or odd, or the mark is neither 0 nor 1. Mend the call. */
+    /* The posted bytes are none or odd, the mark is neither 0 nor 1, or the added record has not 2w bytes. Mend the call. */
     CEDARSKEIN_BAD_INPUT = 7,
-    /* The ring does not go with the sheet or is not sound. */
+    /* The ring has not the bytes that its sheet asks for, 0 where the sheet has no record area; or the place of the newest
+     * record is not below N, the number stored is above N, or an empty ring is not at place 0. Where ring_n is wrong, mend
+     * the program. Else a power cut or a stray write has spoiled the two words, and every frame is refused from now on,
+     * those for registers too. Put a good copy of the two words back, or make the ring empty (see "A power cut"). */
     CEDARSKEIN_BAD_RING = 8
 };
 
@@ -153,9 +214,10 @@ enum cedarskein_reason {
     CEDARSKEIN_STATION = 4,       /* the frame is for another station, or for 0 or 248 to 255: silence */
     CEDARSKEIN_FUNCTION = 5,      /* the sheet does not allow the function: error 01 */
     CEDARSKEIN_BODY_LENGTH = 6,   /* the frame has not the length of its function: silence */
-    CEDARSKEIN_COUNT = 7,         /* no register, or 10 with a byte count that is not twice its count: error 03;
-                                   * a read of more than 47: error 02 */
-    CEDARSKEIN_ADDRESS = 8,       /* an address is not open to the function: error 02 */
+    CEDARSKEIN_COUNT = 7,         /* no register, 10 with a byte count that is not twice its count, or a read that starts
+                                   * at a record and has another count than 1: error 03; else a read of more than 47:
+                                   * error 02 */
+    CEDARSKEIN_ADDRESS = 8,       /* an address is not open to the function, or no record is stored there: error 02 */
     CEDARSKEIN_CLEAR_VALUE = 9,   /* a clear with another value than 0: error 03 */
     CEDARSKEIN_ITEM = 10          /* an item would be out of its range: error 03 */
 };
@@ -183,8 +245,8 @@ uint32_t cedarskein_bank_check(const uint8_t *sheet, size_t sheet_n, const uint8
 uint32_t cedarskein_bank_fresh(const uint8_t *sheet, size_t sheet_n, uint8_t *bank, size_t bank_n);
 
 /* Posts readings: takes words, upper byte first, and stores them from an address upward. Gives back 0, else the first of
- * 2, 3, 4, 7 and 6; the bank is then as it was. With 0 only the posted words of the bank change. An address above FFFF, or
- * a run past it, is 6. */
+ * 2, 3, 4, 7 and 6; the bank is then as it was. With 0 only the posted words of the bank change. An address above FFFF, a
+ * run past it, or a record's address is 6. */
 uint32_t cedarskein_post(const uint8_t *sheet, size_t sheet_n, uint8_t *bank, size_t bank_n, uint32_t address,
                          const uint8_t *words, size_t words_n);
 
@@ -197,27 +259,32 @@ uint32_t cedarskein_set_mark(const uint8_t *sheet, size_t sheet_n, uint8_t *bank
  *      behind it are as they were. The bank has what the frame stored; with an error reply, what stands ahead of the
  *      first bad item;
  *   1: silence; *length and *rate are 0, and the bank and out are as they were;
- *   the first of 2, 3, 4 and 5: the same.
+ *   the first of 2, 3, 4, 8 and 5: the same.
  * *length and *rate are written by every call. *rate is a rate only where the number is 0: 1 for 9600, 0 for 4800.
- * The sheet and the frame are only read. */
+ * The sheet, the ring and the frame are only read. A record is read alone, by a 03 with count 1, and the reply has its 2w
+ * bytes. A run into the record area from outside, a write and a clear there get error 02. */
 uint32_t cedarskein_answer(const uint8_t *sheet, size_t sheet_n, uint8_t *bank, size_t bank_n, const uint8_t *ring,
                            size_t ring_n, const uint8_t *frame, size_t frame_n, uint8_t *out, size_t out_n,
                            uint32_t *length, uint32_t *rate);
 
-/* Tells why cedarskein_answer gives silence or an error to a frame, with the bank as it is before the frame. Gives back 0,
- * else the first of 2, 3 and 4. With 0, *reason is a number of enum cedarskein_reason, and *address is
+/* Tells why cedarskein_answer gives silence or an error to a frame, with the bank and the ring as they are before the frame.
+ * Gives back 0, else the first of 2, 3, 4 and 8. With 0, *reason is a number of enum cedarskein_reason, and *address is
  *   for CEDARSKEIN_ADDRESS: the lowest address of the frame's run that is in no area, not open to its function, or above
- *      FFFF (it can be 10000 hexadecimal); for a clear elsewhere than at the clear address, the frame's own;
+ *      FFFF (it can be 10000 hexadecimal); for a clear elsewhere than at the clear address, and for a record that is not
+ *      stored, the frame's own;
  *   for CEDARSKEIN_ITEM: the first address of the first bad item, also where the frame writes only its lower half;
  *   for every other reason: 0.
- * *reason and *address are written by every call, zeros with a refusal. The sheet, the bank and the frame are only read. */
+ * *reason and *address are written by every call, zeros with a refusal. All that is lent is only read. */
 uint32_t cedarskein_why(const uint8_t *sheet, size_t sheet_n, const uint8_t *bank, size_t bank_n, const uint8_t *ring,
                         size_t ring_n, const uint8_t *frame, size_t frame_n, uint32_t *reason, uint32_t *address);
 
-/* Takes a sheet and what may be a ring of it, as at start-up. Gives back 0, else the first of 2 and 8. Writes nothing. */
+/* Takes a sheet and what may be a ring of it, as at start-up. Gives back 0 where the ring is sound, else the first of 2 and
+ * 8. What the records hold is not looked at. Writes nothing. */
 uint32_t cedarskein_ring_check(const uint8_t *sheet, size_t sheet_n, const uint8_t *ring, size_t ring_n);
 
-/* Adds one whole record to a ring. Gives back 0, else the first of 2, 8 and 7; the ring is then as it was. */
+/* Adds one whole record to a ring, as the newest: takes its w words, upper byte first, in 2w bytes. Gives back 0, else the
+ * first of 2 (also where the sheet has no record area), 8 and 7 (record_n is not 2w); the ring is then as it was. With 0 the
+ * record's place and the two words change, and nothing else of the ring. */
 uint32_t cedarskein_add_record(const uint8_t *sheet, size_t sheet_n, uint8_t *ring, size_t ring_n, const uint8_t *record,
                                size_t record_n);
 

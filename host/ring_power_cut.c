@@ -1,0 +1,371 @@
+/* A ring against a power cut, by cedarskein.h, "A power cut", which demo/ring_kept.c has as C: a cut at every byte of an addition, into rings
+ * that are empty, part full, full, and round again, and another cut at start-up. After each:
+ *
+ * - the ring is sound;
+ * - it is the ring before the addition or the ring after it, and in the second case the new record is whole;
+ * - every record that it counts reads as it did, but one: the oldest of a full ring before the addition, whose room is the new record's. */
+#include "calls.h"
+
+#include "../demo/ring_kept.h"
+#include "cedarskein.h"
+#include "cedarskein_sheets.h"
+#include "expect.h"
+
+#include <string.h>
+
+#define NO_CUT 0xFFFFFFFFu
+#define MOST_BYTES 620404
+#define HEAD (HEAD_SIZE + CHECK_SIZE)
+#define HISTORY 0x0400
+
+/* Memory that outlasts a cut. */
+static struct {
+    uint8_t records[MOST_BYTES], heads[KEPT_HEADS];
+    unsigned bytes_left; /* that are still written before the power goes */
+    int records_fail;    /* no record is taken, though the power is there */
+} chip;
+
+static int load(void *memory, size_t at, uint8_t *bytes, size_t n)
+{
+    memcpy(bytes, (uint8_t *)memory + at, n);
+    return 0;
+}
+
+static int store(void *memory, size_t at, const uint8_t *bytes, size_t n)
+{
+    size_t i;
+    if (chip.records_fail && memory == chip.records)
+        return -1;
+    for (i = 0; i < n && chip.bytes_left > 0; i++, chip.bytes_left--)
+        ((uint8_t *)memory)[at + i] = bytes[i];
+    return i < n;
+}
+
+static uint8_t sheet[CEDARSKEIN_UX_SHEET_SIZE + RECORD_ROW], bank[CEDARSKEIN_UX_BANK_SIZE], ring[MOST_BYTES];
+static struct records records;
+static struct kept_ring kept = { sheet, sizeof sheet, ring, 0, { load, store, chip.records }, { load, store, chip.heads } };
+
+static void start(uint16_t count, uint16_t words)
+{
+    records.first = HISTORY;
+    records.count = count;
+    records.words = words;
+    put_records(sheet, cedarskein_ux_sheet, CEDARSKEIN_UX_SHEET_SIZE, records);
+    kept.ring_n = ring_size(records);
+    cedarskein_bank_fresh(sheet, sizeof sheet, bank, sizeof bank);
+}
+
+/* A record by its serial number, the first one's 1; its bytes all differ from those of the next. */
+static void write_record(uint8_t *bytes, unsigned serial)
+{
+    size_t k;
+    for (k = 0; k < 2u * records.words; k++)
+        bytes[k] = (uint8_t)(serial * 37 + k * 11);
+}
+
+static void add(unsigned serial)
+{
+    uint8_t record[94];
+    write_record(record, serial);
+    expect_number(CEDARSKEIN_DONE, cedarskein_add_record(sheet, sizeof sheet, ring, kept.ring_n, record, 2 * (size_t)records.words),
+                  "add_record");
+}
+
+/* An empty ring is kept, and so many records after it, each by itself. */
+static void keep_so_many(unsigned added)
+{
+    unsigned serial;
+    chip.bytes_left = NO_CUT;
+    memset(ring, 0, kept.ring_n);
+    expect(keep_ring(&kept) == 0, "the empty ring is kept");
+    for (serial = 1; serial <= added; serial++) {
+        add(serial);
+        expect(keep_newest(&kept) == 0, "the record is kept");
+    }
+}
+
+/* Starts up with that many bytes until the next cut; what plain memory held is gone. Says whether a copy was good. */
+static int starts_up(unsigned bytes_left)
+{
+    chip.bytes_left = bytes_left;
+    if (kept.records.load != NULL)
+        memset(ring, 0xA5, kept.ring_n);
+    return restore_ring(&kept) != NO_GOOD_COPY;
+}
+
+/* ---- The ring as a master sees it ---- */
+
+/* The record with this number, by a frame. Hands back its bytes, or NULL where the meter has none. */
+static const uint8_t *record_read(unsigned number)
+{
+    static uint8_t out[CEDARSKEIN_LEAST_OUT];
+    uint8_t frame[8] = { 1, 3, 0, 0, 0, 1 };
+    uint32_t length, rate;
+    set_word(frame, 1, (uint16_t)(HISTORY + number - 1));
+    seal(frame, sizeof frame);
+    expect_number(CEDARSKEIN_DONE, cedarskein_answer(sheet, sizeof sheet, bank, sizeof bank, ring, kept.ring_n, frame, sizeof frame, out,
+                                                     sizeof out, &length, &rate), "the frame");
+    return out[1] == 3 ? out + 3 : NULL;
+}
+
+static unsigned stored_at(unsigned serial)
+{
+    return serial < records.count ? serial : records.count;
+}
+
+/* Whether the record with this number is the one of that serial number, and so whole. */
+static int reads_as(unsigned number, unsigned serial)
+{
+    uint8_t record[94];
+    const uint8_t *read = record_read(number);
+    write_record(record, serial);
+    return read != NULL && memcmp(read, record, 2 * (size_t)records.words) == 0;
+}
+
+/* The front of one record and the rest of another. */
+static int reads_torn(unsigned number, unsigned front, unsigned rest, unsigned bytes)
+{
+    uint8_t record[94], other[94];
+    const uint8_t *read = record_read(number);
+    write_record(record, rest);
+    write_record(other, front);
+    memcpy(record, other, bytes);
+    return read != NULL && memcmp(read, record, 2 * (size_t)records.words) == 0;
+}
+
+/* Every record of a ring to which so many were added, but those from this number on. */
+static void expect_records(unsigned added, unsigned but_from)
+{
+    unsigned number;
+    for (number = 1; number <= records.count && number < but_from; number++)
+        if (number <= stored_at(added))
+            expect(reads_as(number, added - (number - 1)), "a record that is counted reads as before");
+        else
+            expect(record_read(number) == NULL, "a record that is not stored is not read");
+}
+
+static int ring_is_of(unsigned added)
+{
+    return word_at(ring, 0) == (added == 0 ? 0 : (added - 1) % records.count) && word_at(ring, 1) == stored_at(added);
+}
+
+/* ---- Cuts ---- */
+
+/* The ring before the addition. Of a full one, the oldest record has as much of the new one as was written. */
+static void expect_before(unsigned added, unsigned written)
+{
+    int full = stored_at(added) == records.count;
+    unsigned size = 2u * records.words;
+    expect_records(added, full ? records.count : records.count + 1u);
+    if (full)
+        expect(reads_torn(records.count, added + 1, added - (records.count - 1u), written < size ? written : size),
+               "the oldest record is torn, where the cut was");
+}
+
+/* A cut when so many bytes of the addition are written, and one at start-up; the second start-up goes through. */
+static void cut_after(unsigned added, unsigned bytes, unsigned bytes_at_start)
+{
+    unsigned size = 2u * records.words;
+    at_case("%u places of %u words, %u added, a cut after %u bytes, and after %u at start-up", records.count, records.words, added, bytes,
+            bytes_at_start);
+    keep_so_many(added);
+    add(added + 1);
+    chip.bytes_left = bytes;
+    expect((keep_newest(&kept) == 0) == (bytes >= size + KEPT_HEADS), "keeping the record fails, or it does not");
+    expect(starts_up(bytes_at_start), "a copy is good");
+    expect(starts_up(NO_CUT), "a copy is good at the second start-up");
+    expect_number(CEDARSKEIN_DONE, cedarskein_ring_check(sheet, sizeof sheet, ring, kept.ring_n), "ring_check");
+    expect(memcmp(chip.heads, chip.heads + HEAD, HEAD) == 0, "both copies are alike again");
+    if (bytes >= size + HEAD)
+        expect(ring_is_of(added + 1), "the ring is that after: its first copy was written");
+    if (bytes <= size)
+        expect(ring_is_of(added) || (records.count == 1 && added > 0), "the ring is that before: no copy was begun");
+    if (bytes >= size && ring_is_of(added + 1))
+        expect_records(added + 1, records.count + 1u);
+    else if (ring_is_of(added))
+        expect_before(added, bytes);
+    else
+        expect(0, "the ring is that before or that after");
+}
+
+/* Rings that are empty, part full, full, and round again once and twice. */
+static void cuts(uint16_t count, uint16_t words)
+{
+    unsigned added, bytes, bytes_at_start;
+    start(count, words);
+    for (added = 0; added <= 2u * count + 1; added++)
+        for (bytes = 0; bytes <= 2u * words + KEPT_HEADS; bytes++)
+            for (bytes_at_start = 0; bytes_at_start <= HEAD; bytes_at_start++)
+                cut_after(added, bytes, bytes_at_start);
+}
+
+/* A ring that lies in lasting memory itself: the cut comes while the record is added, with any of what the call writes written, or later, while
+ * the copies are. What is in the two words then does not matter. */
+static void cut_in_place(unsigned added, unsigned bytes, int from_the_end)
+{
+    static uint8_t before[MOST_BYTES], after[MOST_BYTES];
+    size_t i, n = kept.ring_n;
+    at_case("a ring in lasting memory, %u places, %u added, %u bytes of it written from the %s", records.count, added, bytes,
+            from_the_end ? "end" : "front");
+    keep_so_many(added);
+    memcpy(before, ring, n);
+    add(added + 1);
+    memcpy(after, ring, n);
+    for (i = 0; i < n; i++)
+        ring[i] = (from_the_end ? n - 1 - i < bytes : i < bytes) ? after[i] : before[i];
+    expect(starts_up(NO_CUT), "a copy is good");
+    expect_number(CEDARSKEIN_DONE, cedarskein_ring_check(sheet, sizeof sheet, ring, n), "ring_check");
+    expect(ring_is_of(added), "the ring is that before");
+    expect_records(added, stored_at(added) == records.count ? records.count : records.count + 1u);
+}
+
+static void cuts_in_place(uint16_t count, uint16_t words)
+{
+    unsigned added, bytes;
+    start(count, words);
+    kept.records.load = NULL;
+    kept.records.store = NULL;
+    for (added = 0; added <= 2u * count + 1; added++)
+        for (bytes = 0; bytes <= kept.ring_n; bytes++) {
+            cut_in_place(added, bytes, 0);
+            cut_in_place(added, bytes, 1);
+        }
+    kept.records.load = load;
+    kept.records.store = store;
+}
+
+/* ---- The two words of the largest ring ---- */
+
+static void write_head(uint8_t *head, unsigned added)
+{
+    uint16_t value;
+    set_word(head, 0, (uint16_t)(added == 0 ? 0 : (added - 1) % records.count));
+    set_word(head, 1, (uint16_t)stored_at(added));
+    value = check_of(head, HEAD_SIZE);
+    head[HEAD_SIZE] = (uint8_t)(value & 0xFF);
+    head[HEAD_SIZE + 1] = (uint8_t)(value >> 8);
+}
+
+/* Each step of a ring of 6,600 from empty to round again, cut at each byte of a copy: where the check value agrees, the copy is whole. */
+static void every_head(void)
+{
+    uint8_t before[HEAD], after[HEAD], torn[HEAD];
+    unsigned added, bytes;
+    start(6600, 1);
+    for (added = 0; added <= 2 * 6600; added++)
+        for (bytes = 0; bytes <= HEAD; bytes++) {
+            write_head(before, added);
+            write_head(after, added + 1);
+            memcpy(torn, before, HEAD);
+            memcpy(torn, after, bytes);
+            at_case("the two words after %u additions, %u bytes of the next", added, bytes);
+            expect(check_of(torn, HEAD) != 0 || memcmp(torn, before, HEAD) == 0 || memcmp(torn, after, HEAD) == 0,
+                   "a torn copy's check value does not agree");
+        }
+}
+
+/* ---- Memory that was never written, copies that are spoiled, and stores that fail ---- */
+
+static void nothing_kept(uint8_t byte)
+{
+    at_case("memory full of %02X", byte);
+    start(3, 2);
+    memset(&chip, byte, sizeof chip);
+    chip.records_fail = 0;
+    expect(!starts_up(NO_CUT), "no copy is good");
+    expect_number(NO_CUT, chip.bytes_left, "bytes that may be written still: none was");
+    expect(ring_is_of(0), "the ring is empty");
+    expect_number(CEDARSKEIN_DONE, cedarskein_ring_check(sheet, sizeof sheet, ring, kept.ring_n), "ring_check");
+}
+
+/* One copy with any byte changed: the other is taken. Both: none is. A right check value does not make a ring sound. */
+static void spoiled(unsigned byte)
+{
+    uint8_t far[HEAD] = { 0, 3, 0, 3 };
+    at_case("byte %u of a copy is spoiled", byte);
+    start(3, 2);
+    keep_so_many(2);
+    chip.heads[byte] ^= 0x10;
+    expect(starts_up(NO_CUT) && ring_is_of(2), "the other copy is good");
+    expect(memcmp(chip.heads, chip.heads + HEAD, HEAD) == 0, "both copies are alike again");
+    chip.heads[byte] ^= 0x10;
+    chip.heads[(byte + HEAD) % KEPT_HEADS] ^= 0x01;
+    expect(!starts_up(NO_CUT) && ring_is_of(0), "no copy is good, and the ring is empty");
+    keep_so_many(2);
+    seal(far, HEAD);
+    memcpy(chip.heads, far, HEAD);
+    expect(starts_up(NO_CUT) && ring_is_of(2), "a copy of no sound ring is not taken");
+}
+
+/* A store that fails and no start-up behind it: the whole ring is written, and nothing is lost. */
+static void failed_store(unsigned added, unsigned bytes)
+{
+    at_case("a store that fails after %u bytes, %u added", bytes, added);
+    keep_so_many(added);
+    add(added + 1);
+    chip.bytes_left = bytes;
+    expect(keep_newest(&kept) != 0, "the failure is told");
+    chip.bytes_left = 0;
+    expect(keep_ring(&kept) != 0, "and told again");
+    chip.bytes_left = NO_CUT;
+    add(added + 2);
+    expect(keep_ring(&kept) == 0, "the ring is kept");
+    expect(starts_up(NO_CUT) && ring_is_of(added + 2), "the ring is that after");
+    expect_records(added + 2, records.count + 1u);
+}
+
+/* A record that was not stored is not counted. */
+static void failed_record(unsigned added)
+{
+    uint8_t heads[KEPT_HEADS];
+    at_case("the memory takes no record, %u added", added);
+    keep_so_many(added);
+    memcpy(heads, chip.heads, sizeof heads);
+    chip.records_fail = 1;
+    add(added + 1);
+    expect(keep_newest(&kept) != 0, "the failure is told");
+    expect(keep_ring(&kept) != 0, "and told again");
+    chip.records_fail = 0;
+    expect(memcmp(heads, chip.heads, sizeof heads) == 0, "neither copy was begun");
+    expect(starts_up(NO_CUT) && ring_is_of(added), "the ring is that before");
+    expect_records(added, records.count + 1u);
+}
+
+static void failed_stores(void)
+{
+    unsigned added, bytes;
+    start(3, 2);
+    for (added = 0; added < 8; added++)
+        failed_record(added);
+    for (added = 0; added < 8; added++)
+        for (bytes = 0; bytes < 4 + KEPT_HEADS; bytes++)
+            failed_store(added, bytes);
+}
+
+/* A copy ends with its check value as a frame does, low byte first: over both together the check value is 0. */
+static void copies_end_as_frames_do(void)
+{
+    at_case("a copy and its check value");
+    start(3, 2);
+    keep_so_many(2);
+    expect_number(0, cedarskein_check_value(chip.heads, HEAD), "the check value of the first copy and its own");
+    expect_number(0, cedarskein_check_value(chip.heads + HEAD, HEAD), "the check value of the second copy and its own");
+}
+
+int main(void)
+{
+    unsigned byte;
+    cuts(1, 1);
+    cuts(3, 2);
+    cuts(2, 47);
+    cuts_in_place(1, 2);
+    cuts_in_place(3, 2);
+    every_head();
+    nothing_kept(0xFF);
+    nothing_kept(0x00);
+    for (byte = 0; byte < KEPT_HEADS; byte++)
+        spoiled(byte);
+    failed_stores();
+    copies_end_as_frames_do();
+    return told("a power cut at every byte of an addition to a ring, and another at start-up");
+}
