@@ -116,12 +116,11 @@ static int refuse_sheet(const struct meter *meter, const char *path)
 /* An empty ring: zeros. A meter lasts as long as its program, so the memory is never given back. */
 static int make_empty_ring(struct meter *meter)
 {
-    struct record_area area = { 0, 0, 0 };
     meter->ring = NULL;
     meter->ring_n = 0;
     if (!has_history(meter))
         return 0;
-    area = history_of(meter);
+    struct record_area area = history_of(meter);
     meter->ring_n = 2 * (IN_FRONT_OF_RECORDS + (size_t)area.records * area.words);
     meter->ring = calloc(meter->ring_n, 1);
     return meter->ring ? 0 : -1;

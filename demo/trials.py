@@ -214,6 +214,9 @@ TRIALS = [
      f"status 2: there is no sheet aswe 45. SHEET= takes the name of a file, or one of: {why_trials.SHORT_NAMES}"),
     ("a sheet of three", lambda _: told_by_make("SHEET=aswe"),
      "status 2: more than one sheet begins with aswe. SHEET= takes one of: aswe_40 aswe_50 aswe_80"),
+    ("a ring's file by make", lambda bench: told_by_make("RING=" + bench.path("a ring")).replace(bench.folder + "/", ""),
+     f"status 2: the ring's file a ring: {history_trials.NO_HISTORY}. {LEFT}"),
+    ("seconds by make", lambda _: told_by_make("SHEET=history", "EVERY=5 s"), "status 2: EVERY takes a number of seconds, 1 to 86400, and not 5 s"),
     ("a name that is empty", lambda _: told_by_make("LINK="), "status 2: empty: LINK. Give each a name, or leave it out.  Stop."),
     ("a name that is misspelt", lambda _: told_by_make("LNK=x"), "status 2: make meter takes no LNK. It takes: SHEET LINK BANK RING EVERY.  Stop."),
 ]
