@@ -47,7 +47,8 @@ def steps_of_mbpoll_records(master, _):
 
 
 def steps_of_pymodbus_records(master, _):
-    """pymodbus takes as many bytes off the line as the count that is asked for has, and shows no record, unless it is told how many come."""
+    """pymodbus takes as many bytes off the line as the count that is asked for has, and shows no record, unless it is told how many come. The rest is
+    there already, as a pseudo-terminal has it, and pymodbus throws it away ahead of the next frame; at the pace of a wire it would still be coming."""
     return [
         ("0400 by a plain read, which pymodbus cannot decode", lambda: master.read_record_plainly(0x0400), NOT_DECODED),
         (".. the next read is as ever", lambda: master.read(0x0107, 2), "0001 0001"),
