@@ -1,15 +1,18 @@
 # Cedarskein: `make test` is the whole verdict. `make` alone says what there is.
 KIT := rattle-kit-5b-plain logic 097e4c862dff5811
 # For `make meter` and `make why`: the sheet, by the name of a file or the short name of one in sheets/, of which the beginning is enough; the file of
-# the bank. For `make meter` another name for its line. For `make why` a frame in hex.
+# the bank, and with a sheet that has a history, that of the ring. For `make meter` another name for its line, and the seconds from one record of the
+# history to the next. For `make why` a frame in hex.
 SHEET := ux15_25
 LINK :=
 BANK :=
+RING :=
+EVERY :=
 FRAME :=
 # For `make install` and `make uninstall`, as they are used elsewhere.
 PREFIX := /usr/local
 DESTDIR :=
-export SHEET LINK BANK FRAME PREFIX DESTDIR
+export SHEET LINK BANK RING EVERY FRAME PREFIX DESTDIR
 include host/toolchain.mk
 
 # The names that were given on the command line. Make lets one pass that nobody uses, or that is empty, and the user wonders: so a target that takes
@@ -27,9 +30,11 @@ takes = $(if $(UNKNOWN),$(error make $@ takes no $(UNKNOWN). It takes: $(1)))$(i
 help:
 	@echo "make demo      a new limit comes back with error 03: what is in the meter now, and why"
 	@echo "make test      the whole verdict: what docs/CLAIMS.md cites, the archive in C programs, then the gate: every proof, must-fail edit and program"
-	@echo "make meter     a simulated meter on a pseudo-terminal; SHEET=NAME is its sheet, LINK=NAME another name for its line, BANK=FILE keeps its bank"
+	@echo "make meter     a simulated meter on a pseudo-terminal; SHEET=NAME is its sheet, LINK=NAME another name for its line, BANK=FILE keeps its bank;"
+	@echo "               with a sheet that has a history, as history, RING=FILE keeps it, and EVERY=SECONDS is the time from one record to the next"
 	@echo "make why       why a meter is silent or answers with an error; FRAME=\"01 06 ..\" is a frame in hex, without it each line of standard input is one;"
-	@echo "               SHEET=NAME is the meter's sheet, BANK=FILE its bank, else a fresh one: every frame is judged with it as it is, and none changes it"
+	@echo "               SHEET=NAME is the meter's sheet, BANK=FILE its bank, else a fresh one, RING=FILE its history, else an empty one: every frame is judged"
+	@echo "               with them as they are, and none changes them"
 	@echo "make interop   two Modbus masters, mbpoll and pymodbus's client, at the simulated meter"
 	@echo "make registers the makers' registers by name: docs/REGISTERS.md, sheets/registers.csv, constants of C, from the sheets and tools/registers.txt"
 	@echo "make host      the archive in C programs, alone"
@@ -75,13 +80,13 @@ demo demo-check interop: kit
 
 # The meter is this make's own child: it ends well at Ctrl-C, and so no make has an error to tell of.
 meter: kit
-	@$(call takes,SHEET LINK BANK)$(MAKE) -s -C demo meter-built
+	@$(call takes,SHEET LINK BANK RING EVERY)$(MAKE) -s -C demo meter-built
 	@exec demo/meter.sh $(RUN) target/demo/meter
 
 # Standard input is the capture's, so nothing else may read it, and standard output has the sentences alone. As for `make install`, the archive that is
 # there serves.
 why:
-	@$(call takes,SHEET BANK FRAME)$(MAKE) -s -C demo why-built </dev/null >&2
+	@$(call takes,SHEET BANK RING FRAME)$(MAKE) -s -C demo why-built </dev/null >&2
 	@exec demo/why.sh $(RUN) target/demo/why
 
 # What is installed is the archive that is there, built anew only where a crate is newer: so `sudo make install` has nothing to prove.

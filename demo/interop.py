@@ -1,9 +1,10 @@
 #!/usr/bin/python3
 """Two masters that know nothing of this repository, mbpoll and pymodbus's client, at the simulated meter.
 
-  interop.py [--run RUN] UX ASWE METER              plays the steps, which are those of the UX15/25 sheet and of AS-WE, bore 40
-  interop.py [--run RUN] --wrong UX ASWE METER...   plays them at meters that are wrong: each step must fail at one of these; with
-                                                    --only TEXT, each step whose text has TEXT
+  interop.py [--run RUN] UX ASWE HISTORY METER              plays the steps, which are those of the UX15/25 sheet, of AS-WE, bore 40, and of the
+                                                            example of a history
+  interop.py [--run RUN] --wrong UX ASWE HISTORY METER...   plays them at meters that are wrong: each step must fail at one of these; with
+                                                            --only TEXT, each step whose text has TEXT
 
 Each step has its expected result. A step that comes out otherwise is shown with both, and the exit status is 1.
 RUN is put in front of METER where it needs an emulator.
@@ -12,85 +13,14 @@ import argparse
 import contextlib
 import os
 import re
-import signal
 import subprocess
 import sys
-import tempfile
-import time
 
+from history_steps import steps_of_growing, steps_of_history
 from masters import Mbpoll, Pymodbus, damaged, send_raw, with_check
+from played_meter import UNCHANGED, GrowingHistory, Meter, StandingHistory, at_new_line, refused
 
 README = os.path.join(os.path.dirname(os.path.abspath(__file__)), "..", "README.md")
-FRAME_COLUMNS = 38
-
-
-class Meter:
-    """The simulated meter, with a bank that is fresh at first and kept in a file, on a line named by a link."""
-
-    def __init__(self, command, sheet):
-        self.folder = tempfile.TemporaryDirectory()
-        self.screen = os.path.join(self.folder.name, "screen")
-        self.command = [*command, "-b", os.path.join(self.folder.name, "bank")]
-        self.sheet = sheet
-        self.start("meter")
-
-    def start(self, name):
-        self.link = os.path.join(self.folder.name, name)
-        with open(self.screen, "w", encoding="ascii") as screen:
-            self.process = subprocess.Popen([*self.command, "-l", self.link, self.sheet], stdout=screen)
-
-    def __enter__(self):
-        self.wait_for_line()
-        return self
-
-    def __exit__(self, *_):
-        if self.process.poll() is None:
-            self.process.kill()
-            self.process.wait()
-        self.folder.cleanup()
-
-    def wait_for_line(self):
-        deadline = time.monotonic() + 10
-        while "meter on" not in self.lines()[-1]:
-            if self.process.poll() is not None or time.monotonic() > deadline:
-                self.__exit__()
-                sys.exit("the simulated meter did not start")
-            time.sleep(0.02)
-
-    def lines(self):
-        with open(self.screen, encoding="ascii") as screen:
-            return screen.read().splitlines() or [""]
-
-    def last_line(self):
-        return " ".join(self.lines()[-1].split())
-
-    def told(self):
-        """What the screen says became of the last frame, behind what it says the frame was."""
-        frames = [line for line in self.lines() if line.startswith("station ")] or [""]
-        return frames[-1][FRAME_COLUMNS:].strip()
-
-    def told_of_next(self, deed):
-        """What the screen says of a frame that its master does not wait for."""
-        before = len(self.lines())
-        deed()
-        deadline = time.monotonic() + 2
-        while len(self.lines()) == before and time.monotonic() < deadline:
-            time.sleep(0.02)
-        return self.told()
-
-    def switch_off(self):
-        """Ctrl-C: how the meter ended, and whether its link is gone."""
-        self.process.send_signal(signal.SIGINT)
-        status = self.process.wait(timeout=10)
-        link = "link left behind" if os.path.lexists(self.link) else "link gone"
-        return f"status {status}, {link}"
-
-    def switch_off_and_on(self):
-        """The same bank on another line: how the meter ended before."""
-        said = self.switch_off()
-        self.start("meter again")
-        self.wait_for_line()
-        return said
 
 
 def judge_readings(said):
@@ -121,16 +51,10 @@ def at_rate(master, rate, deed):
     return deed()
 
 
-def refused(meter, text, deed, expected, told):
-    """A frame that gets an error or silence, and why, as the meter's screen has it."""
-    return [(text, deed, expected), (".. the meter's screen tells why", meter.told, told)]
-
-
 FRESH = "FFF6 0000 0000 0000 0000 0000 0000 0000 0000 0001 0000 0000 0000 0001 0001" + 8 * " 0000"
 # From 0100 on: what the steps up to those of pairs have written, and an AS-WE that is fresh but for 0101.
 WRITTEN = "FFFB 0003 0000 0001 869F 0000 0000 0000 0000 0001 0000 0000 0000 0001 0001 0001 1388" + 6 * " 0000"
 WRITTEN_ASWE = "0000 0003 0000 0000 0000 0001 0320 0001 0001 0000"
-UNCHANGED = "; nothing changed"
 BROADCAST = "the frame is for station 0, the broadcast, which is neither answered nor acted on"
 NO_METERS = "the frame is for station {}, which no meter has: stations are 1 to 247"
 LIMIT = "it takes 0 to 99999 (0.0 to 9999.9 m3/h)"
@@ -308,11 +232,6 @@ def steps_of_aswe(master, meter):
     ]
 
 
-def at_new_line(master, meter, deed):
-    master.link = meter.link
-    return deed()
-
-
 def steps_of_keeping(master, meter):
     def read():
         return master.read(0x0103, 2)
@@ -326,10 +245,9 @@ def steps_of_keeping(master, meter):
 
 
 def run_command(command, link):
-    """What a command of the README writes at this meter, its blanks made one."""
-    done = subprocess.run(command.replace("/tmp/meter", link).split(), stdout=subprocess.PIPE, stderr=subprocess.STDOUT, text=True,
-                          check=False)
-    return " ".join(done.stdout.split())
+    """What a command of the README writes at this meter, its blanks made one, and a message last, as it comes at a terminal."""
+    done = subprocess.run(command.replace("/tmp/meter", link).split(), capture_output=True, text=True, check=False)
+    return " ".join((done.stdout + done.stderr).split())
 
 
 def between(text, marker):
@@ -362,15 +280,33 @@ def steps_of_readme(meter):
     ]
 
 
+def steps_of_readme_history(meter):
+    """The same of the README's history. Its numbers are another meter's: only their form is compared."""
+    with open(README, encoding="utf-8") as page:
+        text = page.read().partition("## Read a history\n")[2].partition("\n## ")[0]
+    (command, shown), = re.findall(r"^    \$ (mbpoll .*)\n((?:    (?!\$).*\n)*)", text, re.M)
+    screen = re.findall(r"^    (station .*|        +record \d+ of .*)$", text, re.M)
+
+    def form(said):
+        return re.sub(r"\b[0-9A-F]+\b", "N", said)
+
+    return [
+        (command, lambda: meter.with_records(3, lambda: run_command(command, meter.link)), " ".join(shown.split())),
+        ("the meter's screen", lambda: form("\n".join(meter.lines()[-len(screen):])), form("\n".join(screen))),
+        ("the program for pymodbus", lambda: form(run_program(between(text, "pymodbus record"), meter.link)),
+         form(between(text, "what it prints of a record"))),
+    ]
+
+
 def play(name, steps):
     """The numbers of the steps that came out otherwise than expected."""
     differing = set()
     for number, (text, deed, expected) in enumerate(steps):
         result = deed()
-        print(f"{name:9} {text}: {result}", flush=True)
+        print(f"{name:{WIDTH}} {text}: {result}", flush=True)
         if result != expected:
             differing.add(number)
-            print(f"DIFFERS   {name}: {text}: expected {expected}", flush=True)
+            print(f"{'DIFFERS':{WIDTH}} {name}: {text}: expected {expected}", flush=True)
     return differing
 
 
@@ -382,29 +318,37 @@ def steps_of_master(master, meter):
     ]
 
 
-# Each part: the meter's sheet, the master that plays it, and its steps. The README's commands bring their own.
+# Each part: the meter and its sheet, the master that plays it, and its steps. The README's commands bring their own.
 PARTS = {
-    "mbpoll": ("ux", Mbpoll, steps_of_master),
-    "pymodbus": ("ux", Pymodbus, lambda master, meter: [*steps_of_master(master, meter), *steps_of_broadcast(master, meter)]),
-    "AS-WE": ("aswe", Pymodbus, steps_of_aswe),
-    "kept": ("ux", Mbpoll, steps_of_keeping),
-    "README": ("ux", contextlib.nullcontext, lambda _, meter: steps_of_readme(meter)),
+    "mbpoll": (Meter, "ux", Mbpoll, steps_of_master),
+    "pymodbus": (Meter, "ux", Pymodbus, lambda master, meter: [*steps_of_master(master, meter), *steps_of_broadcast(master, meter)]),
+    "AS-WE": (Meter, "aswe", Pymodbus, steps_of_aswe),
+    "kept": (Meter, "ux", Mbpoll, steps_of_keeping),
+    "README": (Meter, "ux", contextlib.nullcontext, lambda _, meter: steps_of_readme(meter)),
+    "history, mbpoll": (StandingHistory, "history", Mbpoll, steps_of_history),
+    "history, pymodbus": (StandingHistory, "history", Pymodbus, steps_of_history),
+    "history, growing": (GrowingHistory, "history", Pymodbus, steps_of_growing),
+    "README, history": (GrowingHistory, "history", contextlib.nullcontext, lambda _, meter: steps_of_readme_history(meter)),
 }
 
 
-def play_part(name, command, sheets):
-    """The steps of one part at a meter of its own: their texts, and the numbers of those that differ."""
-    sheet, master_of, steps_of = PARTS[name]
-    with Meter(command, sheets[sheet]) as meter, master_of(meter.link) as master:
+WIDTH = max(map(len, PARTS))
+
+
+def play_part(name, command, sheets, only):
+    """The steps of one part at a meter of its own: their texts, and the numbers of those that differ. A part of which no step has a text is left out."""
+    meter_of, sheet, master_of, steps_of = PARTS[name]
+    with meter_of(command, sheets[sheet]) as meter, master_of(meter.link) as master:
         steps = [*steps_of(master, meter), ("the meter is switched off", meter.switch_off, "status 0, link gone")]
-        return [f"{name}: {text}" for text, _, _ in steps], play(name, steps)
+        texts = [f"{name}: {text}" for text, _, _ in steps]
+        return texts, play(name, steps) if any(only in text for text in texts) else set()
 
 
-def play_all(command, sheets):
+def play_all(command, sheets, only):
     """Every step, and every step that differs, as (number, text)."""
     every, differing = [], []
     for name in PARTS:
-        texts, numbers = play_part(name, command, sheets)
+        texts, numbers = play_part(name, command, sheets, only)
         differing += [(len(every) + number, texts[number]) for number in numbers]
         every += list(enumerate(texts, len(every)))
     return every, differing
@@ -432,11 +376,12 @@ def main():
     words_given.add_argument("--only", default="", metavar="TEXT", help="of the steps, those whose text has TEXT")
     words_given.add_argument("ux")
     words_given.add_argument("aswe")
+    words_given.add_argument("history")
     words_given.add_argument("meters", nargs="+")
     given = words_given.parse_args()
     every, differing = [], []
     for meter in given.meters:
-        every, found = play_all([*given.run.split(), meter], {"ux": given.ux, "aswe": given.aswe})
+        every, found = play_all([*given.run.split(), meter], {"ux": given.ux, "aswe": given.aswe, "history": given.history}, given.only)
         differing += found
     return judge_wrong(every, differing, given.only) if given.wrong else judge(every, differing)
 

@@ -1,13 +1,17 @@
 """The masters: mbpoll, pymodbus's client, and frames that no master would send. What a frame came to is said in words:
 the registers in hex, "done", "error 1" to "error 3", or "silence".
 
-A master's sender_to_any_station() reads, writes and clears at the stations that no meter has, 0 and 248 to 255."""
+A master's sender_to_any_station() reads, writes and clears at the stations that no meter has, 0 and 248 to 255.
+
+A reply with a history record has more words than were asked for, which is not as Modbus has it. What each master makes of it is its own."""
 import re
 import subprocess
+import time
 
 import serial
 from pymodbus.client import ModbusSerialClient
 from pymodbus.exceptions import ModbusIOException
+from pymodbus.register_read_message import ReadHoldingRegistersRequest
 from pymodbus.utilities import computeCRC
 
 TIMEOUT = 1  # second that a master waits, a whole number for pymodbus; the meter replies within milliseconds
@@ -21,7 +25,7 @@ class Mbpoll:
     """One run of the command mbpoll for each frame. Between two of them nothing is open."""
 
     ERRORS = {"Illegal function": "error 1", "Illegal data address": "error 2", "Illegal data value": "error 3",
-              "Connection timed out": "silence"}
+              "Connection timed out": "silence", "failed: Invalid data": "invalid data"}
 
     def __init__(self, link):
         self.link = link
@@ -34,11 +38,19 @@ class Mbpoll:
     def __exit__(self, *_):
         pass
 
-    def run(self, table, address, *words_of_command):
-        """What mbpoll says, -0 so that it counts registers from 0 as the meter's documents do."""
-        command = ["mbpoll", "-m", "rtu", "-a", str(self.station), "-b", str(self.rate), "-P", "none", "-0", "-1", "-q",
+    def move(self, link):
+        """From now on at another line."""
+        self.link = link
+
+    def started(self, table, address, *words_of_command):
+        """mbpoll when it is done, -0 so that it counts registers from 0 as the meter's documents do."""
+        command = ["mbpoll", "-m", "rtu", "-a", str(self.station), "-b", str(self.rate), "-P", "none", "-0", "-1",
                    "-o", str(TIMEOUT), "-t", table, "-r", str(address)]
-        done = subprocess.run([*command, *words_of_command], capture_output=True, text=True, check=False)
+        return subprocess.run([*command, *words_of_command], capture_output=True, text=True, check=False)
+
+    def run(self, table, address, *words_of_command):
+        """What mbpoll says."""
+        done = self.started(table, address, "-q", *words_of_command)
         for message, result in self.ERRORS.items():
             if message in done.stderr:
                 return result
@@ -57,6 +69,13 @@ class Mbpoll:
     def read_input(self, address, count):
         return self.read(address, count, "3:hex")
 
+    def bytes_read(self, address):
+        """The bytes that came back to a read of one register, which mbpoll shows with -v, and what its library says of their number."""
+        done = self.started("4:hex", address, "-v", self.link)
+        came = " ".join(re.findall(r"<([0-9A-F]{2})>", done.stdout))
+        said = re.search(r"Message length .*", done.stderr)
+        return f"{came or 'silence'}; {said.group() if said else 'nothing is said of their number'}"
+
     def write(self, address, *values):
         said = self.run("4", address, self.link, *map(str, values))
         return "done" if f"Written {len(values)} references." in said else said
@@ -64,6 +83,15 @@ class Mbpoll:
     def clear(self, address, value):
         said = self.run("0", address, self.link, str(value))
         return "done" if "Written 1 references." in said else said
+
+
+class ReadRecord(ReadHoldingRegistersRequest):
+    """A read whose reply has the words of a record, and not as many as are asked for. pymodbus takes as many bytes off the line as this says."""
+
+    words = 22
+
+    def get_response_pdu_size(self):
+        return 2 + 2 * self.words
 
 
 class Pymodbus:
@@ -93,6 +121,11 @@ class Pymodbus:
         self.client.close()
         self.connect(rate)
 
+    def move(self, link):
+        """From now on at another line."""
+        self.link = link
+        self.rate = self.rate
+
     def sender_to_any_station(self):
         """pymodbus sends to each of them, 0 too, and waits for a reply as from any other."""
         return self
@@ -113,6 +146,17 @@ class Pymodbus:
 
     def read(self, address, count):
         reply = self.client.read_holding_registers(address, count, slave=self.station)
+        return self.result(reply, lambda good: words(good.registers))
+
+    def read_record_plainly(self, address):
+        """A read that leaves most of a record on the line. pymodbus says of it what it says of silence, but does not wait: so that is told too."""
+        begin = time.monotonic()
+        reply = self.client.read_holding_registers(address, 1, slave=self.station)
+        said = str(reply) if reply.isError() else words(reply.registers)
+        return f"{said}, {'at once' if time.monotonic() - begin < TIMEOUT else 'after a wait'}"
+
+    def read_record(self, address):
+        reply = self.client.execute(ReadRecord(address, 1, self.station))
         return self.result(reply, lambda good: words(good.registers))
 
     def read_input(self, address, count):

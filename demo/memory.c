@@ -1,15 +1,19 @@
-/* What a meter remembers: its sheet, read from a file, and its bank. */
+/* What a meter remembers: its sheet, read from a file, its bank and its history. */
 #include "memory.h"
 
 #include <errno.h>
 #include <stdio.h>
+#include <stdlib.h>
 #include <string.h>
 
 #include "frame.h"
 
-/* Words of the sheet's header, and the words of the header, of an area row and of an item row, by document 01. */
-enum { AREAS = 1, ITEMS = 3, ITEM_ROWS = 4, BANK_WORDS = 5, FUNCTIONS = 6, PLACE_OF_STATION = 8, PLACE_OF_RATE = 9, CLEAR_ADDRESS = 10 };
-enum { HEADER = 12, AREA_ROW = 4, ITEM_ROW = 6 };
+/* Words of the sheet's header, and the words of the header, of an area row and of an item row, by document 01; those of a record area and in front of a
+   ring's records, by request W3 of document 02. */
+enum { AREAS = 1, ITEMS = 3, ITEM_ROWS = 4, BANK_WORDS = 5, FUNCTIONS = 6, SHEET_WORDS = 7, PLACE_OF_STATION = 8, PLACE_OF_RATE = 9, CLEAR_ADDRESS = 10,
+       HAS_RECORDS = 11 };
+enum { HEADER = 12, AREA_ROW = 4, ITEM_ROW = 6, RECORD_AREA = 3 };
+enum { NEWEST = 0, STORED = 1, IN_FRONT_OF_RECORDS = 2, MOST_RECORDS = 6600 };
 
 unsigned word_at(const uint8_t *bytes, size_t number)
 {
@@ -78,28 +82,63 @@ static int only_stations_are_bad(const struct meter *meter, struct item *station
         && cedarskein_sheet_check(mended.sheet, mended.sheet_n) == CEDARSKEIN_DONE;
 }
 
-/* AS-WE sheets from before version 1.3 have stations 0 to 255 and no other fault, which is worth its own words. */
+/* Whether a sheet with a record area would be good without it. The area is the sheet's last words. */
+static int only_records_are_bad(const struct meter *meter)
+{
+    struct meter without = *meter;
+    if (meter->sheet_n < 2 * (HEADER + RECORD_AREA) || !has_history(meter) || meter->sheet_n != 2 * (size_t)word_at(meter->sheet, SHEET_WORDS))
+        return 0;
+    without.sheet_n -= 2 * RECORD_AREA;
+    store_word(without.sheet, SHEET_WORDS, word_at(meter->sheet, SHEET_WORDS) - RECORD_AREA);
+    store_word(without.sheet, HAS_RECORDS, 0);
+    return cedarskein_sheet_check(without.sheet, without.sheet_n) == CEDARSKEIN_DONE;
+}
+
+/* AS-WE sheets from before version 1.3 have stations 0 to 255 and no other fault, which is worth its own words; so is a record area. */
 static int refuse_sheet(const struct meter *meter, const char *path)
 {
     struct item stations;
-    char why[160];
-    if (!only_stations_are_bad(meter, &stations))
-        return refuse(path, "no sheet: it breaks a rule of document 01");
-    snprintf(why, sizeof why, "no sheet: its stations are %lu to %lu; they must lie within %d to %d, as those of the files in sheets/ do",
-             (unsigned long)stations.low, (unsigned long)stations.high, FIRST_STATION, LAST_STATION);
-    return refuse(path, why);
+    char why[240];
+    if (only_stations_are_bad(meter, &stations)) {
+        snprintf(why, sizeof why, "no sheet: its stations are %lu to %lu; they must lie within %d to %d, as those of the files in sheets/ do",
+                 (unsigned long)stations.low, (unsigned long)stations.high, FIRST_STATION, LAST_STATION);
+        return refuse(path, why);
+    }
+    if (only_records_are_bad(meter)) {
+        struct record_area area = history_of(meter);
+        snprintf(why, sizeof why, "no sheet: its history is %u records of %u words from %04X on; it must be 1 to %d records of 1 to %d words, at "
+                 "addresses up to FFFF that nothing else has", area.records, area.words, area.first, MOST_RECORDS, LONGEST_RECORD);
+        return refuse(path, why);
+    }
+    return refuse(path, "no sheet: it breaks a rule of document 01");
+}
+
+/* An empty ring: zeros. A meter lasts as long as its program, so the memory is never given back. */
+static int make_empty_ring(struct meter *meter)
+{
+    meter->ring = NULL;
+    meter->ring_n = 0;
+    if (!has_history(meter))
+        return 0;
+    struct record_area area = history_of(meter);
+    meter->ring_n = 2 * (IN_FRONT_OF_RECORDS + (size_t)area.records * area.words);
+    meter->ring = calloc(meter->ring_n, 1);
+    return meter->ring ? 0 : -1;
+}
+
+int set_up_meter(struct meter *meter, const char *name)
+{
+    if (cedarskein_sheet_check(meter->sheet, meter->sheet_n) != CEDARSKEIN_DONE)
+        return refuse_sheet(meter, name);
+    meter->bank_n = 2 * bank_word_count(meter) + 2;
+    if (cedarskein_bank_fresh(meter->sheet, meter->sheet_n, meter->bank, meter->bank_n) != CEDARSKEIN_DONE)
+        return refuse(name, "the bank has not 2B + 2 bytes");
+    return make_empty_ring(meter) == 0 ? 0 : refuse(name, "there is no memory for its history");
 }
 
 int load_meter(struct meter *meter, const char *path)
 {
-    if (read_sheet(meter, path) != 0)
-        return -1;
-    if (cedarskein_sheet_check(meter->sheet, meter->sheet_n) != CEDARSKEIN_DONE)
-        return refuse_sheet(meter, path);
-    meter->bank_n = 2 * bank_word_count(meter) + 2;
-    if (cedarskein_bank_fresh(meter->sheet, meter->sheet_n, meter->bank, meter->bank_n) != CEDARSKEIN_DONE)
-        return refuse(path, "the bank has not 2B + 2 bytes");
-    return 0;
+    return read_sheet(meter, path) == 0 ? set_up_meter(meter, path) : -1;
 }
 
 unsigned area_count(const struct meter *meter)
@@ -128,6 +167,38 @@ unsigned place_of(const struct meter *meter, unsigned address)
     while (number + 1 < area_count(meter) && area_at(meter, number + 1).first <= address)
         number++;
     return area_at(meter, number).place + address - area_at(meter, number).first;
+}
+
+int has_history(const struct meter *meter)
+{
+    return word_at(meter->sheet, HAS_RECORDS) == 1;
+}
+
+struct record_area history_of(const struct meter *meter)
+{
+    const uint8_t *row = meter->sheet + 2 * (word_at(meter->sheet, SHEET_WORDS) - RECORD_AREA);
+    struct record_area area = { word_at(row, 0), word_at(row, 1), word_at(row, 2) };
+    return area;
+}
+
+int lies_in_history(const struct meter *meter, unsigned address)
+{
+    if (!has_history(meter))
+        return 0;
+    struct record_area area = history_of(meter);
+    return area.first <= address && address < area.first + area.records;
+}
+
+unsigned records_stored(const struct meter *meter)
+{
+    return word_at(meter->ring, STORED);
+}
+
+const uint8_t *record_numbered(const struct meter *meter, unsigned number)
+{
+    struct record_area area = history_of(meter);
+    unsigned place = (word_at(meter->ring, NEWEST) + area.records - (number - 1)) % area.records;
+    return meter->ring + 2 * (IN_FRONT_OF_RECORDS + (size_t)place * area.words);
 }
 
 struct item item_from(const struct meter *meter, unsigned place)

@@ -1,6 +1,7 @@
 /* A simulated meter: a pseudo-terminal that answers as the library does, with readings that change.
-   usage: meter [-l LINK] [-b BANK] SHEET
-   LINK becomes a symbolic link to the pseudo-terminal as long as the meter runs. BANK is a file that keeps the bank from one run to the next. */
+   usage: meter [-l LINK] [-b BANK] [-r RING] [-e EVERY] SHEET
+   LINK becomes a symbolic link to the pseudo-terminal as long as the meter runs. BANK is a file that keeps the bank from one run to the next. With a
+   sheet that has a history, RING is a file that keeps it, and a record is added every EVERY seconds, 5 where nothing is said. */
 #define _XOPEN_SOURCE 700
 #include <poll.h>
 #include <signal.h>
@@ -15,15 +16,22 @@
 #include "link.h"
 #include "memory.h"
 #include "readings.h"
+#include "records.h"
+#include "ring_file.h"
 #include "telling.h"
 
 #define SECONDS_OF_AN_HOUR 3600
+#define SECONDS_OF_A_DAY 86400
+#define EVERY_FEW_SECONDS 5
 
 struct simulation {
     struct meter meter;
     struct bank_file bank;
+    struct ring_file ring;
     struct line line;
     unsigned frames;
+    /* The seconds from one record to the next. */
+    unsigned every;
 };
 
 static volatile sig_atomic_t switched_off;
@@ -70,8 +78,8 @@ static void answer_frame(struct simulation *simulation, const uint8_t *frame, si
     struct meter before = *meter;
     uint8_t reply[CEDARSKEIN_LEAST_OUT];
     uint32_t length, rate;
-    uint32_t number = cedarskein_answer(meter->sheet, meter->sheet_n, meter->bank, meter->bank_n, frame, n, reply, sizeof reply,
-                                        &length, &rate);
+    uint32_t number = cedarskein_answer(meter->sheet, meter->sheet_n, meter->bank, meter->bank_n, meter->ring, meter->ring_n, frame, n,
+                                        reply, sizeof reply, &length, &rate);
     if (number == CEDARSKEIN_DONE) {
         struct exchange exchange = { frame, n, reply, length, rate };
         reply_to_frame(simulation, &before, &exchange);
@@ -100,6 +108,8 @@ static void pass_second(struct simulation *simulation, struct readings *readings
     forget_old_reply(&simulation->line);
     if (readings->second % SECONDS_OF_AN_HOUR == 0)
         keep_bank_readings(&simulation->bank);
+    if (has_history(&simulation->meter) && readings->second % simulation->every == 0 && add_next_record(readings, &simulation->meter) == 0)
+        keep_ring(&simulation->ring);
 }
 
 static void run(struct simulation *simulation)
@@ -119,22 +129,49 @@ static void run(struct simulation *simulation)
 }
 
 struct names {
-    const char *sheet, *link, *bank;
+    const char *sheet, *link, *bank, *ring, *every;
 };
+
+/* Where the name for an option's letter goes; NULL for any other letter. */
+static const char **name_of(struct names *names, int letter)
+{
+    switch (letter) {
+    case 'l': return &names->link;
+    case 'b': return &names->bank;
+    case 'r': return &names->ring;
+    case 'e': return &names->every;
+    default: return NULL;
+    }
+}
 
 /* The names of the command line. Says how it is used, and ends the program, where it is used otherwise. */
 static struct names names_given(int argc, char **argv)
 {
-    struct names names = { NULL, NULL, NULL };
-    int letter = getopt(argc, argv, "l:b:");
-    for (; letter == 'l' || letter == 'b'; letter = getopt(argc, argv, "l:b:"))
-        *(letter == 'l' ? &names.link : &names.bank) = optarg;
+    struct names names = { NULL, NULL, NULL, NULL, NULL };
+    int letter = getopt(argc, argv, "l:b:r:e:");
+    for (; name_of(&names, letter); letter = getopt(argc, argv, "l:b:r:e:"))
+        *name_of(&names, letter) = optarg;
     if (letter != -1 || optind + 1 != argc) {
-        fprintf(stderr, "usage: meter [-l LINK] [-b BANK] SHEET\n");
+        fprintf(stderr, "usage: meter [-l LINK] [-b BANK] [-r RING] [-e EVERY] SHEET\n");
         exit(1);
     }
     names.sheet = argv[optind];
     return names;
+}
+
+/* The seconds from one record to the next. Hands back -1, and says what is wrong, where they are no such number. */
+static int take_every(struct simulation *simulation, const char *every)
+{
+    char *end = NULL;
+    unsigned long seconds = every ? strtoul(every, &end, 10) : EVERY_FEW_SECONDS;
+    simulation->every = (unsigned)seconds;
+    if (every && !has_history(&simulation->meter))
+        fprintf(stderr, "EVERY is for a history, and this meter's sheet has none: leave it out\n");
+    else if (every && (*every < '0' || '9' < *every || *end != '\0' || seconds < 1 || SECONDS_OF_A_DAY < seconds))
+        fprintf(stderr, "EVERY takes a number of seconds, 1 to %d, and not %s\n", SECONDS_OF_A_DAY, every);
+    else
+        return 0;
+    return -1;
 }
 
 static void take_line_down(struct simulation *simulation, const struct names *names)
@@ -144,19 +181,30 @@ static void take_line_down(struct simulation *simulation, const struct names *na
     close_line(&simulation->line);
 }
 
-/* A fresh bank whose mark is set, which gives a clear something to do; or the bank that was kept. */
+/* A fresh bank whose mark is set, which gives a clear something to do, and an empty ring; or those that were kept. */
 static int switch_on(struct simulation *simulation, const struct names *names)
 {
     struct meter *meter = &simulation->meter;
-    if (load_meter(meter, names->sheet) != 0)
+    if (load_meter(meter, names->sheet) != 0 || take_every(simulation, names->every) != 0)
         return -1;
     cedarskein_set_mark(meter->sheet, meter->sheet_n, meter->bank, meter->bank_n, 1);
     open_line(&simulation->line);
     if ((!names->link || make_link(simulation->line.name, names->link) == 0)
-        && (!names->bank || open_bank(&simulation->bank, meter, names->bank) == 0))
+        && (!names->bank || open_bank(&simulation->bank, meter, names->bank) == 0)
+        && (!names->ring || open_ring(&simulation->ring, meter, names->ring) == 0))
         return 0;
     take_line_down(simulation, names);
     return -1;
+}
+
+static void tell_history(const struct simulation *simulation)
+{
+    if (!has_history(&simulation->meter))
+        return;
+    struct record_area area = history_of(&simulation->meter);
+    printf("history at %04X to %04X, %u words to a record, the newest at %04X; stored: %u; one more every %u second%s\n", area.first,
+           area.first + area.records - 1, area.words, area.first, records_stored(&simulation->meter), simulation->every,
+           simulation->every == 1 ? "" : "s");
 }
 
 int main(int argc, char **argv)
@@ -167,11 +215,13 @@ int main(int argc, char **argv)
     heed_signals();
     if (switch_on(&simulation, &names) != 0)
         return 1;
+    tell_history(&simulation);
     printf("meter on %s, station %u at %s, 8 data bits, no parity, 1 stop bit; Ctrl-C ends it\n",
            names.link ? names.link : simulation.line.name, station_of(&simulation.meter), bit_rate(rate_of(&simulation.meter)));
     run(&simulation);
     take_line_down(&simulation, &names);
     close_bank(&simulation.bank);
+    close_ring(&simulation.ring);
     printf("meter off after %u frames\n", simulation.frames);
     return 0;
 }

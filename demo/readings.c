@@ -4,6 +4,7 @@
 #include <stdio.h>
 
 #include "cedarskein_registers.h"
+#include "records.h"
 #include "registers.h"
 
 /* The flow rises for five minutes and falls for five. */
@@ -35,15 +36,19 @@ static unsigned wave(unsigned second)
     return phase < HALF_WAVE ? phase : 2 * HALF_WAVE - phase;
 }
 
-/* In 0.01 m3/h and in 0.1 degrees. */
-static unsigned flow_at(unsigned second)
+unsigned flow_at(unsigned second)
 {
     return 200 + 2 * wave(second);
 }
 
-static unsigned temperature_at(unsigned second)
+unsigned temperature_at(unsigned second)
 {
     return 150 + wave(second) / 10;
+}
+
+uint64_t total_volume(const struct readings *readings)
+{
+    return readings->before_trip + readings->flowed / 3600;
 }
 
 /* As document 001, 7.2.3, has them. The gas pressure is the one that is set; there is no error. */
@@ -53,7 +58,7 @@ static void set_ux(struct posting *posting, const struct readings *readings)
     set_reading(posting, CEDARSKEIN_UX_FLOW, flow_at(readings->second));
     set_reading(posting, CEDARSKEIN_UX_GAS_PRESSURE, value_at(posting->meter, CEDARSKEIN_UX_GAS_PRESSURE_SETTING));
     set_reading(posting, CEDARSKEIN_UX_TEMPERATURE, temperature_at(readings->second));
-    set_reading(posting, CEDARSKEIN_UX_TOTAL_VOLUME, readings->before_trip + trip);
+    set_reading(posting, CEDARSKEIN_UX_TOTAL_VOLUME, total_volume(readings));
     set_reading(posting, CEDARSKEIN_UX_TRIP_VOLUME, trip);
 }
 
@@ -61,7 +66,7 @@ static void set_ux(struct posting *posting, const struct readings *readings)
    nothing flows back. */
 static void set_aswe(struct posting *posting, const struct readings *readings)
 {
-    uint64_t volume = (readings->before_trip + readings->flowed / 3600) / 10;
+    uint64_t volume = total_volume(readings) / 10;
     set_reading(posting, CEDARSKEIN_ASWE_ACTUAL_FLOW, flow_at(readings->second));
     set_reading(posting, CEDARSKEIN_ASWE_COMPENSATED_FLOW, flow_at(readings->second));
     set_reading(posting, CEDARSKEIN_ASWE_PRESSURE, ASWE_PRESSURE_READING);
@@ -94,18 +99,21 @@ static void post_area(struct meter *meter, struct area area, const struct readin
 
 struct readings begin_readings(const struct meter *meter)
 {
-    struct readings readings = { 0, COUNTED_BEFORE, 0 };
+    struct readings readings = { 0, COUNTED_BEFORE, 0, 0 };
     uint64_t total = 0, trip = 0;
     if (map_of(meter) == UX_MAP) {
         total = value_at(meter, CEDARSKEIN_UX_TOTAL_VOLUME);
         trip = value_at(meter, CEDARSKEIN_UX_TRIP_VOLUME);
     } else if (map_of(meter) == ASWE_MAP) {
         total = 10 * value_at(meter, CEDARSKEIN_ASWE_FORWARD_ACTUAL_VOLUME);
+    } else {
+        total = total_recorded(meter);
     }
     if (total > 0 && total >= trip) {
         readings.before_trip = total - trip;
         readings.flowed = 3600 * trip;
     }
+    readings.recorded = total_volume(&readings) / 10;
     return readings;
 }
 

@@ -14,7 +14,8 @@ uint32_t ask_reason(struct reason *reason, const struct meter *before, const uin
     reason->meter = before;
     reason->frame = frame;
     reason->n = n;
-    return cedarskein_why(before->sheet, before->sheet_n, before->bank, before->bank_n, frame, n, &reason->number, &reason->address);
+    return cedarskein_why(before->sheet, before->sheet_n, before->bank, before->bank_n, before->ring, before->ring_n, frame, n,
+                          &reason->number, &reason->address);
 }
 
 static void print_address(const struct meter *meter, unsigned address)
@@ -96,10 +97,18 @@ static void tell_body_length(const struct reason *reason)
                BARE_WRITE_SEVERAL + reason->frame[BYTE_COUNT_BYTE]);
 }
 
+/* A read that starts in the history has rules of its own. It has its length by then. */
+static int reads_record(const struct reason *reason)
+{
+    return reason->frame[FUNCTION_BYTE] == READ && lies_in_history(reason->meter, run_of(reason->frame).start);
+}
+
 static void tell_count(const struct reason *reason)
 {
     unsigned count = word_at(reason->frame, COUNT_WORD);
-    if (reason->frame[FUNCTION_BYTE] == READ)
+    if (reads_record(reason))
+        printf("a history record is read one at a time, with a count of 1; the frame has a count of %u", count);
+    else if (reason->frame[FUNCTION_BYTE] == READ)
         printf("the frame reads %u registers; a read is of 1 to %d", count, MOST_READ);
     else if (count == 0)
         printf("the frame writes 0 registers; a write is of 1 to %d", (CEDARSKEIN_LONGEST_FRAME - BARE_WRITE_SEVERAL) / 2);
@@ -115,12 +124,38 @@ static void tell_clear_elsewhere(const struct reason *reason)
     printf("; this one is for %04X", (unsigned)reason->address);
 }
 
+/* The number of the record that a read asks for. The newest one is 1. */
+static unsigned record_asked(const struct reason *reason)
+{
+    return run_of(reason->frame).start - history_of(reason->meter).first + 1;
+}
+
+static void tell_no_record(const struct reason *reason)
+{
+    unsigned stored = records_stored(reason->meter);
+    printf("record %u is asked for, at %04X; ", record_asked(reason), (unsigned)reason->address);
+    if (stored == 0)
+        printf("none is stored yet");
+    else
+        printf("%u %s stored", stored, stored == 1 ? "is" : "are");
+}
+
+static void tell_closed_history(const struct reason *reason)
+{
+    if (reason->frame[FUNCTION_BYTE] == READ)
+        printf("the run comes from outside and reaches the history at %04X, whose records are read one at a time", (unsigned)reason->address);
+    else
+        printf("%04X is a history record, which can only be read", (unsigned)reason->address);
+}
+
 /* The first address of a run that is not open to it. */
 static void tell_closed(const struct reason *reason)
 {
     const struct meter *meter = reason->meter;
     unsigned address = reason->address;
-    if (lies_in_area(meter, address)) {
+    if (lies_in_history(meter, address)) {
+        tell_closed_history(reason);
+    } else if (lies_in_area(meter, address)) {
         begin_with_address(meter, address);
         printf("can only be read");
     } else if (allows_function(meter, CLEAR) && address == clear_address(meter)) {
@@ -138,6 +173,10 @@ static void tell_address(const struct reason *reason)
     struct run run = run_of(reason->frame);
     if (reason->frame[FUNCTION_BYTE] == CLEAR) {
         tell_clear_elsewhere(reason);
+        return;
+    }
+    if (reads_record(reason)) {
+        tell_no_record(reason);
         return;
     }
     tell_closed(reason);
@@ -243,6 +282,10 @@ static void tell_deed(const struct reason *reason)
         printf("the frame clears the alarm mark");
         return;
     }
+    if (reads_record(reason)) {
+        printf("the frame reads record %u of the %u stored", record_asked(reason), records_stored(reason->meter));
+        return;
+    }
     printf(reason->frame[FUNCTION_BYTE] == READ ? "the frame reads " : "the frame writes ");
     print_run(reason->meter, run_of(reason->frame));
 }
@@ -258,12 +301,18 @@ void print_reason(const struct reason *reason)
     tellers[reason->number](reason);
 }
 
+/* A count that is too high is an address too far, but in the history, where any other than 1 is a bad one. */
+static int reads_too_many(const struct reason *reason)
+{
+    return word_at(reason->frame, COUNT_WORD) > MOST_READ && reason->frame[FUNCTION_BYTE] == READ && !reads_record(reason);
+}
+
 /* The code of the error that a reason goes with, by document 01; 0 where it goes with silence. */
 static unsigned error_of(const struct reason *reason)
 {
     switch (reason->number) {
     case CEDARSKEIN_FUNCTION: return BAD_FUNCTION;
-    case CEDARSKEIN_COUNT: return word_at(reason->frame, COUNT_WORD) > MOST_READ && reason->frame[FUNCTION_BYTE] == READ ? BAD_ADDRESS : BAD_VALUE;
+    case CEDARSKEIN_COUNT: return reads_too_many(reason) ? BAD_ADDRESS : BAD_VALUE;
     case CEDARSKEIN_ADDRESS: return BAD_ADDRESS;
     case CEDARSKEIN_CLEAR_VALUE:
     case CEDARSKEIN_ITEM: return BAD_VALUE;

@@ -1,5 +1,5 @@
 /* Why a frame gets silence or an error, in words. The reason is what cedarskein_why says; what a sentence has besides is read from the sheet, the
-   bank and the frame. */
+   bank, the ring and the frame. */
 #ifndef REASONS_H
 #define REASONS_H
 

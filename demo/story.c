@@ -1,4 +1,4 @@
-/* The pump hand's story: a new limit comes back with error 03. What is in the meter now, and why? */
+/* The pump hand's story: a new limit comes back with error 03. What is in the meter now, and why? And what a newer meter tells of the last nights. */
 #include <stdio.h>
 #include <stdlib.h>
 #include <string.h>
@@ -77,8 +77,8 @@ static void send_frame(const uint8_t *frame, size_t n)
     tell_bytes(">", frame, n);
     struct meter before = meter;
     ask_reason(&reason, &before, frame, n);
-    uint32_t number = cedarskein_answer(meter.sheet, meter.sheet_n, meter.bank, meter.bank_n, frame, n, reply, sizeof reply,
-                                        &length, &rate);
+    uint32_t number = cedarskein_answer(meter.sheet, meter.sheet_n, meter.bank, meter.bank_n, meter.ring, meter.ring_n, frame, n, reply,
+                                        sizeof reply, &length, &rate);
     if (number == CEDARSKEIN_DONE)
         tell_bytes("<", reply, length);
     else if (number == CEDARSKEIN_SILENCE)
@@ -188,10 +188,77 @@ static void tell_silence(void)
            memcmp(before, meter.bank, meter.bank_n) == 0 ? "byte for byte what" : "NOT what");
 }
 
+/* A sheet of the story's own: a station at 0000 and a rate at 0001, and a history of three records of two words, at 0400 to 0402. */
+static const unsigned HISTORY_SHEET[] = {
+    1, 1, 12, 2, 16, 2, 1, 31, 0, 1, 0, 1, /* the header: 03 alone is allowed, and there is a record area */
+    0x0000, 0x0001, 0, 3,
+    0, 0, 0, 1, 0, 0xF7,
+    0, 1, 0, 0, 0, 1,
+    0x0400, 3, 2,
+};
+
+static void begin_history_meter(void)
+{
+    size_t words = sizeof HISTORY_SHEET / sizeof *HISTORY_SHEET;
+    for (size_t k = 0; k < words; k++)
+        store_word(meter.sheet, k, HISTORY_SHEET[k]);
+    meter.sheet_n = 2 * words;
+    set_up_meter(&meter, "the sheet of the story's last meter");
+}
+
+/* What the meter does by itself when a night is over. */
+static void add_night(unsigned month, unsigned day, unsigned tenths)
+{
+    uint8_t record[4];
+    store_word(record, 0, month << 8 | day);
+    store_word(record, 1, tenths);
+    uint32_t number = cedarskein_add_record(meter.sheet, meter.sheet_n, meter.ring, meter.ring_n, record, sizeof record);
+    if (number != CEDARSKEIN_DONE)
+        printf("  the record was not added: number %u\n", (unsigned)number);
+}
+
+/* The record of a read's reply, in words. */
+static void tell_night(const char *what)
+{
+    const uint8_t *words = reply + 3;
+    printf("  %s: %04X %04X, month %u, day %u, %u.%u m3.\n", what, word_at(words, 0), word_at(words, 1), words[0], words[1],
+           word_at(words, 1) / 10, word_at(words, 1) % 10);
+}
+
+static void tell_first_nights(void)
+{
+    printf("\n6. What was burnt last night\n"
+           "  The pump house has a newer meter, with a history. Each morning it adds a record of two words, the\n"
+           "  day and the volume in tenths of m3. It has room for three, at 0400 to 0402; the newest is at 0400.\n");
+    ask("01 03 04 00 00 01");
+    printf("  It was switched on today. Two nights pass.\n");
+    add_night(11, 14, 312);
+    add_night(11, 15, 287);
+    ask("01 03 04 00 00 01");
+    printf("  One register was asked for, and a whole record comes.\n");
+    tell_night("The newest");
+    ask("01 03 04 02 00 01");
+    ask("01 03 04 00 00 02");
+    printf("  Ask for 0400, and then for 0401.\n");
+}
+
+static void tell_full_history(void)
+{
+    printf("\n7. The history is full\n"
+           "  Two more nights pass, four in all. The fourth record takes the room of the first.\n");
+    add_night(11, 16, 305);
+    add_night(11, 17, 298);
+    ask("01 03 04 00 00 01");
+    tell_night("The newest");
+    ask("01 03 04 02 00 01");
+    tell_night("The oldest that there is");
+    printf("  Read in time: the record of day 14 is gone.\n");
+}
+
 static void tell_where_next(void)
 {
-    printf("\nAfter an error 03, read back: the reply does not say how much was stored.\n\n"
-           "Next: make meter    a meter like this one, on a line of its own, for your own program\n"
+    printf("\nAfter an error 03 to a write, read back: the reply does not say how much was stored.\n\n"
+           "Next: make meter    a meter like the first one, on a line of its own, for your own program\n"
            "      make why      why a meter is silent or answers with an error, for a frame of yours or a capture\n"
            "      make test     the proofs that it is so for every frame and every sheet\n"
            "      docs/REGISTERS.md    each register's name, range and unit\n"
@@ -211,6 +278,9 @@ int main(int argc, char **argv)
     tell_half_limit();
     tell_half_way();
     tell_silence();
+    begin_history_meter();
+    tell_first_nights();
+    tell_full_history();
     tell_where_next();
     return 0;
 }

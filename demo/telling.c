@@ -125,6 +125,17 @@ static void tell_registers(const struct meter *before, const struct meter *now, 
     }
 }
 
+/* A sheet does not say what the words of a record mean. They are told as they go out. */
+static void tell_record(const struct meter *now, const struct exchange *exchange)
+{
+    const uint8_t *words = exchange->reply + 3;
+    unsigned number = run_of(exchange->frame).start - history_of(now).first + 1;
+    printf("            record %u of %u%s:", number, records_stored(now), number == 1 ? ", the newest" : "");
+    for (unsigned k = 0; k < history_of(now).words; k++)
+        printf(" %04X", word_at(words, k));
+    printf("\n");
+}
+
 /* A frame that was stopped in front of its registers tells of none. A bad item is met among them. */
 static int reaches_registers(const uint8_t *frame, const struct reason *reason)
 {
@@ -139,6 +150,10 @@ void tell_answer(const struct meter *before, const struct meter *now, const stru
     if (is_error(exchange->reply) && memcmp(before->bank, now->bank, now->bank_n) == 0)
         printf("; nothing changed");
     printf("\n");
-    if (reaches_registers(exchange->frame, &reason))
+    if (!reaches_registers(exchange->frame, &reason))
+        return;
+    if (lies_in_history(now, run_of(exchange->frame).start))
+        tell_record(now, exchange);
+    else
         tell_registers(before, now, exchange->frame);
 }

@@ -1,6 +1,6 @@
 #!/usr/bin/env python3
 """The simulated meter's names and its end: links that are in the way, files that keep a bank, signals, and what `make meter` is told. And what
-`make why` says, which why_trials.py has.
+`make why` says, which why_trials.py has. What both make of a history is in history_trials.py.
 
   trials.py [--run RUN] SHEET METER WHY
 
@@ -14,6 +14,7 @@ import sys
 import tempfile
 import time
 
+import history_trials
 import why_trials
 
 ROOT = os.path.dirname(os.path.dirname(os.path.abspath(__file__)))
@@ -176,7 +177,6 @@ def told_by_make(*words):
 
 
 LEFT = "It was left as it is"
-SHORT_NAMES = "aswe_40 aswe_50 aswe_80 ux15_25"
 TRIALS = [
     ("a link to a line that is there", lambda bench: link_in_the_way(bench, "/dev/null"),
      f"status 1: line is a link to /dev/null, which is in use. {LEFT}: give LINK another name; leads to /dev/null"),
@@ -211,11 +211,14 @@ TRIALS = [
     ("AS-WE from before version 1.3", lambda bench: refused_sheet(bench, why_trials.old_aswe_sheet()),
      f"status 1: sheet: no sheet: its stations are 0 to 255; {why_trials.WITHIN}; link left False"),
     ("a sheet that is not there", lambda _: told_by_make("SHEET=aswe 45"),
-     f"status 2: there is no sheet aswe 45. SHEET= takes the name of a file, or one of: {SHORT_NAMES}"),
+     f"status 2: there is no sheet aswe 45. SHEET= takes the name of a file, or one of: {why_trials.SHORT_NAMES}"),
     ("a sheet of three", lambda _: told_by_make("SHEET=aswe"),
      "status 2: more than one sheet begins with aswe. SHEET= takes one of: aswe_40 aswe_50 aswe_80"),
+    ("a ring's file by make", lambda bench: told_by_make("RING=" + bench.path("a ring")).replace(bench.folder + "/", ""),
+     f"status 2: the ring's file a ring: {history_trials.NO_HISTORY}. {LEFT}"),
+    ("seconds by make", lambda _: told_by_make("SHEET=history", "EVERY=5 s"), "status 2: EVERY takes a number of seconds, 1 to 86400, and not 5 s"),
     ("a name that is empty", lambda _: told_by_make("LINK="), "status 2: empty: LINK. Give each a name, or leave it out.  Stop."),
-    ("a name that is misspelt", lambda _: told_by_make("LNK=x"), "status 2: make meter takes no LNK. It takes: SHEET LINK BANK.  Stop."),
+    ("a name that is misspelt", lambda _: told_by_make("LNK=x"), "status 2: make meter takes no LNK. It takes: SHEET LINK BANK RING EVERY.  Stop."),
 ]
 
 
@@ -228,13 +231,12 @@ def has_pseudo_terminals():
     return True
 
 
-def differing(trials, run, given):
-    """How many trials come out otherwise than expected; each of them is shown."""
+def differing(trials, run, given, tried):
+    """How many trials come out otherwise than expected, of the bench or of what is tried at it; each of them is shown."""
     count = 0
     for text, trial, expected in trials:
         with tempfile.TemporaryDirectory() as folder:
-            bench = Bench(run, given, folder)
-            result = trial(bench.why if trials is why_trials.TRIALS else bench)
+            result = trial(tried(Bench(run, given, folder)))
         if result != expected:
             count += 1
             print(f"DIFFERS   {text}: {result}\n          expected: {expected}", flush=True)
@@ -249,13 +251,14 @@ def main():
     words_given.add_argument("why")
     given = words_given.parse_args()
     run = given.run.split()
-    of_why = differing(why_trials.TRIALS, run, given)
-    print(f"{len(why_trials.TRIALS)} trials of make why, {of_why} came out otherwise than expected")
+    why, meter = [*why_trials.TRIALS, *history_trials.OF_WHY], [*TRIALS, *history_trials.OF_METER]
+    of_why = differing(why, run, given, lambda bench: bench.why)
+    print(f"{len(why)} trials of make why, {of_why} came out otherwise than expected")
     if not has_pseudo_terminals():
         print("the trials of the meter are LEFT OUT: the system has no pseudo-terminal to give")
         return 1 if of_why else 0
-    of_meter = differing(TRIALS, run, given)
-    print(f"{len(TRIALS)} trials of the meter's names and its end, {of_meter} came out otherwise than expected")
+    of_meter = differing(meter, run, given, lambda bench: bench)
+    print(f"{len(meter)} trials of the meter's names, its end and its history, {of_meter} came out otherwise than expected")
     return 1 if of_why or of_meter else 0
 
 

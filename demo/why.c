@@ -1,8 +1,9 @@
 /* Tells why a meter meets a frame with silence or an error: a sentence for each frame.
-   usage: why [-b BANK] [-f FRAME] SHEET
-   BANK is a file with a bank's bytes, or one that the simulated meter keeps; without it the bank is a fresh one. FRAME is a frame in hex; without it
-   each line of standard input is one. Every frame is judged with the bank as it is given: none of them changes it.
-   Exit status 2, and nothing on standard output, where the sheet, the bank or one of the frames cannot be taken. */
+   usage: why [-b BANK] [-r RING] [-f FRAME] SHEET
+   BANK is a file with a bank's bytes, or one that the simulated meter keeps; without it the bank is a fresh one. RING is a file with a ring's bytes, for
+   a sheet that has a history, as the simulated meter keeps it; without it the ring is empty. FRAME is a frame in hex; without it each line of standard
+   input is one. Every frame is judged with the bank and the ring as they are given: none of them changes it.
+   Exit status 2, and nothing on standard output, where the sheet, the bank, the ring or one of the frames cannot be taken. */
 #define _XOPEN_SOURCE 700
 #include <errno.h>
 #include <stdio.h>
@@ -13,6 +14,7 @@
 #include "bank_file.h"
 #include "hex.h"
 #include "reasons.h"
+#include "ring_file.h"
 
 enum { REFUSED = 2, SHOWN_OF_FAULT = 20 };
 
@@ -27,18 +29,29 @@ struct capture {
 };
 
 struct names {
-    const char *sheet, *bank, *frame;
+    const char *sheet, *bank, *ring, *frame;
 };
+
+/* Where the name for an option's letter goes; NULL for any other letter. */
+static const char **name_of(struct names *names, int letter)
+{
+    switch (letter) {
+    case 'b': return &names->bank;
+    case 'r': return &names->ring;
+    case 'f': return &names->frame;
+    default: return NULL;
+    }
+}
 
 /* Says how it is used, and ends the program, where it is used otherwise. */
 static struct names names_given(int argc, char **argv)
 {
-    struct names names = { NULL, NULL, NULL };
-    int letter = getopt(argc, argv, "b:f:");
-    for (; letter == 'b' || letter == 'f'; letter = getopt(argc, argv, "b:f:"))
-        *(letter == 'b' ? &names.bank : &names.frame) = optarg;
+    struct names names = { NULL, NULL, NULL, NULL };
+    int letter = getopt(argc, argv, "b:r:f:");
+    for (; name_of(&names, letter); letter = getopt(argc, argv, "b:r:f:"))
+        *name_of(&names, letter) = optarg;
     if (letter != -1 || optind + 1 != argc) {
-        fprintf(stderr, "usage: why [-b BANK] [-f FRAME] SHEET\n");
+        fprintf(stderr, "usage: why [-b BANK] [-r RING] [-f FRAME] SHEET\n");
         exit(REFUSED);
     }
     names.sheet = argv[optind];
@@ -135,7 +148,7 @@ static int tell_all(const struct meter *meter, const struct capture *capture)
     for (size_t k = 0; k < capture->n; k++) {
         uint32_t number = ask_reason(&reason, meter, capture->frames[k].bytes, capture->frames[k].n);
         if (number != CEDARSKEIN_DONE) {
-            fprintf(stderr, "number %u: the library refuses the sheet or the bank\n", (unsigned)number);
+            fprintf(stderr, "number %u: the library refuses the sheet, the bank or the ring\n", (unsigned)number);
             return REFUSED;
         }
         print_sentence(&reason);
@@ -151,7 +164,8 @@ int main(int argc, char **argv)
     static struct meter meter;
     struct capture capture = { NULL, 0, 0 };
     struct names names = names_given(argc, argv);
-    if (load_meter(&meter, names.sheet) != 0 || (names.bank && read_bank(&meter, names.bank) != 0) || take_frames(&capture, names.frame) != 0)
+    if (load_meter(&meter, names.sheet) != 0 || (names.bank && read_bank(&meter, names.bank) != 0)
+        || (names.ring && read_ring(&meter, names.ring) != 0) || take_frames(&capture, names.frame) != 0)
         return REFUSED;
     return tell_all(&meter, &capture);
 }

@@ -28,12 +28,14 @@ def sealed(text):
     return (data + check_of(data)).hex(" ").upper()
 
 
-def sheet_of(functions, areas, stations=(1, 0xF7)):
-    """A sheet that is no maker's: areas with a station, a rate and a signed word at places 0 to 2, and a clear at 0300."""
+def sheet_of(functions, areas, stations=(1, 0xF7), records=()):
+    """A sheet that is no maker's: areas with a station, a rate and a signed word at places 0 to 2, a clear at 0300, and a record area where one is
+    given."""
     items, places = (0, 0, 0, stations[0], 0, stations[1], *RATE_AND_SIGNED_WORD), areas[-2] + areas[-3] + 1 - areas[-4]
     rows = 12 + len(areas)
-    header = (1, len(areas) // 4, 12, 3, rows, places, functions, rows + len(items), 0, 1, 0x0300 if functions & 2 else 0, 0)
-    return bytes_of((*header, *areas, *items))
+    words = rows + len(items) + len(records)
+    header = (1, len(areas) // 4, 12, 3, rows, places, functions, words, 0, 1, 0x0300 if functions & 2 else 0, 1 if records else 0)
+    return bytes_of((*header, *areas, *items, *records))
 
 
 def old_aswe_sheet():
@@ -118,11 +120,14 @@ def shown_in_readme(why):
     """The README's questions that come out otherwise than it shows. Of make's own line only its end is the same everywhere."""
     with open(os.path.join(ROOT, "README.md"), encoding="utf-8") as page:
         text = page.read().partition("## Ask why\n")[2].partition("\n## ")[0]
-    bank = why.file("pump.bank", kept(ux_bank(a0104=0x9876)))
+    files = {"/tmp/pump.bank": why.file("pump.bank", kept(ux_bank(a0104=0x9876))),
+             "/tmp/pump.ring": why.file("pump.ring", bytes_of((2, 3)) + bytes(2 * 6600 * 22))}
     shown = re.findall(r"^ +\$ (.*make why.*)\n((?: +(?!\$)\S.*\n)*)", text, re.M)
     otherwise = []
     for command, lines in shown:
-        done = subprocess.run(command.replace("/tmp/pump.bank", bank), shell=True, cwd=ROOT, env=outside_of_make(), capture_output=True, text=True,
+        for name, file in files.items():
+            command = command.replace(name, file)
+        done = subprocess.run(command, shell=True, cwd=ROOT, env=outside_of_make(), capture_output=True, text=True,
                               timeout=60, check=False)
         printed, expected = (re.sub(r"Makefile:\d+|^ +| +$", "", said, flags=re.M).strip() for said in (done.stdout + done.stderr, lines))
         if printed != expected:
@@ -270,11 +275,11 @@ BANKS = [
     ("a sheet that ends in the station's row", lambda why: why.sheet(sheet_of(15, AT_THE_END, (0, 0xFF))[:40]),
      "status 2: sheet: no sheet: it breaks a rule of document 01"),
     ("a sheet that ends in its header", lambda why: why.sheet(old_aswe_sheet()[:23]), "status 2: sheet: no sheet: it breaks a rule of document 01"),
-    ("a file that is longer than any sheet", lambda why: why.sheet(bytes(857)), "status 2: sheet: no sheet: it is longer than any"),
+    ("a file that is longer than any sheet", lambda why: why.sheet(bytes(863)), "status 2: sheet: no sheet: it is longer than any"),
     ("a sheet that is not there", lambda why: why.run(why.folder + "/none", "-f", "01"), "status 2: none: No such file or directory"),
     ("a bank where there is no sheet", lambda why: why.run(why.folder + "/none", "-b", why.folder + "/none", "-f", "zz"),
      "status 2: none: No such file or directory"),
-    ("a word too many", lambda why: why.run("ux15_25", "-f", "01", "02"), "status 2: usage: why [-b BANK] [-f FRAME] SHEET"),
+    ("a word too many", lambda why: why.run("ux15_25", "-f", "01", "02"), "status 2: usage: why [-b BANK] [-r RING] [-f FRAME] SHEET"),
 ]
 
 ODD = "has an odd number of digits, and a byte has two"
@@ -302,6 +307,7 @@ HEX = [
 ]
 
 ASWE = "aswe_40 aswe_50 aswe_80"
+SHORT_NAMES = f"{ASWE} history_example ux15_25"
 MAKE = [
     ("make why, a frame", lambda _: by_make("SHEET=ux", "FRAME=" + sealed("02 03 01 01 00 01")), FOR_TWO),
     ("make why, a capture", lambda _: by_make(given=CAPTURE).splitlines()[2], "A reply goes out: the frame writes 010E, Station"),
@@ -310,12 +316,12 @@ MAKE = [
      "Silence: the frame is for station 2; this meter is station 7"),
     ("make why, not hex", lambda _: by_make("FRAME=01 zz"), "status 2: FRAME: zz is not hex"),
     ("make why, a sheet that is not there", lambda _: by_make("SHEET=uz", "FRAME=01"),
-     f"status 2: there is no sheet uz. SHEET= takes the name of a file, or one of: {ASWE} ux15_25"),
+     f"status 2: there is no sheet uz. SHEET= takes the name of a file, or one of: {SHORT_NAMES}"),
     ("make why, a sheet of three", lambda _: by_make("SHEET=aswe", "FRAME=01"),
      f"status 2: more than one sheet begins with aswe. SHEET= takes one of: {ASWE}"),
     ("make why, a frame that is empty", lambda _: by_make("FRAME="), "status 2: empty: FRAME. Give each a name, or leave it out.  Stop."),
-    ("make why, a name that is misspelt", lambda _: by_make("FRAM=01"), "status 2: make why takes no FRAM. It takes: SHEET BANK FRAME.  Stop."),
-    ("what the README shows of make why", shown_in_readme, "4 shown, otherwise: []"),
+    ("make why, a name that is misspelt", lambda _: by_make("FRAM=01"), "status 2: make why takes no FRAM. It takes: SHEET BANK RING FRAME.  Stop."),
+    ("what the README shows of make why", shown_in_readme, "7 shown, otherwise: []"),
 ]
 
 TRIALS = [*REASONS, *BANKS, *HEX, *MAKE]

@@ -1,18 +1,32 @@
-/* Three meters that break document 01, so that each step of interop.py is seen to fail. The linker puts these functions in place of the
+/* Four meters that break document 01, so that each step of interop.py is seen to fail. The linker puts these functions in place of the
    library's and the line's (--wrap): one meter is silent always, one answers whatever it hears, and both leave their link behind. The third is
-   good, but that it does what is sent to the stations that no meter has, 0 and 248 to 255, and is silent about it. */
+   good, but that it does what is sent to the stations that no meter has, 0 and 248 to 255, and is silent about it. The fourth is good but for its
+   history: it counts the records from the wrong end, and answers whatever touches them as if it were a read of one. */
 #include <string.h>
 
 #include "cedarskein.h"
 #include "frame.h"
 #include "line.h"
 
-enum { SILENT, HASTY, OBEDIENT };
+enum { SILENT, HASTY, OBEDIENT, MUDDLED };
 
-uint32_t __real_cedarskein_answer(const uint8_t *sheet, size_t sheet_n, uint8_t *bank, size_t bank_n, const uint8_t *frame, size_t frame_n,
-                                  uint8_t *out, size_t out_n, uint32_t *length, uint32_t *rate);
-uint32_t __wrap_cedarskein_answer(const uint8_t *sheet, size_t sheet_n, uint8_t *bank, size_t bank_n, const uint8_t *frame, size_t frame_n,
-                                  uint8_t *out, size_t out_n, uint32_t *length, uint32_t *rate);
+/* What the library is lent, in one piece. */
+struct call {
+    const uint8_t *sheet;
+    size_t sheet_n;
+    uint8_t *bank;
+    size_t bank_n;
+    const uint8_t *ring;
+    size_t ring_n;
+    uint8_t *out;
+    size_t out_n;
+    uint32_t *length, *rate;
+};
+
+uint32_t __real_cedarskein_answer(const uint8_t *sheet, size_t sheet_n, uint8_t *bank, size_t bank_n, const uint8_t *ring, size_t ring_n,
+                                  const uint8_t *frame, size_t frame_n, uint8_t *out, size_t out_n, uint32_t *length, uint32_t *rate);
+uint32_t __wrap_cedarskein_answer(const uint8_t *sheet, size_t sheet_n, uint8_t *bank, size_t bank_n, const uint8_t *ring, size_t ring_n,
+                                  const uint8_t *frame, size_t frame_n, uint8_t *out, size_t out_n, uint32_t *length, uint32_t *rate);
 int __wrap_master_sends_at(const struct line *line, unsigned rate);
 int __wrap_unlink(const char *path);
 
@@ -27,6 +41,12 @@ int __wrap_master_sends_at(const struct line *line, unsigned rate)
     (void)line;
     (void)rate;
     return 1;
+}
+
+static uint32_t really(const struct call *call, const uint8_t *frame, size_t n)
+{
+    return __real_cedarskein_answer(call->sheet, call->sheet_n, call->bank, call->bank_n, call->ring, call->ring_n, frame, n, call->out, call->out_n,
+                                    call->length, call->rate);
 }
 
 /* A station and a check are the least that can be sent back. */
@@ -45,26 +65,76 @@ static int is_for_no_meter(const uint8_t *frame)
     return frame[STATION_BYTE] == BROADCAST || frame[STATION_BYTE] > LAST_STATION;
 }
 
-uint32_t __wrap_cedarskein_answer(const uint8_t *sheet, size_t sheet_n, uint8_t *bank, size_t bank_n, const uint8_t *frame, size_t frame_n,
-                                  uint8_t *out, size_t out_n, uint32_t *length, uint32_t *rate)
+/* The frame as if it were sent to the meter's own station. */
+static size_t heard_as_own(const struct call *call, uint8_t *heard, const uint8_t *frame, size_t n)
 {
-    uint8_t heard[CEDARSKEIN_LONGEST_FRAME] = { 0 };
-    size_t n = frame_n < CEDARSKEIN_LONGEST_FRAME ? frame_n : CEDARSKEIN_LONGEST_FRAME;
-    size_t station = 2 * ((size_t)sheet[16] << 8 | sheet[17]) + 1; /* the lower byte at the place that word 8 of the sheet names */
-    memcpy(heard, frame, n);
-    *length = *rate = 0;
-    if (WRONG == SILENT || n < LEAST_SIGNED)
+    size_t station = 2 * ((size_t)call->sheet[16] << 8 | call->sheet[17]) + 1; /* the lower byte at the place that word 8 of the sheet names */
+    size_t kept = n < CEDARSKEIN_LONGEST_FRAME ? n : CEDARSKEIN_LONGEST_FRAME;
+    memcpy(heard, frame, kept);
+    if (kept >= LEAST_SIGNED)
+        sign(heard, kept, call->bank[station]);
+    return kept;
+}
+
+static uint32_t obedient(const struct call *call, const uint8_t *frame, size_t n)
+{
+    uint8_t heard[CEDARSKEIN_LONGEST_FRAME];
+    if (n < LEAST_SIGNED || !is_for_no_meter(frame))
+        return really(call, frame, n);
+    size_t kept = heard_as_own(call, heard, frame, n);
+    really(call, heard, kept);
+    return CEDARSKEIN_SILENCE;
+}
+
+static uint32_t hasty(const struct call *call, const uint8_t *frame, size_t n)
+{
+    uint8_t heard[CEDARSKEIN_LONGEST_FRAME];
+    size_t kept = heard_as_own(call, heard, frame, n);
+    if (kept < LEAST_SIGNED)
         return CEDARSKEIN_SILENCE;
-    if (WRONG == OBEDIENT && !is_for_no_meter(frame))
-        return __real_cedarskein_answer(sheet, sheet_n, bank, bank_n, frame, frame_n, out, out_n, length, rate);
-    sign(heard, n, bank[station]);
-    uint32_t number = __real_cedarskein_answer(sheet, sheet_n, bank, bank_n, heard, n, out, out_n, length, rate);
-    if (WRONG == OBEDIENT)
-        return CEDARSKEIN_SILENCE;
-    if (number != CEDARSKEIN_DONE) {
-        memcpy(out, heard, n);
-        *length = (uint32_t)n;
+    if (really(call, heard, kept) != CEDARSKEIN_DONE) {
+        memcpy(call->out, heard, kept);
+        *call->length = (uint32_t)kept;
     }
-    sign(out, *length, frame[0]);
+    sign(call->out, *call->length, frame[0]);
     return CEDARSKEIN_DONE;
+}
+
+/* The reply to a read of the record at a place, whichever that is. */
+static void reply_with_record(const struct call *call, const struct record_area *area, unsigned place, uint8_t station)
+{
+    size_t n = 2 * (size_t)area->words;
+    call->out[1] = READ;
+    call->out[2] = (uint8_t)n;
+    memcpy(call->out + 3, call->ring + 2 * (2 + (size_t)place * area->words), n);
+    *call->length = (uint32_t)n + 5;
+    sign(call->out, *call->length, station);
+}
+
+/* A frame that the real one answers, and that touches the history with its first address or its last. */
+static uint32_t muddled(const struct call *call, const uint8_t *frame, size_t n)
+{
+    static struct meter meter;
+    uint32_t number = really(call, frame, n);
+    memcpy(meter.sheet, call->sheet, call->sheet_n);
+    if (number != CEDARSKEIN_DONE || n < PLAIN_FRAME || !has_history(&meter))
+        return number;
+    struct record_area area = history_of(&meter);
+    struct run run = run_of(frame);
+    if (lies_in_history(&meter, run.start) || (frame[FUNCTION_BYTE] == READ && lies_in_history(&meter, run.start + run.count - 1)))
+        reply_with_record(call, &area, (run.start + area.records - area.first) % area.records, frame[STATION_BYTE]);
+    return number;
+}
+
+uint32_t __wrap_cedarskein_answer(const uint8_t *sheet, size_t sheet_n, uint8_t *bank, size_t bank_n, const uint8_t *ring, size_t ring_n,
+                                  const uint8_t *frame, size_t frame_n, uint8_t *out, size_t out_n, uint32_t *length, uint32_t *rate)
+{
+    struct call call = { sheet, sheet_n, bank, bank_n, ring, ring_n, out, out_n, length, rate };
+    *length = *rate = 0;
+    switch (WRONG) {
+    case HASTY: return hasty(&call, frame, frame_n);
+    case OBEDIENT: return obedient(&call, frame, frame_n);
+    case MUDDLED: return muddled(&call, frame, frame_n);
+    default: return CEDARSKEIN_SILENCE;
+    }
 }

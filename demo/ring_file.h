@@ -1,0 +1,31 @@
+/* The file that keeps the history of the simulated meter: the bytes of its ring, and nothing else. */
+#ifndef RING_FILE_H
+#define RING_FILE_H
+
+#include <limits.h>
+
+#include "memory.h"
+
+/* A meter may have no such file: its name is then NULL, and nothing is kept. The path is where the file really lies, and that of the next one, which
+   takes its place. */
+struct ring_file {
+    const char *name;
+    char path[PATH_MAX], next[PATH_MAX + 8];
+    int file;
+    const struct meter *meter;
+};
+
+/* Puts the ring that the file keeps into the meter; where there is no file, or an empty one, it gets the meter's ring as it is. Says which. Hands
+   back -1 where the file is not this meter's, is in use or cannot be had: it says why, and leaves the file as it is. */
+int open_ring(struct ring_file *ring, struct meter *meter, const char *name);
+
+/* After each record that is added. Hands back 0 where the ring is kept; else it says why it is not. */
+int keep_ring(struct ring_file *ring);
+
+void close_ring(struct ring_file *ring);
+
+/* Puts the ring of a file into the meter, also one that a meter at work keeps. The file is only read. Hands back -1 where it has no good ring of the
+   meter's sheet, and says why. */
+int read_ring(struct meter *meter, const char *name);
+
+#endif
