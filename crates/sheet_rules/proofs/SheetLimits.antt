@@ -1,5 +1,5 @@
--- Both sides of every limit in 01's rules of the sheet, as one table under one statement: a sheet with some of its words changed, and whether
--- it is sound, typed from 01. A broken sheet has one fault alone where that can be; the comment behind a row says which side it is on.
+-- Both sides of every limit in the rules of the sheet, as one table under one statement: a sheet with some of its words changed, and whether
+-- it is sound, typed from 01 and from 02's record area. A broken sheet has one fault alone where that can be; the comment behind a row says which side it is on.
 -- Assumes nothing.
 use mathlib.Core.Path.{_≡_, refl}
 use mathlib.Core.Bool.{Bool, true, not}
@@ -9,7 +9,7 @@ use lib.ListN.{set, take}
 use Rattle.words.specs.Words.{wordAt, bytesOf}
 use Rattle.words.specs.Changes.{Change, at, changed}
 use Rattle.range.specs.Range.{inRange}
-use Rattle.sheet_rules.specs.Rows.{areas, items}
+use Rattle.sheet_rules.specs.Rows.{areas, items, recordArea}
 use Rattle.sheet_rules.specs.Rules.{sound, headerSound, areasSound, itemsSound, settingsSound, recordsSound, itemPlaces, writablePlaces, placesFollow, areasAscend, lengthsSum}
 use Rattle.lists.specs.Lists.{each, some, upFrom, samePlaces}
 
@@ -65,6 +65,10 @@ high row = 24 + 6 * row + 5
 -- with one more item, a word at a place
 abbrev another : ℕ → List ℕ
 another place = changed 0 base (at 3 7 ∷ at 7 66 ∷ []) ++ (0 ∷ place ∷ 0x0000 ∷ 0x0000 ∷ 0x0000 ∷ 0x0001 ∷ [])
+
+-- with a record area: its first address, how many records and how many words of each
+abbrev recorded : ℕ → ℕ → ℕ → List ℕ
+recorded from records words = changed 0 base (at 7 63 ∷ at 11 1 ∷ []) ++ (from ∷ records ∷ words ∷ [])
 
 -- ---- sheets of many rows, where an address is its place: so many items, the first a word 1..1 and each other a word 0..1, in the first area;
 -- behind it the other areas, read only and of one word each, but the last one goes on to the end of the bank's words
@@ -150,9 +154,62 @@ table =
     ∷ sound-bytes (take 120 (bytesOf base ++ (0 ∷ [])))  -- as many
     ∷ broken-bytes (bytesOf base ++ (0 ∷ []))  -- one more
     ∷ broken-bytes (bytesOf base ++ (0 ∷ 0 ∷ []))  -- two more
-    -- word 11, zero
-    ∷ broken-with base (at 11 0x0001 ∷ [])  -- 1
+    -- word 11, how many record areas; the base has none, and its three words are counted in word 7
+    ∷ broken-with base (at 11 0x0001 ∷ [])  -- 1, without its words
+    ∷ broken-with base (at 11 0x0001 ∷ at 7 63 ∷ [])  -- 1, its words counted and missing
+    ∷ sound-with (recorded 0x0400 6600 22) []  -- 1, with them, of 004's shape
+    ∷ broken-with (recorded 0x0400 6600 22) (at 7 62 ∷ [])  -- with word 7 one less
+    ∷ broken-with (recorded 0x0400 6600 22) (at 7 64 ∷ [])  -- with word 7 one more
+    ∷ broken-with (recorded 0x0400 6600 22) (at 7 60 ∷ [])  -- with its words not counted
+    ∷ broken-bytes (take 124 (bytesOf (recorded 0x0400 6600 22)))  -- with its last word missing
+    ∷ broken-bytes (bytesOf (recorded 0x0400 6600 22) ++ (0 ∷ 0 ∷ []))  -- with a word more
+    ∷ broken-with (recorded 0x0400 6600 22) (at 11 0x0000 ∷ [])  -- 0, with its words
+    ∷ broken-with base (at 11 0x0002 ∷ [])  -- 2
+    ∷ broken-with (recorded 0x0400 6600 22) (at 11 0x0002 ∷ [])  -- 2, with the words of one
+    ∷ broken-with (recorded 0x0400 1 1 ++ (0x0500 ∷ 1 ∷ 1 ∷ [])) (at 11 0x0002 ∷ at 7 66 ∷ [])  -- 2, with the words of two
     ∷ broken-with base (at 11 0x0100 ∷ [])  -- 0100
+    ∷ broken-with (recorded 0x0400 6600 22) (at 11 0x0101 ∷ [])  -- 0101
+    -- the longest sheet with a record area, of 862 bytes
+    ∷ sound-with (built 8 64 256 ++ (0x0100 ∷ 6600 ∷ 47 ∷ [])) (at 7 431 ∷ at 11 1 ∷ [])
+    -- how many records
+    ∷ broken-with (recorded 0x0400 0 22) []  -- 0
+    ∷ sound-with (recorded 0x0400 1 22) []  -- 1
+    ∷ broken-with (recorded 0x0400 6601 22) []  -- 6601
+    ∷ broken-with (recorded 0x0400 0xFFFF 22) []  -- FFFF
+    -- how many words of each
+    ∷ broken-with (recorded 0x0400 6600 0) []  -- 0
+    ∷ sound-with (recorded 0x0400 6600 1) []  -- 1
+    ∷ sound-with (recorded 0x0400 6600 47) []  -- 47
+    ∷ broken-with (recorded 0x0400 6600 48) []  -- 48
+    -- the record area ends by FFFF
+    ∷ sound-with (recorded 0xFFFF 1 1) []  -- one, at FFFF
+    ∷ broken-with (recorded 0xFFFF 2 1) []  -- two, from FFFF on
+    ∷ sound-with (recorded 0xE638 6600 1) []  -- 6600, up to FFFF
+    ∷ broken-with (recorded 0xE639 6600 1) []  -- one address further
+    -- it shares no address with an area: area 0 has 0010 to 0014, area 1 0020 and 0021, area 2, of access 1, 0030 and 0031
+    ∷ sound-with (recorded 0x0000 16 1) []  -- in front of area 0, up to it
+    ∷ broken-with (recorded 0x0000 17 1) []  -- one record more
+    ∷ broken-with (recorded 0x0012 1 1) []  -- within it
+    ∷ broken-with (recorded 0x0014 1 1) []  -- at its last address
+    ∷ sound-with (recorded 0x0015 11 1) []  -- between areas 0 and 1, from the one to the other
+    ∷ broken-with (recorded 0x0015 12 1) []  -- one record more
+    ∷ broken-with (recorded 0x0014 12 1) []  -- one address in front
+    ∷ sound-with (recorded 0x0022 14 1) []  -- between areas 1 and 2, from the one to the other
+    ∷ broken-with (recorded 0x0022 15 1) []  -- one record more, into access 1
+    ∷ broken-with (recorded 0x0031 1 1) []  -- at the last address of area 2
+    ∷ sound-with (recorded 0x0032 1 1) []  -- behind it
+    ∷ broken-with (recorded 0x000F 19 1) []  -- around areas 0 and 1
+    ∷ sound-with (recorded 0x0400 6600 22) (at (first 2) 0xFFFE ∷ at (last 2) 0xFFFF ∷ [])  -- an area up to FFFF behind it
+    ∷ sound-with (recorded 0xE636 6600 22) (at (first 2) 0xFFFE ∷ at (last 2) 0xFFFF ∷ [])  -- which it reaches
+    ∷ broken-with (recorded 0xE637 6600 22) (at (first 2) 0xFFFE ∷ at (last 2) 0xFFFF ∷ [])  -- which it shares an address with
+    -- nor with the clear address 0040, 05 allowed
+    ∷ sound-with (recorded 0x0032 14 1) []  -- up to it
+    ∷ broken-with (recorded 0x0032 15 1) []  -- with it
+    ∷ broken-with (recorded 0x0040 1 1) []  -- at it
+    ∷ sound-with (recorded 0x0041 1 1) []  -- behind it
+    ∷ sound-with (recorded 0x0032 15 1) (at 6 13 ∷ at 10 0 ∷ [])  -- 0040 without 05
+    ∷ sound-with (recorded 0x0000 1 1) (at 6 13 ∷ at 10 0 ∷ [])  -- 0000 without 05, where word 10 is 0
+    ∷ broken-with (recorded 0x0000 1 1) (at 10 0 ∷ [])  -- 0000 with 05, where word 10 is 0
     -- access: area 2 has 1, the others have 3
     ∷ broken-with base (at (access 2) 0 ∷ [])  -- 0
     ∷ broken-with base (at (access 2) 2 ∷ [])  -- 2
@@ -303,5 +360,5 @@ table =
 
 -- every row is right
 pub sheet-limits : each right table ≡ true
-unfolding table right changed bytesOf built builtAreas builtBehind builtItems sound headerSound areasSound itemsSound settingsSound recordsSound each some upFrom samePlaces itemPlaces writablePlaces placesFollow areasAscend lengthsSum areas items wordAt inRange
+unfolding table right changed bytesOf built builtAreas builtBehind builtItems sound headerSound areasSound itemsSound settingsSound recordsSound recordArea each some upFrom samePlaces itemPlaces writablePlaces placesFollow areasAscend lengthsSum areas items wordAt inRange
 sheet-limits = refl

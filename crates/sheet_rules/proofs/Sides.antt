@@ -55,6 +55,8 @@ table =
     ∷ broken-with (at 7 0x23 ∷ [])
     -- rule S11
     ∷ broken-with (at 11 1 ∷ [])
+    ∷ broken-with (at 11 1 ∷ at 7 0x25 ∷ [])
+    ∷ broken-with (at 11 2 ∷ [])
     -- rule S22; up to FFFF
     ∷ broken-with (at 12 3 ∷ [])
     ∷ sound-with (at 12 0xFFFD ∷ at 13 0xFFFF ∷ [])

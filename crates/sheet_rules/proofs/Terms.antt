@@ -94,6 +94,6 @@ pub runs-reach : each reaches runs ≡ true
 unfolding runs each reach
 runs-reach = refl
 
--- where an item row ends, in bytes, behind so many areas and items: rule L8's sheet has 68 bytes, and the longest 856
+-- where an item row ends, in bytes, behind so many areas and items: rule L8's sheet has 68 bytes, and the longest 856, and six more with a record area
 pub row-ends : (itemEnd 1 0 ∷ itemEnd 1 2 ∷ itemEnd 8 63 ∷ []) ≡ 44 ∷ 68 ∷ 856 ∷ []
 row-ends = refl
