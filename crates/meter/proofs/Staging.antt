@@ -6,7 +6,7 @@ use mathlib.Core.Logic.{_⊎_, inl, inr}
 use Prim.Native.Nat.{ℕ, _+_, _-_, _*_, _%_, _≤_, _<_}
 use native.Mathlib.Omega.{arith}
 use lib.Dec.{ltb, eqb}
-use borrow.Author.Tests.{not-false, lt-ltb, le-ltb}
+use borrow.Author.Tests.{ne-eqb, not-false, lt-ltb, le-ltb}
 use Rattle.lists.specs.Lists.{upFrom}
 use Rattle.lists.specs.Cases.{when}
 use Rattle.sheet_rules.specs.declared.RecordArea.{RecordArea}
@@ -216,6 +216,13 @@ module _ (given : Lent) (frame : List ℕ) {parts : Parts} (apart : parts ≡ pa
 
   pub count-passes : countWrong (given .sheet) parts ≡ false → judgedFrom 5 given frame ≡ judgedFrom 4 given frame
   count-passes e = passes-count given frame (ap (countWrong (given .sheet)) (sym apart) ∙ e)
+
+  -- a read of registers whose count is not 0
+  pub read-counted : parts .function ≡ reads → (parts .second ≡ 0 → ⊥) → startsInRecords (given .sheet) frame ≡ false
+      → judgedFrom 5 given frame ≡ judgedFrom 4 given frame
+  read-counted asks some outside =
+      count-passes
+      (simp (asks, ne-eqb (parts .second) 0 some, ap (λ (p : Parts). inRecords (p .start) (recordArea (given .sheet))) apart ∙ outside))
 
 module _ (frame : List ℕ) {parts : Parts} (apart : parts ≡ partsOf frame) where
   -- a function that is allowed and none of the first three is 10

@@ -6,13 +6,16 @@ use mathlib.Core.List.{List}
 use lib.Dec.{ltb, eqb}
 use lib.ListN.{drop}
 use Rattle.lists.specs.Cases.{firstCase}
+use Rattle.lists.specs.Lists.{upFrom}
 use Rattle.sheet_rules.specs.declared.RecordArea.{RecordArea}
 use Rattle.sheet_rules.specs.Rows.{recordArea}
 use Rattle.sheet_rules.specs.Rules.{sound, inRecords}
+use Rattle.sheet_rules.specs.declared.Purpose.the-variants.{Read}
+use Rattle.sheet_rules.specs.Runs.{allOpen}
 use Rattle.bank_rules.specs.Bank.{stationOf}
 use Rattle.bank_rules.specs.Calls.{Lent}
 use Rattle.frame.specs.declared.Parts.{Parts}
-use Rattle.frame.specs.Frame.{reads, writesMany, partsOf}
+use Rattle.frame.specs.Frame.{reads, writesMany, mostRead, partsOf}
 use Rattle.meter_rules.specs.declared.Judged.{Judged}
 use Rattle.meter_rules.specs.Steps.{functionAllowed, steps, goodFrame}
 use Rattle.meter.specs.declared.stages.Addressed.{Addressed}
@@ -36,6 +39,15 @@ pub record Known (sheet frame : List ℕ) (parts : Parts) : Type 0 where
   pub sheetSound : sound sheet ≡ true
   pub apart : parts ≡ partsOf frame
   pub allowed : functionAllowed sheet frame ≡ true
+
+-- the frame is a read, of one register or more
+pub record AsksRead (parts : Parts) : Type 0 where
+  pub asks : parts .function ≡ reads
+  pub some : parts .second ≡ 0 → ⊥
+
+-- what step 6 tests of a read of registers, by the parts of a frame
+abbrev pub shutIn : List ℕ → Parts → Bool
+shutIn sheet parts = ltb mostRead (parts .second) || not (allOpen Read sheet (upFrom (parts .start) (parts .second)))
 
 -- the frame asks for one record: what is known of every frame, and that it is a read of one address, which is a record's
 pub record AsksRecord (sheet frame : List ℕ) (parts : Parts) (records : RecordArea) : Type 0 where

@@ -1,11 +1,11 @@
 // The order of judgement for a frame, stage by stage: each answers where the frame stops, or hands it on to the next.
 ghost use mathlib.Core.Path.{_≡_};
-ghost use mathlib.Core.Bool.{true, false};
-ghost use Rattle.meter.specs.Stages.{addressedTo, wrongLengthIn, judgedFrom, Known, AsksRecord};
+ghost use mathlib.Core.Bool.{true};
+ghost use Rattle.meter.specs.Stages.{addressedTo, wrongLengthIn, judgedFrom, shutIn, Known, AsksRead, AsksRecord};
 ghost use Rattle.sheet_rules.specs.Rules.{sound};
 ghost use Rattle.bank_rules.specs.Calls.{lentWith};
-ghost use Rattle.frame.specs.Frame.{reads, clears, isWrite, manyOf};
-ghost use Rattle.meter_rules.specs.Steps.{codeAllowed, startsInRecords, judgedFrame};
+ghost use Rattle.frame.specs.Frame.{clears, isWrite, manyOf};
+ghost use Rattle.meter_rules.specs.Steps.{codeAllowed, judgedFrame};
 use crate::values;
 use crate::values::Write;
 use frame::Parts;
@@ -107,7 +107,10 @@ fn judged_count(sheet: &[u8], bank: &[u8], ring: &[u8], frame: &[u8], parts: Par
     ensures { λ r. ⌜ r ≡ judgedFrom 4 (lentWith (now (sheet .entry)) (now (bank .entry)) (now (ring .entry))) (now (frame .entry)) ⌝ }
 {
     if parts.function == frame::READS {
-        return judged_reading(sheet, bank, ring, frame, parts);
+        if parts.second == 0 {
+            return Judged::WrongCount;
+        }
+        return judged_read(sheet, bank, ring, frame, parts);
     }
     if parts.function == frame::CLEARS {
         return judged_clear(sheet, bank, ring, frame, parts);
@@ -124,18 +127,36 @@ fn judged_count(sheet: &[u8], bank: &[u8], ring: &[u8], frame: &[u8], parts: Par
     judged_write(sheet, bank, ring, frame, parts)
 }
 
-// Step 5 for a read, and whether it is of registers or of a record: records are read one at a time.
-fn judged_reading(sheet: &[u8], bank: &[u8], ring: &[u8], frame: &[u8], parts: Parts) -> Judged
+// Steps 5 and 6 for a read of registers: at most 47, and every address in an area. A record lies in no area: so whether it is one of records is
+// asked only where it is no good one of registers.
+fn judged_read(sheet: &[u8], bank: &[u8], ring: &[u8], frame: &[u8], parts: Parts) -> Judged
     requires { ⌜ Known (now sheet) (now frame) parts ⌝ }
-    requires { ⌜ parts .function ≡ reads ⌝ }
+    requires { ⌜ AsksRead parts ⌝ }
     ensures { λ r. ⌜ r ≡ judgedFrom 4 (lentWith (now (sheet .entry)) (now (bank .entry)) (now (ring .entry))) (now (frame .entry)) ⌝ }
 {
-    if parts.second == 0 {
-        return Judged::WrongCount;
+    if frame::MOST_READ < parts.second {
+        return judged_shut(sheet, bank, ring, frame, parts);
     }
+    let run = lookup::reached(sheet, Purpose::Read, parts.start as u32);
+    if run.end < parts.start as u32 + parts.second as u32 {
+        return judged_shut(sheet, bank, ring, frame, parts);
+    }
+    Judged::GoodRead {
+        first: run.place,
+        many: parts.second as u32,
+    }
+}
+
+// Steps 5 and 6 for a read that is no good one of registers: from a record's address on it is of one record, and else it gets error 02.
+fn judged_shut(sheet: &[u8], bank: &[u8], ring: &[u8], frame: &[u8], parts: Parts) -> Judged
+    requires { ⌜ Known (now sheet) (now frame) parts ⌝ }
+    requires { ⌜ AsksRead parts ⌝ }
+    requires { ⌜ shutIn (now sheet) parts ≡ true ⌝ }
+    ensures { λ r. ⌜ r ≡ judgedFrom 4 (lentWith (now (sheet .entry)) (now (bank .entry)) (now (ring .entry))) (now (frame .entry)) ⌝ }
+{
     let records = rows::record_area(sheet);
     if !one_row::in_records(parts.start as u32, records) {
-        return judged_read(sheet, bank, ring, frame, parts);
+        return Judged::WrongAddress;
     }
     if parts.second != 1 {
         return Judged::WrongCount;
@@ -168,26 +189,6 @@ fn judged_record(
     Judged::GoodRecord {
         first: 2 + place * words,
         many: words,
-    }
-}
-
-// Step 6 for a read of registers: at most 47, and every address in an area.
-fn judged_read(sheet: &[u8], bank: &[u8], ring: &[u8], frame: &[u8], parts: Parts) -> Judged
-    requires { ⌜ Known (now sheet) (now frame) parts ⌝ }
-    requires { ⌜ parts .function ≡ reads ⌝ }
-    requires { ⌜ startsInRecords (now sheet) (now frame) ≡ false ⌝ }
-    ensures { λ r. ⌜ r ≡ judgedFrom 5 (lentWith (now (sheet .entry)) (now (bank .entry)) (now (ring .entry))) (now (frame .entry)) ⌝ }
-{
-    if frame::MOST_READ < parts.second {
-        return Judged::WrongAddress;
-    }
-    let run = lookup::reached(sheet, Purpose::Read, parts.start as u32);
-    if run.end < parts.start as u32 + parts.second as u32 {
-        return Judged::WrongAddress;
-    }
-    Judged::GoodRead {
-        first: run.place,
-        many: parts.second as u32,
     }
 }
 

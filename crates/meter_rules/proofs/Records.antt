@@ -2,12 +2,14 @@
 use mathlib.Core.Path.{_≡_, refl, sym, ap, ap₂, _∙_}
 use mathlib.Core.Bool.{Bool, true, false, not, _&&_, _||_, true≢false}
 use mathlib.Core.List.{List, [], _∷_}
-use Prim.Native.Nat.{ℕ}
+use Prim.Native.Nat.{ℕ, _+_, _≤_}
+use native.Mathlib.Omega.{arith}
 use lib.Dec.{eqb}
 use borrow.Author.Tests.{eqb-true, eq-eqb}
 use Rattle.lists.specs.Lists.{each, upFrom}
-use Rattle.sheet_rules.specs.Rows.{areas}
-use Rattle.sheet_rules.specs.Rules.{sound}
+use Rattle.lists.proofs.Among.{up-among, each-among}
+use Rattle.sheet_rules.specs.Rows.{areas, recordArea}
+use Rattle.sheet_rules.specs.Rules.{sound, inRecords}
 use Rattle.sheet_rules.specs.Lookup.{liesIn}
 use Rattle.sheet_rules.specs.declared.Lies.{Lies}
 use Rattle.sheet_rules.specs.declared.Purpose.{Purpose}
@@ -38,3 +40,16 @@ module _ (sheet frame : List ℕ) (is : function frame ≡ reads) (inside : star
   record-shut keeps one =
       ap (λ (n : ℕ). allOpen Read sheet (upFrom (start frame) n)) (many-is frame (asks-for frame reads is) ∙ one)
       ∙ ap (λ (lies : Lies). opens Read lies && true) (record-nowhere sheet keeps (start frame) inside)
+
+-- where each address of a run is open, the first is no record's
+pub open-outside : (sheet : List ℕ) (first many : ℕ) → sound sheet ≡ true → 1 ≤ many → allOpen Read sheet (upFrom first many) ≡ true
+    → inRecords first (recordArea sheet) ≡ false
+unfolding allOpen
+open-outside sheet first many keeps some all = go (inRecords first (recordArea sheet)) refl
+  where
+    go : (inside : Bool) → inRecords first (recordArea sheet) ≡ inside → inside ≡ false
+    go false e = refl
+    go true e =
+        let here : first + 0 ≡ first = omega arith in
+        let open-here = each-among (λ address. opens Read (liesIn (areas sheet) address)) (up-among first many 0 (omega (arith, some))) all in
+        absurd (true≢false (sym open-here ∙ ap (λ (n : ℕ). opens Read (liesIn (areas sheet) n)) here ∙ ap (opens Read) (record-nowhere sheet keeps first e)))

@@ -28,50 +28,61 @@ module _ (c : tie.After-struct-known) where
   parts = start .args .parts
 
 returns : tie.Need-returns
-returns c = c .judged-reading .ensures
+returns c =
+    let reading = c .before .before in
+    let at = reading .before in
+    count-stops (given at) (frame at) (start at .pre .apart) (simp (reading .if1 .taken, eq-eqb (parts at .second) 0 (c .if2 .taken)))
+
+judged-read-requires : tie.Need-judged-read-requires
+judged-read-requires c κs =
+    let reading = c .before .before in
+    (start (reading .before) .pre, record { asks = reading .if1 .taken; some = c .if2 .left })
 
 returns-2 : tie.Need-returns-2
-returns-2 c =
+returns-2 c = c .judged-read .ensures
+
+returns-3 : tie.Need-returns-3
+returns-3 c =
     let at = c .before .before .before .before in
-    c .judged-clear .ensures ∙ count-passes (given at) (frame at) (start at .pre .apart) (simp (c .before .if2 .taken))
+    c .judged-clear .ensures ∙ count-passes (given at) (frame at) (start at .pre .apart) (simp (c .before .if3 .taken))
 
 -- in front of the test for 06
-abbrev at-first : tie.Else2 → tie.After-struct-known
+abbrev at-first : tie.Else3 → tie.After-struct-known
 at-first c = c .before .before .before
 
 judged-write-requires : tie.Need-judged-write-requires
 judged-write-requires c κs =
     let at = at-first (c .before .before) in
-    (start at .pre, write-of-parts (frame at) (start at .pre .apart) (inl (c .if3 .taken)))
+    (start at .pre, write-of-parts (frame at) (start at .pre .apart) (inl (c .if4 .taken)))
 
-returns-3 : tie.Need-returns-3
-returns-3 c =
+returns-4 : tie.Need-returns-4
+returns-4 c =
     let at = at-first (c .before .before .before) in
-    c .judged-write .ensures ∙ count-passes (given at) (frame at) (start at .pre .apart) (simp (c .before .if3 .taken))
+    c .judged-write .ensures ∙ count-passes (given at) (frame at) (start at .pre .apart) (simp (c .before .if4 .taken))
 
 -- none of the first three functions
-module _ (c : tie.Else3) where
+module _ (c : tie.Else4) where
   abbrev first : tie.After-struct-known
   first = at-first (c .before .before)
 
   ten : parts first .function ≡ writesMany
   ten =
       last-of-parts (frame first) (start first .pre .apart) (now (start first .args .sheet)) (start first .pre .allowed)
-      (c .before .before .before .before .if1 .left) (c .before .before .if2 .left) (c .if3 .left)
-
-returns-4 : tie.Need-returns-4
-returns-4 c =
-    let many = c .before .before in
-    let at = first many in
-    count-stops (given at) (frame at) (start at .pre .apart) (simp (ten many, eq-eqb (parts at .second) 0 (c .if4 .taken)))
+      (c .before .before .before .before .if1 .left) (c .before .before .if3 .left) (c .if4 .left)
 
 returns-5 : tie.Need-returns-5
 returns-5 c =
+    let many = c .before .before in
+    let at = first many in
+    count-stops (given at) (frame at) (start at .pre .apart) (simp (ten many, eq-eqb (parts at .second) 0 (c .if5 .taken)))
+
+returns-6 : tie.Need-returns-6
+returns-6 c =
     let some = c .before .before .before in
     let many = some .before .before in
     let at = first many in
     count-stops (given at) (frame at) (start at .pre .apart)
-    (simp (ten many, ne-eqb (parts at .second) 0 (some .if4 .left), ne-eqb (parts at .bytes) (2 * parts at .second) (c .if5 .taken)))
+    (simp (ten many, ne-eqb (parts at .second) 0 (some .if5 .left), ne-eqb (parts at .bytes) (2 * parts at .second) (c .if6 .taken)))
 
 judged-write-requires-2 : tie.Need-judged-write-requires-2
 judged-write-requires-2 c κs =
@@ -79,29 +90,30 @@ judged-write-requires-2 c κs =
     let at = first many in
     (start at .pre, write-of-parts (frame at) (start at .pre .apart) (inr (ten many)))
 
-returns-6 : tie.Need-returns-6
-returns-6 c =
+returns-7 : tie.Need-returns-7
+returns-7 c =
     let some = c .before .before .before .before in
     let many = some .before .before in
     let at = first many in
     c .judged-write2 .ensures
     ∙ count-passes (given at) (frame at) (start at .pre .apart)
-    (simp (ten many, ne-eqb (parts at .second) 0 (some .if4 .left), eq-eqb (parts at .bytes) (2 * parts at .second) (c .before .if5 .left)))
+    (simp (ten many, ne-eqb (parts at .second) 0 (some .if5 .left), eq-eqb (parts at .bytes) (2 * parts at .second) (c .before .if6 .left)))
 
 pub judged-count-spec : {M : Type 1} → statement M
 judged-count-spec =
     tie.close
     (tie.spec
-    (λ c κs. search needs)
     returns
-    (λ c κs. search needs)
+    judged-read-requires
     returns-2
-    judged-write-requires
+    (λ c κs. search needs)
     returns-3
+    judged-write-requires
     returns-4
-    (λ c. search needs)
-    (λ c. search needs)
-    (λ c. search needs)
     returns-5
+    (λ c. search needs)
+    (λ c. search needs)
+    (λ c. search needs)
+    returns-6
     judged-write-requires-2
-    returns-6)
+    returns-7)
