@@ -133,27 +133,46 @@ static void poke_range(void)
     put16(subject.sheet, row + 5, ONE_OF(0, 1, 2, 0xF6, LAST_STATION, 0xF8, 0xFF, 0x0100, 0xFFFF));
 }
 
-/* The word for a record area, its three words at, next to and beyond their
- * limits, or all four left in with another length. */
+/* The word that the record area begins at, which a sheet without one is given:
+ * of one record, next to an area or elsewhere. */
+static size_t give_records(void)
+{
+    if (subject.made.records.is)
+        return subject.sheet_n / 2 - 3;
+    size_t row = subject.sheet_n / 2;
+    put16(subject.sheet, row, some_records_first(&subject.made, 1));
+    put16(subject.sheet, row + 1, 1);
+    put16(subject.sheet, row + 2, 1);
+    put16(subject.sheet, 7, (uint32_t)row + 3);
+    put16(subject.sheet, 11, 1);
+    subject.sheet_n += 6;
+    return row;
+}
+
+/* The records' first address where they share one with an area, or just do not. */
+static uint32_t first_near_area(uint32_t count)
+{
+    const struct made_area *area = &subject.made.areas[below(subject.made.areas_n)];
+    return ONE_OF(area->last, area->last + 1, area->first - count, area->first - count + 1,
+                  below(0x10000));
+}
+
+/* One of the words of a record area at, next to or beyond its limits. */
 static void poke_records(void)
 {
-    size_t row = subject.sheet_n / 2 - (subject.made.records.is ? 3 : 0);
-    if (!subject.made.records.is) {
-        put16(subject.sheet, row, some_records_first(&subject.made, 1));
-        put16(subject.sheet, row + 1, 1);
-        put16(subject.sheet, row + 2, 1);
-    }
-    switch (below(5)) {
-    case 0: put16(subject.sheet, 11, ONE_OF(0, 1, 2)); break;
-    case 1: put16(subject.sheet, row, below(0x10000)); break;
+    size_t row = give_records();
+    switch (below(6)) {
+    case 0: case 1:
+        put16(subject.sheet, row, first_near_area(get16(subject.sheet, row + 1)));
+        break;
     case 2: put16(subject.sheet, row + 1, ONE_OF(0, 1, 2, 6600, 6601, 0xFFFF)); break;
     case 3: put16(subject.sheet, row + 2, ONE_OF(0, 1, 22, 46, 47, 48, 0xFFFF)); break;
-    default: put16(subject.sheet, 7, (uint32_t)row + ONE_OF(0, 1, 2, 3, 4)); break;
+    case 4: put16(subject.sheet, 11, ONE_OF(0, 2, 3, 0x0100)); break;
+    default:
+        put16(subject.sheet, 7, (uint32_t)row + ONE_OF(0, 1, 2, 3, 4));
+        subject.sheet_n = 2 * (row + ONE_OF(0, 3, 3));
+        break;
     }
-    if (chance(40))
-        put16(subject.sheet, 7, (uint32_t)row + 3);
-    if (chance(70))
-        subject.sheet_n = 2 * (row + ONE_OF(0, 3, 3, 3));
 }
 
 static void make_subject_sheet(void)
@@ -286,7 +305,8 @@ static bool choose_bank(struct call *call)
 {
     static uint8_t bank[BANK_ROOM];
     memcpy(bank, subject.bank, subject.bank_n);
-    bool own = chance(call->sort == CALL_ANSWER || call->sort == CALL_WHY ? 88 : 75);
+    bool framed = call->sort == CALL_ANSWER || call->sort == CALL_WHY;
+    bool own = chance(framed || call->sort == CALL_POST ? 88 : 75);
     call->part[PART_BANK] = bank;
     call->part_n[PART_BANK] = own ? subject.bank_n : spoil_bank(bank, subject.bank_n);
     return own;

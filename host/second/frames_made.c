@@ -55,8 +55,8 @@ static uint32_t some_count(const struct made *made, uint32_t start)
 {
     uint32_t run = run_length(made, start, false);
     switch (below(10)) {
-    case 0: return ONE_OF(0, 0, 0, 0, 0, 1, 46, 48, 0x7FFF, 0x8000, 0xFFFF);
-    case 1: return ONE_OF(0, 0, 0, 0, 0, 46, 47, 48);
+    case 0: return ONE_OF(0, 0, 0, 0, 0, 0, 0, 0, 1, 46, 48, 0x7FFF, 0x8000, 0xFFFF);
+    case 1: return ONE_OF(0, 0, 0, 0, 0, 0, 46, 47, 48);
     case 2: return run;
     case 3: return run + 1;
     case 4: return ONE_OF(0x0100, 0x0101, 0x0102, 0x0080, 0x8001, 0x10000 - start) & 0xFFFF;
@@ -569,7 +569,7 @@ static uint32_t post_address(const struct made *made)
     const struct made_area *area = &made->areas[below(made->areas_n)];
     for (int tries = 0; tries < 6 && area->access != 1; tries++)
         area = &made->areas[below(made->areas_n)];
-    if (made->records.is && chance(40))
+    if (made->records.is && chance(50))
         return post_near_records(made);
     if (chance(40))
         return area_with_neighbour(made, 1)->last;
