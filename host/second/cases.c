@@ -794,6 +794,38 @@ static void run_history(void)
     read_history(sheet, sheet_n, "01 03 1D C7 00 01", 5, 2);
 }
 
+/* ---- W3: the longest record, and records that 03 does not reach ---- */
+
+static void run_longest(void)
+{
+    static const uint8_t out[OUT_ROOM];
+    struct sheet_case longest = { "longest", 13, 0, 0x0400, 2, 47, NUMBER_DONE };
+    uint8_t sheet[SHEET_ROOM], bank[BANK_ROOM], ring[4 + 2 * 94], frame[OUT_ROOM];
+    size_t bank_n = 2 * 38 + 2;
+    struct made made;
+    struct outcome outcome;
+    make_with_records(&made, &longest);
+    size_t sheet_n = put_sheet(&made, sheet);
+    second_bank_fresh(sheet, sheet_n, bank, bank_n);
+    for (size_t i = 0; i < sizeof ring; i++)
+        ring[i] = (uint8_t)i;
+    put16(ring, 0, 1);
+    put16(ring, 1, 2);
+    struct call call = { CALL_ANSWER, { sheet, bank, ring, frame, out },
+                         { sheet_n, bank_n, sizeof ring, put_checked("01 03 04 00 00 01", frame),
+                           OUT_ROOM }, 0, 0 };
+    expect(same_on_both_sides(&call, &outcome), "longest", "the sides differ");
+    expect(outcome.number == NUMBER_DONE && outcome.length == 99, "longest", "length");
+    expect(part_after(PART_OUT)[2] == 94, "longest", "byte count");
+    expect(memcmp(part_after(PART_OUT) + 3, ring + 4 + 94, 94) == 0, "longest", "record");
+    expect(part_after(PART_OUT)[99] == 0, "longest", "byte behind the reply");
+    expect(!bank_changed(&call), "longest", "bank");
+    put16(sheet, 6, 12);
+    expect(same_on_both_sides(&call, &outcome), "03 closed", "the sides differ");
+    expect(outcome.number == NUMBER_DONE && outcome.length == 5, "03 closed", "length");
+    expect(part_after(PART_OUT)[1] == 0x83 && part_after(PART_OUT)[2] == 1, "03 closed", "error");
+}
+
 /* ---- W3: posting at records, and from the readings in front into them ---- */
 
 static void run_post(void)
@@ -827,6 +859,7 @@ static void run_records(void)
     for (size_t i = 0; i < sizeof adds / sizeof adds[0]; i++)
         run_add(&adds[i]);
     run_history();
+    run_longest();
     run_post();
 }
 

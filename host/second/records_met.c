@@ -143,14 +143,32 @@ static const char *read_breach(const struct call *call, const struct records *re
     return NULL;
 }
 
+/* What no frame that starts at a record does, whatever its function. */
+static const char *rest_breach(const struct call *call, const struct outcome *outcome)
+{
+    size_t n = outcome->length;
+    uint32_t rate_place = get16(call->part[PART_SHEET], 9);
+    if (bank_changed(call))
+        return "a frame at a record has changed the bank";
+    if (outcome->rate != get16(call->part[PART_BANK], rate_place))
+        return "the reply to a frame at a record is not at the bank's rate";
+    if (n > call->part_n[PART_OUT]
+        || memcmp(call->part[PART_OUT] + n, part_after(PART_OUT) + n, call->part_n[PART_OUT] - n))
+        return "bytes behind the reply to a frame at a record have changed";
+    return NULL;
+}
+
 static const char *reply_breach(const struct call *call, const struct records *records,
                                 const struct outcome *outcome)
 {
     static const uint8_t bit_of[17] = { [0x03] = 1, [0x05] = 2, [0x06] = 4, [0x10] = 8 };
     uint8_t function = call->part[PART_BYTES][1];
-    if (!starts_at_record(call) || function > 0x10
-        || (get16(call->part[PART_SHEET], 6) & bit_of[function]) == 0)
+    if (!starts_at_record(call))
         return NULL;
+    if (rest_breach(call, outcome) != NULL)
+        return rest_breach(call, outcome);
+    if (function > 0x10 || (get16(call->part[PART_SHEET], 6) & bit_of[function]) == 0)
+        return is_error(1, outcome) ? NULL : "a closed function at a record got no error 01";
     if (function == 0x03)
         return read_breach(call, records, outcome);
     if (function != 0x10 && !is_error(2, outcome))
