@@ -157,9 +157,14 @@ static uint32_t first_near_area(uint32_t count)
                   below(0x10000));
 }
 
-/* One of the words of a record area at, next to or beyond its limits. */
+/* One of the words of a record area at, next to or beyond its limits, or word 11
+ * with no record area behind it. */
 static void poke_records(void)
 {
+    if (!subject.made.records.is && chance(25)) {
+        put16(subject.sheet, 11, ONE_OF(1, 2, 2, 3, 0x0100));
+        return;
+    }
     size_t row = give_records();
     switch (below(6)) {
     case 0: case 1:
