@@ -1,4 +1,5 @@
 #include "calls.h"
+#include "cedarskein.h"
 #include "lent.h"
 #include "noise.h"
 #include "second.h"
@@ -7,30 +8,7 @@
 #include <stdio.h>
 #include <string.h>
 
-uint16_t cedarskein_check_start(void);
-uint16_t cedarskein_check_take(uint16_t state, uint8_t byte);
-uint16_t cedarskein_check_value(const uint8_t *bytes, size_t bytes_n);
-uint32_t cedarskein_sheet_check(const uint8_t *sheet, size_t sheet_n);
-uint32_t cedarskein_bank_check(const uint8_t *sheet, size_t sheet_n,
-                               const uint8_t *bank, size_t bank_n);
-uint32_t cedarskein_bank_fresh(const uint8_t *sheet, size_t sheet_n,
-                               uint8_t *bank, size_t bank_n);
-uint32_t cedarskein_post(const uint8_t *sheet, size_t sheet_n,
-                         uint8_t *bank, size_t bank_n, uint32_t address,
-                         const uint8_t *words, size_t words_n);
-uint32_t cedarskein_set_mark(const uint8_t *sheet, size_t sheet_n,
-                             uint8_t *bank, size_t bank_n, uint32_t mark);
-uint32_t cedarskein_answer(const uint8_t *sheet, size_t sheet_n,
-                           uint8_t *bank, size_t bank_n,
-                           const uint8_t *frame, size_t frame_n,
-                           uint8_t *out, size_t out_n,
-                           uint32_t *length, uint32_t *rate);
-uint32_t cedarskein_why(const uint8_t *sheet, size_t sheet_n,
-                        const uint8_t *bank, size_t bank_n,
-                        const uint8_t *frame, size_t frame_n,
-                        uint32_t *reason, uint32_t *address);
-
-/* The ten functions of one side. */
+/* The twelve functions of one side. */
 struct functions {
     uint16_t (*check_start)(void);
     uint16_t (*check_take)(uint16_t, uint8_t);
@@ -41,9 +19,11 @@ struct functions {
     uint32_t (*post)(const uint8_t *, size_t, uint8_t *, size_t, uint32_t, const uint8_t *, size_t);
     uint32_t (*set_mark)(const uint8_t *, size_t, uint8_t *, size_t, uint32_t);
     uint32_t (*answer)(const uint8_t *, size_t, uint8_t *, size_t, const uint8_t *, size_t,
-                       uint8_t *, size_t, uint32_t *, uint32_t *);
+                       const uint8_t *, size_t, uint8_t *, size_t, uint32_t *, uint32_t *);
     uint32_t (*why)(const uint8_t *, size_t, const uint8_t *, size_t, const uint8_t *, size_t,
-                    uint32_t *, uint32_t *);
+                    const uint8_t *, size_t, uint32_t *, uint32_t *);
+    uint32_t (*ring_check)(const uint8_t *, size_t, const uint8_t *, size_t);
+    uint32_t (*add_record)(const uint8_t *, size_t, uint8_t *, size_t, const uint8_t *, size_t);
 };
 
 enum { LIBRARY, SECOND, SIDES };
@@ -53,18 +33,20 @@ static const char *const side_names[SIDES] = { "library", "second" };
 static const struct functions sides[SIDES] = {
     { cedarskein_check_start, cedarskein_check_take, cedarskein_check_value,
       cedarskein_sheet_check, cedarskein_bank_check, cedarskein_bank_fresh,
-      cedarskein_post, cedarskein_set_mark, cedarskein_answer, cedarskein_why },
+      cedarskein_post, cedarskein_set_mark, cedarskein_answer, cedarskein_why,
+      cedarskein_ring_check, cedarskein_add_record },
     { second_check_start, second_check_take, second_check_value,
       second_sheet_check, second_bank_check, second_bank_fresh,
-      second_post, second_set_mark, second_answer, second_why }
+      second_post, second_set_mark, second_answer, second_why,
+      second_ring_check, second_add_record }
 };
 
 static const char *const call_names[CALL_COUNT] = {
     "check_start", "check_take", "check_value", "sheet_check", "bank_check", "bank_fresh",
-    "post", "set_mark", "answer", "why"
+    "post", "set_mark", "answer", "why", "ring_check", "add_record"
 };
 
-static const char *const part_names[PART_COUNT] = { "sheet", "bank", "bytes", "out" };
+static const char *const part_names[PART_COUNT] = { "sheet", "bank", "ring", "bytes", "out" };
 
 static struct lent lent[SIDES][PART_COUNT];
 
@@ -78,27 +60,34 @@ const uint8_t *part_after(enum part part)
     return lent_bytes(&lent[LIBRARY][part]);
 }
 
+bool part_changed(const struct call *call, enum part part)
+{
+    return call->part_n[part] > 0
+        && memcmp(call->part[part], part_after(part), call->part_n[part]) != 0;
+}
+
 bool bank_changed(const struct call *call)
 {
-    return call->part_n[PART_BANK] > 0
-        && memcmp(call->part[PART_BANK], part_after(PART_BANK), call->part_n[PART_BANK]) != 0;
+    return part_changed(call, PART_BANK);
 }
 
 bool is_untouched(const struct call *call, const struct outcome *outcome)
 {
     return outcome->number == NUMBER_SILENCE && outcome->length == 0 && outcome->rate == 0
-        && !bank_changed(call)
-        && memcmp(call->part[PART_OUT], part_after(PART_OUT), call->part_n[PART_OUT]) == 0;
+        && !bank_changed(call) && !part_changed(call, PART_RING) && !part_changed(call, PART_OUT);
 }
 
 /* ---- Printing ---- */
 
+enum { MOST_PRINTED = 6000 };
+
+/* Of a large ring only the front is printed. */
 static void print_bytes(const char *name, const uint8_t *bytes, size_t n)
 {
     printf("  %s, %zu bytes:", name, n);
-    for (size_t i = 0; i < n; i++)
+    for (size_t i = 0; i < n && i < MOST_PRINTED; i++)
         printf(" %02X", bytes[i]);
-    printf("\n");
+    printf(n > MOST_PRINTED ? " ...\n" : "\n");
 }
 
 void print_call(const struct call *call)
@@ -116,6 +105,7 @@ static void print_side(int side, const struct outcome *outcome)
            ", address %04" PRIX32 "\n", side_names[side], outcome->number, outcome->length,
            outcome->rate, outcome->reason, outcome->address);
     print_bytes("bank after", lent_bytes(&lent[side][PART_BANK]), lent[side][PART_BANK].n);
+    print_bytes("ring after", lent_bytes(&lent[side][PART_RING]), lent[side][PART_RING].n);
     print_bytes("out after", lent_bytes(&lent[side][PART_OUT]), lent[side][PART_OUT].n);
 }
 
@@ -133,15 +123,16 @@ static uint32_t ask_answer(const struct functions *side, struct lent *part,
                            struct handed_back *back)
 {
     return side->answer(part[PART_SHEET].at, part[PART_SHEET].n, part[PART_BANK].at,
-                        part[PART_BANK].n, part[PART_BYTES].at, part[PART_BYTES].n,
-                        part[PART_OUT].at, part[PART_OUT].n, &back->first, &back->second);
+                        part[PART_BANK].n, part[PART_RING].at, part[PART_RING].n,
+                        part[PART_BYTES].at, part[PART_BYTES].n, part[PART_OUT].at,
+                        part[PART_OUT].n, &back->first, &back->second);
 }
 
 static uint32_t ask_why(const struct functions *side, struct lent *part, struct handed_back *back)
 {
     return side->why(part[PART_SHEET].at, part[PART_SHEET].n, part[PART_BANK].at,
-                     part[PART_BANK].n, part[PART_BYTES].at, part[PART_BYTES].n, &back->first,
-                     &back->second);
+                     part[PART_BANK].n, part[PART_RING].at, part[PART_RING].n,
+                     part[PART_BYTES].at, part[PART_BYTES].n, &back->first, &back->second);
 }
 
 static uint32_t ask(const struct functions *side, const struct call *call, struct lent *part,
@@ -150,8 +141,10 @@ static uint32_t ask(const struct functions *side, const struct call *call, struc
     const uint8_t *sheet = part[PART_SHEET].at;
     const uint8_t *bytes = part[PART_BYTES].at;
     uint8_t *bank = part[PART_BANK].at;
+    uint8_t *ring = part[PART_RING].at;
     size_t sheet_n = part[PART_SHEET].n;
     size_t bank_n = part[PART_BANK].n;
+    size_t ring_n = part[PART_RING].n;
     size_t bytes_n = part[PART_BYTES].n;
     switch (call->sort) {
     case CALL_CHECK_START: return side->check_start();
@@ -163,7 +156,9 @@ static uint32_t ask(const struct functions *side, const struct call *call, struc
     case CALL_POST: return side->post(sheet, sheet_n, bank, bank_n, call->value, bytes, bytes_n);
     case CALL_SET_MARK: return side->set_mark(sheet, sheet_n, bank, bank_n, call->value);
     case CALL_ANSWER: return ask_answer(side, part, back);
-    default: return ask_why(side, part, back);
+    case CALL_WHY: return ask_why(side, part, back);
+    case CALL_RING_CHECK: return side->ring_check(sheet, sheet_n, ring, ring_n);
+    default: return side->add_record(sheet, sheet_n, ring, ring_n, bytes, bytes_n);
     }
 }
 
@@ -178,12 +173,13 @@ static bool all_back(int side)
     return kept;
 }
 
-/* The sheet and the frame or posted bytes are lent for reading only, and to
- * two calls the bank too. */
+/* The sheet and the frame, posted bytes or record are lent for reading only; to
+ * two calls the bank too, and to all but one the ring. */
 static bool is_only_read(enum call_sort sort, int part)
 {
     return part == PART_SHEET || part == PART_BYTES
-        || (part == PART_BANK && (sort == CALL_BANK_CHECK || sort == CALL_WHY));
+        || (part == PART_BANK && (sort == CALL_BANK_CHECK || sort == CALL_WHY))
+        || (part == PART_RING && sort != CALL_ADD_RECORD);
 }
 
 static bool read_parts_kept(int side, const struct call *call)

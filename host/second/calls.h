@@ -17,11 +17,14 @@ enum call_sort {
     CALL_SET_MARK,
     CALL_ANSWER,
     CALL_WHY,
+    CALL_RING_CHECK,
+    CALL_ADD_RECORD,
     CALL_COUNT
 };
 
-/* The buffers of a call; those it does not have are empty. */
-enum part { PART_SHEET, PART_BANK, PART_BYTES, PART_OUT, PART_COUNT };
+/* The buffers of a call; those it does not have are empty. The bytes are a
+ * frame, posted words or a record. */
+enum part { PART_SHEET, PART_BANK, PART_RING, PART_BYTES, PART_OUT, PART_COUNT };
 
 struct call {
     enum call_sort sort;
@@ -45,8 +48,9 @@ bool same_on_both_sides(const struct call *call, struct outcome *outcome);
 /* A buffer of the library's side as the last call left it. */
 const uint8_t *part_after(enum part part);
 
-/* Whether the last call, this one, changed its bank; whether its frame got
- * silence and it left all as it was. */
+/* Whether the last call, this one, changed a buffer, or its bank; whether its
+ * frame got silence and it left all as it was. */
+bool part_changed(const struct call *call, enum part part);
 bool bank_changed(const struct call *call);
 bool is_untouched(const struct call *call, const struct outcome *outcome);
 

@@ -1,4 +1,4 @@
-/* The cases that 01 lists, and more for the requests W1 and W2 of 02, run on
+/* The cases that 01 lists, and more for the requests W1 to W3 of 02, run on
  * both sides: the library and the second statement must agree, and both must
  * give what is written here. Each frame is asked about first: the reason is the
  * one that 02 names for what 01 writes. */
@@ -218,8 +218,8 @@ static void run_case(const struct frame_case *one)
     memcpy(after, bank, bank_n);
     put_stored(&made, one->after, after);
     size_t frame_n = put_checked(one->frame, frame);
-    struct call call = { CALL_ANSWER, { sheet, bank, frame, out },
-                         { sheet_n, bank_n, frame_n, OUT_ROOM }, 0, 0 };
+    struct call call = { CALL_ANSWER, { sheet, bank, NULL, frame, out },
+                         { sheet_n, bank_n, 0, frame_n, OUT_ROOM }, 0, 0 };
     ask_why(one, call);
     expect(same_on_both_sides(&call, &outcome), one->name, "the sides differ");
     judge_case(one, &call, &outcome, after);
@@ -228,8 +228,9 @@ static void run_case(const struct frame_case *one)
 /* P12, and the values after 01 and 03 that the meter's document prints. */
 static void run_check_values(void)
 {
-    struct call call = { CALL_CHECK_VALUE, { NULL, NULL, (const uint8_t *)"123456789", NULL },
-                         { 0, 0, 9, 0 }, 0, 0 };
+    struct call call = { CALL_CHECK_VALUE,
+                         { NULL, NULL, NULL, (const uint8_t *)"123456789", NULL },
+                         { 0, 0, 0, 9, 0 }, 0, 0 };
     struct outcome outcome;
     expect(same_on_both_sides(&call, &outcome) && outcome.number == 0x4B37, "P12", "value");
     call.part[PART_BYTES] = (const uint8_t *)"\x01\x03";
@@ -251,7 +252,8 @@ static void run_listed_sheet(void)
     uint8_t sheet[68];
     for (size_t i = 0; i < 34; i++)
         put16(sheet, i, words[i]);
-    struct call call = { CALL_SHEET_CHECK, { sheet, NULL, NULL, NULL }, { 68, 0, 0, 0 }, 0, 0 };
+    struct call call = { CALL_SHEET_CHECK, { sheet, NULL, NULL, NULL, NULL }, { 68, 0, 0, 0, 0 },
+                         0, 0 };
     struct outcome outcome;
     expect(same_on_both_sides(&call, &outcome) && outcome.number == NUMBER_DONE,
            "listed sheet", "number");
@@ -306,8 +308,8 @@ static void run_range(const struct range_case *one, uint32_t bore)
     made.items[made_item_of(&made, made.address_place)].high = one->high;
     put_sheet(&made, sheet);
     size_t frame_n = put_checked("01 03 01 08 00 01", frame);
-    struct call call = { CALL_SHEET_CHECK, { sheet, bank, frame, out }, { sheet_n, 0, 0, 0 },
-                         0, 0 };
+    struct call call = { CALL_SHEET_CHECK, { sheet, bank, NULL, frame, out },
+                         { sheet_n, 0, 0, 0, 0 }, 0, 0 };
     expect(same_on_both_sides(&call, &outcome), one->name, "the sides differ");
     expect(outcome.number == one->number, one->name, "number of the sheet");
     call.sort = CALL_ANSWER;
@@ -345,8 +347,8 @@ static void run_bank(const struct bank_case *one, uint32_t bore)
     size_t bank_n = 2 * (size_t)made.bank_words + 2;
     second_bank_fresh(sheet, sheet_n, bank, bank_n);
     put16(bank, made.address_place, one->station);
-    struct call call = { CALL_BANK_CHECK, { sheet, bank, NULL, NULL }, { sheet_n, bank_n, 0, 0 },
-                         0, 0 };
+    struct call call = { CALL_BANK_CHECK, { sheet, bank, NULL, NULL, NULL },
+                         { sheet_n, bank_n, 0, 0, 0 }, 0, 0 };
     expect(same_on_both_sides(&call, &outcome), one->name, "the sides differ");
     expect(outcome.number == one->number, one->name, "number");
 }
@@ -362,15 +364,516 @@ static void run_stations(void)
     }
 }
 
+/* ---- W3: sheets with a record area ---- */
+
+struct sheet_case {
+    const char *name;
+    uint32_t functions, clear, first, count, words;
+    enum second_number number;
+};
+
+/* On AS-WE's areas: 00FF to 0109, 010D to 0113, 0115 and 0116, 0123 and 0124,
+ * 01FF to 020E. */
+static const struct sheet_case sheets[] = {
+    { "history", 13, 0, 0x0400, 6600, 22, NUMBER_DONE },
+    { "1 record of 1 word", 13, 0, 0x0400, 1, 1, NUMBER_DONE },
+    { "6600 of 47 words", 13, 0, 0x0400, 6600, 47, NUMBER_DONE },
+    { "no records", 13, 0, 0x0400, 0, 22, NUMBER_SHEET },
+    { "6601 records", 13, 0, 0x0400, 6601, 22, NUMBER_SHEET },
+    { "65535 records", 13, 0, 0x0400, 0xFFFF, 1, NUMBER_SHEET },
+    { "no words", 13, 0, 0x0400, 6600, 0, NUMBER_SHEET },
+    { "48 words", 13, 0, 0x0400, 6600, 48, NUMBER_SHEET },
+    { "256 + 47 words", 13, 0, 0x0400, 6600, 0x012F, NUMBER_SHEET },
+    { "one at FFFF", 13, 0, 0xFFFF, 1, 1, NUMBER_DONE },
+    { "two from FFFF", 13, 0, 0xFFFF, 2, 1, NUMBER_SHEET },
+    { "6600 up to FFFF", 13, 0, 0xE638, 6600, 22, NUMBER_DONE },
+    { "6600 up to 10000", 13, 0, 0xE639, 6600, 22, NUMBER_SHEET },
+    { "up to 00FE", 13, 0, 0x0000, 255, 2, NUMBER_DONE },
+    { "up to 00FF", 13, 0, 0x0000, 256, 2, NUMBER_SHEET },
+    { "010A to 010C", 13, 0, 0x010A, 3, 2, NUMBER_DONE },
+    { "0109 to 010C", 13, 0, 0x0109, 4, 2, NUMBER_SHEET },
+    { "010A to 010D", 13, 0, 0x010A, 4, 2, NUMBER_SHEET },
+    { "0114", 13, 0, 0x0114, 1, 47, NUMBER_DONE },
+    { "0115", 13, 0, 0x0115, 1, 47, NUMBER_SHEET },
+    { "0125 to 01FE", 13, 0, 0x0125, 218, 2, NUMBER_DONE },
+    { "0125 to 01FF", 13, 0, 0x0125, 219, 2, NUMBER_SHEET },
+    { "from 020F", 13, 0, 0x020F, 1, 1, NUMBER_DONE },
+    { "from 020E", 13, 0, 0x020E, 1, 1, NUMBER_SHEET },
+    { "in an area", 13, 0, 0x0204, 2, 1, NUMBER_SHEET },
+    { "over all areas", 13, 0, 0x0050, 6600, 1, NUMBER_SHEET },
+    { "word 10 is no clear address", 13, 0, 0x0000, 1, 1, NUMBER_DONE },
+    { "clear address 0000", 15, 0, 0x0000, 1, 1, NUMBER_SHEET },
+    { "next to clear address 0000", 15, 0, 0x0001, 1, 1, NUMBER_DONE },
+    { "clear address 0300", 15, 0x0300, 0x0300, 1, 1, NUMBER_SHEET },
+    { "from 0301", 15, 0x0300, 0x0301, 9, 1, NUMBER_DONE },
+    { "up to 02FF", 15, 0x0300, 0x02F0, 16, 1, NUMBER_DONE },
+    { "up to 0300", 15, 0x0300, 0x02F0, 17, 1, NUMBER_SHEET },
+    { "over 0300", 15, 0x0300, 0x02F0, 30, 1, NUMBER_SHEET },
+    { "only 05", 2, 0x0300, 0x0400, 5, 1, NUMBER_DONE },
+    { "no function", 0, 0, 0x0400, 5, 1, NUMBER_DONE }
+};
+
+static uint8_t big_ring[4 + 2 * 6600 * 47];
+
+static void make_with_records(struct made *made, const struct sheet_case *one)
+{
+    make_as_we(made, 40);
+    made->functions = one->functions;
+    made->clear = one->clear;
+    made->records.is = true;
+    made->records.first = one->first;
+    made->records.count = one->count;
+    made->records.words = one->words;
+}
+
+static void ask(struct call *call, enum call_sort sort, uint32_t number, const char *name)
+{
+    struct outcome outcome;
+    call->sort = sort;
+    expect(same_on_both_sides(call, &outcome), name, "the sides differ");
+    if (outcome.number != number)
+        printf("%s: %s gives %u\n", name, call_name(sort), (unsigned)outcome.number);
+    expect(outcome.number == number, name, "number");
+}
+
+/* Asked with the ring that the sheet would have if it were sound, empty, and a
+ * whole record. */
+static void run_sheet(const struct sheet_case *one)
+{
+    static const uint8_t record[94] = { 1, 2, 3, 4 };
+    uint8_t sheet[SHEET_ROOM];
+    struct made made;
+    make_with_records(&made, one);
+    bool sound = one->number == NUMBER_DONE;
+    size_t ring_n = sound ? 4 + 2 * (size_t)one->count * one->words : 4;
+    size_t record_n = sound ? 2 * (size_t)one->words : 2;
+    memset(big_ring, 0, 4);
+    struct call call = { CALL_SHEET_CHECK, { sheet, NULL, big_ring, record, NULL },
+                         { put_sheet(&made, sheet), 0, ring_n, record_n, 0 }, 0, 0 };
+    ask(&call, CALL_SHEET_CHECK, one->number, one->name);
+    ask(&call, CALL_RING_CHECK, one->number, one->name);
+    ask(&call, CALL_ADD_RECORD, one->number, one->name);
+}
+
+/* Word 11, the three words behind the rows, and word 7 go together. */
+static void run_sheet_lengths(void)
+{
+    static const struct {
+        uint32_t word_11, word_7, words;
+        enum second_number number;
+    } lengths[] = {
+        { 1, 167, 167, NUMBER_DONE }, { 0, 167, 167, NUMBER_SHEET }, { 2, 167, 167, NUMBER_SHEET },
+        { 0x0101, 167, 167, NUMBER_SHEET }, { 1, 164, 167, NUMBER_SHEET },
+        { 1, 167, 164, NUMBER_SHEET }, { 1, 164, 164, NUMBER_SHEET },
+        { 1, 166, 166, NUMBER_SHEET }, { 1, 168, 168, NUMBER_SHEET },
+        { 0, 164, 164, NUMBER_DONE }, { 2, 164, 164, NUMBER_SHEET }
+    };
+    for (size_t i = 0; i < sizeof lengths / sizeof lengths[0]; i++) {
+        uint8_t sheet[SHEET_ROOM] = { 0 };
+        struct made made;
+        make_with_records(&made, &sheets[0]);
+        expect(put_sheet(&made, sheet) == 2 * 167, "lengths", "12 + 4 * 5 + 6 * 22 + 3 words");
+        put16(sheet, 7, lengths[i].word_7);
+        put16(sheet, 11, lengths[i].word_11);
+        struct call call = { CALL_SHEET_CHECK, { sheet, NULL, NULL, NULL, NULL },
+                             { 2 * (size_t)lengths[i].words, 0, 0, 0, 0 }, 0, 0 };
+        ask(&call, CALL_SHEET_CHECK, lengths[i].number, "lengths");
+    }
+}
+
+/* ---- W3: three records of two words, A, B and C at places 0, 1 and 2 ---- */
+
+enum { SMALL_RING = 16 };
+
+static size_t put_small_ring(uint8_t *ring, uint32_t newest, uint32_t stored)
+{
+    put_hex("00 00 00 00 A0 A1 A2 A3 B0 B1 B2 B3 C0 C1 C2 C3", ring);
+    put16(ring, 0, newest);
+    put16(ring, 1, stored);
+    return SMALL_RING;
+}
+
+struct record_case {
+    const char *name;
+    uint32_t first;             /* of the records; the clear address is behind them */
+    uint32_t newest, stored;
+    const char *frame, *reply;  /* as above */
+    enum second_reason reason;
+    uint32_t address;
+};
+
+#define A_REPLY "01 03 04 A0 A1 A2 A3"
+#define B_REPLY "01 03 04 B0 B1 B2 B3"
+#define C_REPLY "01 03 04 C0 C1 C2 C3"
+
+static const struct record_case record_cases[] = {
+    { "empty", 0x0400, 0, 0, "01 03 04 00 00 01", "01 83 02", REASON_ADDRESS, 0x0400 },
+    { "1 of 1", 0x0400, 0, 1, "01 03 04 00 00 01", A_REPLY, REASON_NONE, 0 },
+    { "2 of 1", 0x0400, 0, 1, "01 03 04 01 00 01", "01 83 02", REASON_ADDRESS, 0x0401 },
+    { "1 of 2", 0x0400, 1, 2, "01 03 04 00 00 01", B_REPLY, REASON_NONE, 0 },
+    { "2 of 2", 0x0400, 1, 2, "01 03 04 01 00 01", A_REPLY, REASON_NONE, 0 },
+    { "3 of 2", 0x0400, 1, 2, "01 03 04 02 00 01", "01 83 02", REASON_ADDRESS, 0x0402 },
+    { "1 of 3", 0x0400, 2, 3, "01 03 04 00 00 01", C_REPLY, REASON_NONE, 0 },
+    { "2 of 3", 0x0400, 2, 3, "01 03 04 01 00 01", B_REPLY, REASON_NONE, 0 },
+    { "3 of 3", 0x0400, 2, 3, "01 03 04 02 00 01", A_REPLY, REASON_NONE, 0 },
+    { "behind 3", 0x0400, 2, 3, "01 03 04 03 00 01", "01 83 02", REASON_ADDRESS, 0x0403 },
+    { "in front of 1", 0x0400, 2, 3, "01 03 03 FF 00 01", "01 83 02", REASON_ADDRESS, 0x03FF },
+    { "1, round", 0x0400, 0, 3, "01 03 04 00 00 01", A_REPLY, REASON_NONE, 0 },
+    { "2, round", 0x0400, 0, 3, "01 03 04 01 00 01", C_REPLY, REASON_NONE, 0 },
+    { "3, round", 0x0400, 0, 3, "01 03 04 02 00 01", B_REPLY, REASON_NONE, 0 },
+    { "3, round from 1", 0x0400, 1, 3, "01 03 04 02 00 01", C_REPLY, REASON_NONE, 0 },
+    { "1 of 1 at 2", 0x0400, 2, 1, "01 03 04 00 00 01", C_REPLY, REASON_NONE, 0 },
+    { "2 of 1 at 2", 0x0400, 2, 1, "01 03 04 01 00 01", "01 83 02", REASON_ADDRESS, 0x0401 },
+    { "2 of 2 at 0", 0x0400, 0, 2, "01 03 04 01 00 01", C_REPLY, REASON_NONE, 0 },
+    { "3 of 2 at 0", 0x0400, 0, 2, "01 03 04 02 00 01", "01 83 02", REASON_ADDRESS, 0x0402 },
+    { "count 0", 0x0400, 2, 3, "01 03 04 00 00 00", "01 83 03", REASON_BAD_COUNT, 0 },
+    { "count 2", 0x0400, 2, 3, "01 03 04 00 00 02", "01 83 03", REASON_BAD_COUNT, 0 },
+    { "count 47", 0x0400, 2, 3, "01 03 04 00 00 2F", "01 83 03", REASON_BAD_COUNT, 0 },
+    { "count 48", 0x0400, 2, 3, "01 03 04 00 00 30", "01 83 03", REASON_BAD_COUNT, 0 },
+    { "count 257", 0x0400, 2, 3, "01 03 04 00 01 01", "01 83 03", REASON_BAD_COUNT, 0 },
+    { "count FFFF", 0x0400, 2, 3, "01 03 04 00 FF FF", "01 83 03", REASON_BAD_COUNT, 0 },
+    { "two from the last", 0x0400, 2, 3, "01 03 04 02 00 02", "01 83 03", REASON_BAD_COUNT, 0 },
+    { "two of none", 0x0400, 0, 0, "01 03 04 00 00 02", "01 83 03", REASON_BAD_COUNT, 0 },
+    { "none of none", 0x0400, 0, 0, "01 03 04 02 00 00", "01 83 03", REASON_BAD_COUNT, 0 },
+    { "48 behind", 0x0400, 2, 3, "01 03 04 03 00 30", "01 83 02", REASON_BAD_COUNT, 0 },
+    { "48 in front", 0x0400, 2, 3, "01 03 03 FF 00 30", "01 83 02", REASON_BAD_COUNT, 0 },
+    { "two from in front", 0x0400, 2, 3, "01 03 03 FF 00 02", "01 83 02", REASON_ADDRESS, 0x03FF },
+    { "up to the records", 0x020F, 2, 3, "01 03 02 0E 00 01", "01 03 02 00 00", REASON_NONE, 0 },
+    { "read into them", 0x020F, 2, 3, "01 03 02 0E 00 02", "01 83 02", REASON_ADDRESS, 0x020F },
+    { "read over them", 0x01FB, 2, 3, "01 03 01 FB 00 05", "01 83 03", REASON_BAD_COUNT, 0 },
+    { "write up to them", 0x0125, 2, 3, "01 10 01 24 00 01 02 00 00", "01 10 01 24 00 01",
+      REASON_NONE, 0 },
+    { "write into them", 0x0125, 2, 3, "01 10 01 24 00 02 04 00 05 00 00", "01 90 02",
+      REASON_ADDRESS, 0x0125 },
+    { "06 at one", 0x0400, 2, 3, "01 06 04 00 00 01", "01 86 02", REASON_ADDRESS, 0x0400 },
+    { "10 at one", 0x0400, 2, 3, "01 10 04 02 00 01 02 00 01", "01 90 02", REASON_ADDRESS,
+      0x0402 },
+    { "10 with count 0", 0x0400, 2, 3, "01 10 04 00 00 00 00", "01 90 03", REASON_BAD_COUNT, 0 },
+    { "05 at one", 0x0400, 2, 3, "01 05 04 00 00 00", "01 85 02", REASON_ADDRESS, 0x0400 },
+    { "05 at one, value 1", 0x0400, 2, 3, "01 05 04 02 00 01", "01 85 02", REASON_ADDRESS,
+      0x0402 },
+    { "05 behind them", 0x0400, 2, 3, "01 05 04 03 00 00", "01 05 04 03 00 00", REASON_NONE, 0 },
+    { "04 at one", 0x0400, 2, 3, "01 04 04 00 00 01", "01 84 01", REASON_FUNCTION, 0 },
+    { "a byte more", 0x0400, 2, 3, "01 03 04 00 00 01 00", "", REASON_BODY_LENGTH, 0 },
+    { "another station", 0x0400, 2, 3, "02 03 04 00 00 01", "", REASON_STATION, 0 }
+};
+
+/* A fresh bank of the sheet with three records of two words and all functions. */
+static void make_small(uint32_t first, struct made *made, struct call *call, uint8_t *sheet,
+                       uint8_t *bank)
+{
+    struct sheet_case small = { "small", 15, (first + 3) & 0xFFFF, first, 3, 2, NUMBER_DONE };
+    memset(call, 0, sizeof *call);
+    make_with_records(made, &small);
+    call->part[PART_SHEET] = sheet;
+    call->part_n[PART_SHEET] = put_sheet(made, sheet);
+    call->part[PART_BANK] = bank;
+    call->part_n[PART_BANK] = 2 * (size_t)made->bank_words + 2;
+    expect(second_bank_fresh(sheet, call->part_n[PART_SHEET], bank, call->part_n[PART_BANK])
+               == NUMBER_DONE, "small", "fresh");
+}
+
+/* The bank stays as it is: what the cases store is there already. */
+static void run_record_case(const struct record_case *one)
+{
+    static const uint8_t out[OUT_ROOM];
+    uint8_t sheet[SHEET_ROOM], bank[BANK_ROOM], ring[SMALL_RING], frame[OUT_ROOM];
+    struct frame_case as_frame = { one->name, 0, { { 0, 0 } }, one->frame, one->reply,
+                                   { { 0, 0 } }, one->reason, one->address };
+    struct made made;
+    struct call call;
+    struct outcome outcome;
+    make_small(one->first, &made, &call, sheet, bank);
+    call.sort = CALL_ANSWER;
+    call.part[PART_RING] = ring;
+    call.part_n[PART_RING] = put_small_ring(ring, one->newest, one->stored);
+    call.part[PART_BYTES] = frame;
+    call.part_n[PART_BYTES] = put_checked(one->frame, frame);
+    call.part[PART_OUT] = out;
+    call.part_n[PART_OUT] = OUT_ROOM;
+    ask_why(&as_frame, call);
+    expect(same_on_both_sides(&call, &outcome), one->name, "the sides differ");
+    judge_case(&as_frame, &call, &outcome, bank);
+    expect(!part_changed(&call, PART_RING), one->name, "ring");
+}
+
+/* ---- W3: rings ---- */
+
+struct ring_case {
+    const char *name;
+    size_t size;
+    uint32_t newest, stored;
+    bool refused;
+};
+
+static const struct ring_case rings[] = {
+    { "an empty ring", 16, 0, 0, false },
+    { "one stored", 16, 0, 1, false },
+    { "one stored at 2", 16, 2, 1, false },
+    { "full", 16, 2, 3, false },
+    { "full, newest at 0", 16, 0, 3, false },
+    { "a byte less", 15, 0, 0, true },
+    { "a byte more", 17, 0, 0, true },
+    { "a word less", 14, 0, 0, true },
+    { "a word more", 18, 0, 0, true },
+    { "a record less", 12, 0, 0, true },
+    { "a record more", 20, 0, 0, true },
+    { "two words", 4, 0, 0, true },
+    { "no bytes", 0, 0, 0, true },
+    { "place 3", 16, 3, 3, true },
+    { "place 3, one stored", 16, 3, 1, true },
+    { "place 0100", 16, 0x0100, 3, true },
+    { "place FFFF", 16, 0xFFFF, 3, true },
+    { "four stored", 16, 2, 4, true },
+    { "0103 stored", 16, 2, 0x0103, true },
+    { "FFFF stored", 16, 0, 0xFFFF, true },
+    { "empty at 1", 16, 1, 0, true },
+    { "empty at 2", 16, 2, 0, true },
+    { "empty at 3", 16, 3, 0, true }
+};
+
+/* 8 stands behind 2, 3 and 4, and ahead of 5 and 7. */
+static void run_ring(const struct ring_case *one)
+{
+    static const uint8_t out[OUT_ROOM];
+    uint8_t sheet[SHEET_ROOM], bank[BANK_ROOM], ring[24] = { 0 }, bytes[OUT_ROOM];
+    uint32_t number = one->refused ? NUMBER_RING : NUMBER_DONE;
+    struct made made;
+    struct call call;
+    make_small(0x0400, &made, &call, sheet, bank);
+    put_small_ring(ring, one->newest, one->stored);
+    call.part[PART_RING] = ring;
+    call.part_n[PART_RING] = one->size;
+    call.part[PART_BYTES] = bytes;
+    call.part_n[PART_BYTES] = put_checked("01 03 01 08 00 01", bytes);
+    call.part[PART_OUT] = out;
+    call.part_n[PART_OUT] = 100;
+    ask(&call, CALL_RING_CHECK, number, one->name);
+    ask(&call, CALL_ANSWER, number, one->name);
+    ask(&call, CALL_WHY, number, one->name);
+    ask(&call, CALL_ADD_RECORD, one->refused ? NUMBER_RING : NUMBER_BAD_INPUT, one->name);
+    call.part_n[PART_OUT] = 99;
+    ask(&call, CALL_ANSWER, one->refused ? NUMBER_RING : NUMBER_BUFFER, one->name);
+    call.part_n[PART_BYTES] = 4;
+    ask(&call, CALL_ADD_RECORD, number, one->name);
+    put16(bank, made.bank_words, 2);
+    ask(&call, CALL_ANSWER, NUMBER_BANK_SOUND, one->name);
+    ask(&call, CALL_WHY, NUMBER_BANK_SOUND, one->name);
+    ask(&call, CALL_RING_CHECK, number, one->name);
+    call.part_n[PART_BANK]--;
+    ask(&call, CALL_ANSWER, NUMBER_BANK_SIZE, one->name);
+    sheet[0] = 1;
+    ask(&call, CALL_ANSWER, NUMBER_SHEET, one->name);
+    ask(&call, CALL_RING_CHECK, NUMBER_SHEET, one->name);
+    ask(&call, CALL_ADD_RECORD, NUMBER_SHEET, one->name);
+}
+
+/* Without a record area there is no ring, and nothing can be added. */
+static void run_no_ring(void)
+{
+    static const uint8_t zeros[OUT_ROOM];
+    static const size_t sizes[] = { 0, 1, 2, 4, 16 };
+    uint8_t sheet[SHEET_ROOM], bank[BANK_ROOM], bytes[OUT_ROOM];
+    struct made made;
+    make_ux(&made);
+    size_t sheet_n = put_sheet(&made, sheet);
+    size_t bank_n = 2 * (size_t)made.bank_words + 2;
+    second_bank_fresh(sheet, sheet_n, bank, bank_n);
+    size_t bytes_n = put_checked("01 03 01 01 00 02", bytes);
+    for (size_t i = 0; i < sizeof sizes / sizeof sizes[0]; i++) {
+        struct call call = { CALL_ANSWER, { sheet, bank, zeros, bytes, zeros },
+                             { sheet_n, bank_n, sizes[i], bytes_n, 100 }, 0, 0 };
+        uint32_t number = sizes[i] == 0 ? NUMBER_DONE : NUMBER_RING;
+        ask(&call, CALL_RING_CHECK, number, "no ring");
+        ask(&call, CALL_ANSWER, number, "no ring");
+        ask(&call, CALL_WHY, number, "no ring");
+        ask(&call, CALL_ADD_RECORD, NUMBER_SHEET, "no ring");
+    }
+}
+
+/* ---- W3: adding ---- */
+
+struct add_case {
+    const char *name;
+    uint32_t count;             /* records of two words */
+    const char *before, *record, *after;
+    enum second_number number;
+};
+
+static const struct add_case adds[] = {
+    { "the first", 3, "00 00 00 00 A0 A1 A2 A3 B0 B1 B2 B3 C0 C1 C2 C3", "D0 D1 D2 D3",
+      "00 00 00 01 D0 D1 D2 D3 B0 B1 B2 B3 C0 C1 C2 C3", NUMBER_DONE },
+    { "the second", 3, "00 00 00 01 A0 A1 A2 A3 B0 B1 B2 B3 C0 C1 C2 C3", "D0 D1 D2 D3",
+      "00 01 00 02 A0 A1 A2 A3 D0 D1 D2 D3 C0 C1 C2 C3", NUMBER_DONE },
+    { "the third", 3, "00 01 00 02 A0 A1 A2 A3 B0 B1 B2 B3 C0 C1 C2 C3", "D0 D1 D2 D3",
+      "00 02 00 03 A0 A1 A2 A3 B0 B1 B2 B3 D0 D1 D2 D3", NUMBER_DONE },
+    { "the fourth", 3, "00 02 00 03 A0 A1 A2 A3 B0 B1 B2 B3 C0 C1 C2 C3", "D0 D1 D2 D3",
+      "00 00 00 03 D0 D1 D2 D3 B0 B1 B2 B3 C0 C1 C2 C3", NUMBER_DONE },
+    { "the fifth", 3, "00 00 00 03 A0 A1 A2 A3 B0 B1 B2 B3 C0 C1 C2 C3", "D0 D1 D2 D3",
+      "00 01 00 03 A0 A1 A2 A3 D0 D1 D2 D3 C0 C1 C2 C3", NUMBER_DONE },
+    { "behind place 2, one stored", 3, "00 02 00 01 A0 A1 A2 A3 B0 B1 B2 B3 C0 C1 C2 C3",
+      "D0 D1 D2 D3", "00 00 00 02 D0 D1 D2 D3 B0 B1 B2 B3 C0 C1 C2 C3", NUMBER_DONE },
+    { "behind place 1, one stored", 3, "00 01 00 01 A0 A1 A2 A3 B0 B1 B2 B3 C0 C1 C2 C3",
+      "D0 D1 D2 D3", "00 02 00 02 A0 A1 A2 A3 B0 B1 B2 B3 D0 D1 D2 D3", NUMBER_DONE },
+    { "behind place 0, two stored", 3, "00 00 00 02 A0 A1 A2 A3 B0 B1 B2 B3 C0 C1 C2 C3",
+      "D0 D1 D2 D3", "00 01 00 03 A0 A1 A2 A3 D0 D1 D2 D3 C0 C1 C2 C3", NUMBER_DONE },
+    { "the only room", 1, "00 00 00 00 A0 A1 A2 A3", "D0 D1 D2 D3", "00 00 00 01 D0 D1 D2 D3",
+      NUMBER_DONE },
+    { "the only room again", 1, "00 00 00 01 A0 A1 A2 A3", "D0 D1 D2 D3",
+      "00 00 00 01 D0 D1 D2 D3", NUMBER_DONE },
+    { "no record", 1, "00 00 00 00 A0 A1 A2 A3", "", "00 00 00 00 A0 A1 A2 A3",
+      NUMBER_BAD_INPUT },
+    { "half a record", 1, "00 00 00 00 A0 A1 A2 A3", "D0 D1", "00 00 00 00 A0 A1 A2 A3",
+      NUMBER_BAD_INPUT },
+    { "a byte too few", 1, "00 00 00 00 A0 A1 A2 A3", "D0 D1 D2", "00 00 00 00 A0 A1 A2 A3",
+      NUMBER_BAD_INPUT },
+    { "a byte too many", 1, "00 00 00 00 A0 A1 A2 A3", "D0 D1 D2 D3 D4",
+      "00 00 00 00 A0 A1 A2 A3", NUMBER_BAD_INPUT },
+    { "two records", 3, "00 00 00 00 A0 A1 A2 A3 B0 B1 B2 B3 C0 C1 C2 C3",
+      "D0 D1 D2 D3 E0 E1 E2 E3", "00 00 00 00 A0 A1 A2 A3 B0 B1 B2 B3 C0 C1 C2 C3",
+      NUMBER_BAD_INPUT }
+};
+
+static void run_add(const struct add_case *one)
+{
+    struct sheet_case of = { one->name, 13, 0, 0x0400, one->count, 2, NUMBER_DONE };
+    uint8_t sheet[SHEET_ROOM], before[SMALL_RING], after[SMALL_RING], record[16];
+    struct made made;
+    make_with_records(&made, &of);
+    size_t sheet_n = put_sheet(&made, sheet);
+    size_t ring_n = put_hex(one->before, before);
+    size_t record_n = put_hex(one->record, record);
+    put_hex(one->after, after);
+    struct call call = { CALL_ADD_RECORD, { sheet, NULL, before, record, NULL },
+                         { sheet_n, 0, ring_n, record_n, 0 }, 0, 0 };
+    ask(&call, CALL_ADD_RECORD, one->number, one->name);
+    expect(memcmp(part_after(PART_RING), after, ring_n) == 0, one->name, "ring");
+}
+
+/* ---- W3: 6600 records of 22 words from 0400, each byte of one its place ---- */
+
+static void read_history(const uint8_t *sheet, size_t sheet_n, const char *hex, uint32_t length,
+                         uint8_t byte)
+{
+    static const uint8_t out[OUT_ROOM];
+    uint8_t bank[BANK_ROOM], frame[OUT_ROOM];
+    size_t bank_n = 2 * 38 + 2;
+    struct outcome outcome;
+    second_bank_fresh(sheet, sheet_n, bank, bank_n);
+    struct call call = { CALL_ANSWER, { sheet, bank, big_ring, frame, out },
+                         { sheet_n, bank_n, 4 + 44 * 6600, put_checked(hex, frame), OUT_ROOM },
+                         0, 0 };
+    expect(same_on_both_sides(&call, &outcome), hex, "the sides differ");
+    expect(outcome.number == NUMBER_DONE && outcome.length == length, hex, "length");
+    const uint8_t *reply = part_after(PART_OUT);
+    expect(length == 5 ? reply[2] == byte : reply[2] == 44 && reply[3] == byte && reply[46] == byte,
+           hex, "reply");
+}
+
+static void run_history(void)
+{
+    uint8_t sheet[SHEET_ROOM];
+    struct made made;
+    make_with_records(&made, &sheets[0]);
+    size_t sheet_n = put_sheet(&made, sheet);
+    for (size_t place = 0; place < 6600; place++)
+        memset(big_ring + 4 + 44 * place, (int)(place % 251), 44);
+    put16(big_ring, 0, 6599);
+    put16(big_ring, 1, 6600);
+    read_history(sheet, sheet_n, "01 03 04 00 00 01", 49, 6599 % 251);
+    read_history(sheet, sheet_n, "01 03 1D C7 00 01", 49, 0);
+    read_history(sheet, sheet_n, "01 03 1D C8 00 01", 5, 2);
+    read_history(sheet, sheet_n, "01 03 1D C7 00 02", 5, 3);
+    put16(big_ring, 0, 0);
+    read_history(sheet, sheet_n, "01 03 04 00 00 01", 49, 0);
+    read_history(sheet, sheet_n, "01 03 04 01 00 01", 49, 6599 % 251);
+    read_history(sheet, sheet_n, "01 03 1D C7 00 01", 49, 1);
+    put16(big_ring, 0, 6598);
+    put16(big_ring, 1, 6599);
+    read_history(sheet, sheet_n, "01 03 1D C6 00 01", 49, 0);
+    read_history(sheet, sheet_n, "01 03 1D C7 00 01", 5, 2);
+}
+
+/* ---- W3: the longest record, and records that 03 does not reach ---- */
+
+static void run_longest(void)
+{
+    static const uint8_t out[OUT_ROOM];
+    struct sheet_case longest = { "longest", 13, 0, 0x0400, 2, 47, NUMBER_DONE };
+    uint8_t sheet[SHEET_ROOM], bank[BANK_ROOM], ring[4 + 2 * 94], frame[OUT_ROOM];
+    size_t bank_n = 2 * 38 + 2;
+    struct made made;
+    struct outcome outcome;
+    make_with_records(&made, &longest);
+    size_t sheet_n = put_sheet(&made, sheet);
+    second_bank_fresh(sheet, sheet_n, bank, bank_n);
+    for (size_t i = 0; i < sizeof ring; i++)
+        ring[i] = (uint8_t)i;
+    put16(ring, 0, 1);
+    put16(ring, 1, 2);
+    struct call call = { CALL_ANSWER, { sheet, bank, ring, frame, out },
+                         { sheet_n, bank_n, sizeof ring, put_checked("01 03 04 00 00 01", frame),
+                           OUT_ROOM }, 0, 0 };
+    expect(same_on_both_sides(&call, &outcome), "longest", "the sides differ");
+    expect(outcome.number == NUMBER_DONE && outcome.length == 99, "longest", "length");
+    expect(part_after(PART_OUT)[2] == 94, "longest", "byte count");
+    expect(memcmp(part_after(PART_OUT) + 3, ring + 4 + 94, 94) == 0, "longest", "record");
+    expect(part_after(PART_OUT)[99] == 0, "longest", "byte behind the reply");
+    expect(!bank_changed(&call), "longest", "bank");
+    put16(sheet, 6, 12);
+    expect(same_on_both_sides(&call, &outcome), "03 closed", "the sides differ");
+    expect(outcome.number == NUMBER_DONE && outcome.length == 5, "03 closed", "length");
+    expect(part_after(PART_OUT)[1] == 0x83 && part_after(PART_OUT)[2] == 1, "03 closed", "error");
+}
+
+/* ---- W3: posting at records, and from the readings in front into them ---- */
+
+static void run_post(void)
+{
+    static const uint8_t words[4] = { 1, 2, 3, 4 };
+    uint8_t sheet[SHEET_ROOM], bank[BANK_ROOM];
+    struct made made;
+    struct call call;
+    make_small(0x020F, &made, &call, sheet, bank);
+    call.part[PART_BYTES] = words;
+    call.part_n[PART_BYTES] = 2;
+    call.value = 0x020F;
+    ask(&call, CALL_POST, NUMBER_POSTED_ADDRESS, "posted at a record");
+    call.value = 0x020E;
+    ask(&call, CALL_POST, NUMBER_DONE, "posted up to the records");
+    call.part_n[PART_BYTES] = 4;
+    ask(&call, CALL_POST, NUMBER_POSTED_ADDRESS, "posted into the records");
+    expect(!bank_changed(&call), "posted into the records", "bank");
+}
+
+static void run_records(void)
+{
+    for (size_t i = 0; i < sizeof sheets / sizeof sheets[0]; i++)
+        run_sheet(&sheets[i]);
+    run_sheet_lengths();
+    for (size_t i = 0; i < sizeof record_cases / sizeof record_cases[0]; i++)
+        run_record_case(&record_cases[i]);
+    for (size_t i = 0; i < sizeof rings / sizeof rings[0]; i++)
+        run_ring(&rings[i]);
+    run_no_ring();
+    for (size_t i = 0; i < sizeof adds / sizeof adds[0]; i++)
+        run_add(&adds[i]);
+    run_history();
+    run_longest();
+    run_post();
+}
+
 int main(void)
 {
     size_t n = sizeof cases / sizeof cases[0];
+    size_t records_n = sizeof record_cases / sizeof record_cases[0];
     for (size_t i = 0; i < n; i++)
         run_case(&cases[i]);
     run_check_values();
     run_listed_sheet();
     run_maps();
     run_stations();
-    printf("ran %zu frame cases, %d failures\n", n, failed);
+    run_records();
+    printf("ran %zu frame cases, %d failures\n", n + records_n, failed);
     return failed == 0 ? 0 : 1;
 }

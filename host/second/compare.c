@@ -3,12 +3,14 @@
  *   compare [seed [calls]]      defaults: seed 1, 50000 calls
  *
  * Exit 0 if no call differs and, from 50000 calls on, each thing that is
- * counted was met at least 100 times; else 1. */
+ * counted was met at least once in 1000 calls; else 1. */
 #include "calls.h"
 #include "counts.h"
 #include "frames_faulty.h"
 #include "frames_made.h"
 #include "noise.h"
+#include "records_met.h"
+#include "rings_made.h"
 #include "second.h"
 #include "sheets_made.h"
 #include "stations_met.h"
@@ -18,7 +20,7 @@
 #include <stdlib.h>
 #include <string.h>
 
-enum { MOST_DIFFERENCES = 5, OUT_ROOM = 5000, LEAST_MET = 100, LEAST_CALLS = 50000 };
+enum { MOST_DIFFERENCES = 5, OUT_ROOM = 5000, CALLS_FOR_ONE = 1000, LEAST_CALLS = 50000 };
 
 /* What several calls one after the other are about. */
 struct subject {
@@ -27,6 +29,8 @@ struct subject {
     size_t sheet_n;
     uint8_t bank[BANK_ROOM];
     size_t bank_n;
+    uint8_t ring[RING_ROOM];
+    size_t ring_n;
     enum second_rule made_broken;   /* broken on purpose, RULE_NONE if none */
     enum second_rule broken;        /* first broken rule, RULE_NONE if sound */
     unsigned left;                  /* calls still to make */
@@ -58,11 +62,17 @@ static void differs(const struct call *call, const char *what)
 
 /* ---- Sheets ---- */
 
-/* Each rule in turn, so that all are met equally often. */
+/* Each rule in turn, so that all are met equally often; those of the record area
+ * twice, since each has two limits. */
 static void break_next_rule(void)
 {
     static int rule = RULE_NONE;
-    rule = rule + 1 < RULE_COUNT ? rule + 1 : RULE_NONE + 1;
+    static bool again;
+    rule++;
+    if (rule == RULE_COUNT) {
+        again = !again;
+        rule = again ? RULE_RECORD_COUNT : RULE_NONE + 1;
+    }
     subject.made_broken = (enum second_rule)rule;
     if (!make_broken(subject.made_broken, &subject.made, subject.sheet, &subject.sheet_n)) {
         printf("no sheet was found that breaks: %s\n", second_rule_name(subject.made_broken));
@@ -123,24 +133,73 @@ static void poke_range(void)
     put16(subject.sheet, row + 5, ONE_OF(0, 1, 2, 0xF6, LAST_STATION, 0xF8, 0xFF, 0x0100, 0xFFFF));
 }
 
+/* The word that the record area begins at, which a sheet without one is given:
+ * of one record, next to an area or elsewhere. */
+static size_t give_records(void)
+{
+    if (subject.made.records.is)
+        return subject.sheet_n / 2 - 3;
+    size_t row = subject.sheet_n / 2;
+    put16(subject.sheet, row, some_records_first(&subject.made, 1));
+    put16(subject.sheet, row + 1, 1);
+    put16(subject.sheet, row + 2, 1);
+    put16(subject.sheet, 7, (uint32_t)row + 3);
+    put16(subject.sheet, 11, 1);
+    subject.sheet_n += 6;
+    return row;
+}
+
+/* The records' first address where they share one with an area, or just do not. */
+static uint32_t first_near_area(uint32_t count)
+{
+    const struct made_area *area = &subject.made.areas[below(subject.made.areas_n)];
+    return ONE_OF(area->last, area->last + 1, area->first - count, area->first - count + 1,
+                  below(0x10000));
+}
+
+/* One of the words of a record area at, next to or beyond its limits, or word 11
+ * with no record area behind it. */
+static void poke_records(void)
+{
+    if (!subject.made.records.is && chance(25)) {
+        put16(subject.sheet, 11, ONE_OF(1, 2, 2, 3, 0x0100));
+        return;
+    }
+    size_t row = give_records();
+    switch (below(6)) {
+    case 0: case 1:
+        put16(subject.sheet, row, first_near_area(get16(subject.sheet, row + 1)));
+        break;
+    case 2: put16(subject.sheet, row + 1, ONE_OF(0, 1, 2, 6600, 6601, 0xFFFF)); break;
+    case 3: put16(subject.sheet, row + 2, ONE_OF(0, 1, 22, 46, 47, 48, 0xFFFF)); break;
+    case 4: put16(subject.sheet, 11, ONE_OF(0, 2, 3, 0x0100)); break;
+    default:
+        put16(subject.sheet, 7, (uint32_t)row + ONE_OF(0, 1, 2, 3, 4));
+        subject.sheet_n = 2 * (row + ONE_OF(0, 3, 3));
+        break;
+    }
+}
+
 static void make_subject_sheet(void)
 {
     subject.made_broken = RULE_NONE;
     make_sound(&subject.made);
     subject.sheet_n = put_sheet(&subject.made, subject.sheet);
     uint32_t sort = below(100);
-    if (sort < 30)
+    if (sort < 36)
         break_next_rule();
-    else if (sort < 33)
+    else if (sort < 38)
         random_sheet();
-    else if (sort < 36)
-        cut_sheet();
     else if (sort < 40)
+        cut_sheet();
+    else if (sort < 43)
         poke_sheet();
-    else if (sort < 41)
+    else if (sort < 44)
         huge_sheet();
-    else if (sort < 46)
+    else if (sort < 49)
         poke_range();
+    else if (sort < 52)
+        poke_records();
     subject.broken = second_broken_rule(subject.sheet, subject.sheet_n);
 }
 
@@ -161,11 +220,60 @@ static void make_subject_bank(void)
         second_bank_fresh(subject.sheet, subject.sheet_n, subject.bank, subject.bank_n);
 }
 
+/* ---- Rings ---- */
+
+static void lend_ring(struct call *call)
+{
+    call->part[PART_RING] = subject.ring;
+    call->part_n[PART_RING] = subject.ring_n;
+}
+
+/* The list of records begins anew with each ring. */
+static void make_subject_ring(void)
+{
+    struct call call;
+    memset(&call, 0, sizeof call);
+    subject.ring_n = made_ring_size(&subject.made);
+    make_ring(&subject.made, subject.ring);
+    call.part[PART_SHEET] = subject.sheet;
+    call.part_n[PART_SHEET] = subject.sheet_n;
+    lend_ring(&call);
+    list_begin(&call);
+}
+
+/* The ring for the next call; true if it is the subject's own. */
+static bool choose_ring(struct call *call)
+{
+    static uint8_t ring[RING_ROOM];
+    bool own = chance(call->sort == CALL_ANSWER || call->sort == CALL_WHY ? 94 : 72);
+    lend_ring(call);
+    if (own)
+        return true;
+    memcpy(ring, subject.ring, subject.ring_n);
+    call->part[PART_RING] = ring;
+    call->part_n[PART_RING] = spoil_ring(&subject.made, ring);
+    return false;
+}
+
+static uint32_t stored_in_ring(const struct call *call)
+{
+    return stored_in(call->part[PART_RING], call->part_n[PART_RING]);
+}
+
+/* More calls where records are added one after the other. */
+static unsigned calls_to_make(void)
+{
+    if (subject.broken != RULE_NONE)
+        return 1 + below(2);
+    return 1 + below(subject.made.records.is && chance(30) ? 24 : 9);
+}
+
 static void make_subject(void)
 {
     make_subject_sheet();
     make_subject_bank();
-    subject.left = subject.broken == RULE_NONE ? 1 + below(9) : 1 + below(2);
+    make_subject_ring();
+    subject.left = calls_to_make();
     subject.changed = false;
 }
 
@@ -202,7 +310,8 @@ static bool choose_bank(struct call *call)
 {
     static uint8_t bank[BANK_ROOM];
     memcpy(bank, subject.bank, subject.bank_n);
-    bool own = chance(call->sort == CALL_ANSWER || call->sort == CALL_WHY ? 88 : 75);
+    bool framed = call->sort == CALL_ANSWER || call->sort == CALL_WHY;
+    bool own = chance(framed || call->sort == CALL_POST ? 88 : 75);
     call->part[PART_BANK] = bank;
     call->part_n[PART_BANK] = own ? subject.bank_n : spoil_bank(bank, subject.bank_n);
     return own;
@@ -317,6 +426,7 @@ static void count_frame(const struct call *call, const struct outcome *outcome)
 {
     enum second_step step = second_step(call->part[PART_SHEET], call->part_n[PART_SHEET],
                                         call->part[PART_BANK], call->part_n[PART_BANK],
+                                        call->part[PART_RING], call->part_n[PART_RING],
                                         call->part[PART_BYTES], call->part_n[PART_BYTES]);
     if (outcome->number == NUMBER_DONE || outcome->number == NUMBER_SILENCE)
         counts.step[step]++;
@@ -328,18 +438,23 @@ static void count_frame(const struct call *call, const struct outcome *outcome)
 
 /* ---- Counting why ---- */
 
-static void count_bad_count(const uint8_t *frame)
+static void count_bad_count(const struct call *call)
 {
-    uint32_t count = get16(frame + 4, 0);
-    if (count == 0)
+    const uint8_t *frame = call->part[PART_BYTES];
+    if (frame[1] == 0x03 && starts_at_record(call))
+        met(SPECIAL_WHY_RECORD_COUNT);
+    else if (get16(frame + 4, 0) == 0)
         met(SPECIAL_WHY_COUNT_0);
     else
         met(frame[1] == 0x03 ? SPECIAL_WHY_OVER_47 : SPECIAL_WHY_BYTE_COUNT);
 }
 
-static void count_bad_address(const uint8_t *frame, uint32_t address)
+static void count_bad_address(const struct call *call, uint32_t address)
 {
-    if (frame[1] == 0x05)
+    const uint8_t *frame = call->part[PART_BYTES];
+    if (frame[1] == 0x03 && starts_at_record(call))
+        met(SPECIAL_WHY_RECORD);
+    else if (frame[1] == 0x05)
         met(SPECIAL_WHY_CLEAR_ADDRESS);
     else
         met(frame[1] == 0x03 ? SPECIAL_WHY_READ_ADDRESS : SPECIAL_WHY_WRITE_ADDRESS);
@@ -365,9 +480,9 @@ static void count_why(const struct call *call, const struct outcome *why)
         return;
     counts.reason[why->reason]++;
     if (why->reason == REASON_BAD_COUNT)
-        count_bad_count(frame);
+        count_bad_count(call);
     if (why->reason == REASON_ADDRESS)
-        count_bad_address(frame, why->address);
+        count_bad_address(call, why->address);
     if (why->reason == REASON_ITEM)
         count_bad_item(frame, why->address);
 }
@@ -386,6 +501,9 @@ static bool has_empty_part(const struct call *call)
         return call->part_n[PART_BANK] == 0 || call->part_n[PART_BYTES] == 0
             || call->part_n[PART_OUT] == 0;
     case CALL_WHY: return call->part_n[PART_BANK] == 0 || call->part_n[PART_BYTES] == 0;
+    case CALL_RING_CHECK: return call->part_n[PART_RING] == 0;
+    case CALL_ADD_RECORD:
+        return call->part_n[PART_RING] == 0 || call->part_n[PART_BYTES] == 0;
     default: return call->part_n[PART_BANK] == 0;
     }
 }
@@ -398,7 +516,7 @@ static void count_call(const struct call *call, const struct outcome *outcome)
         met(SPECIAL_NULL_SLICE);
     if (call->sort < CALL_SHEET_CHECK)
         return;
-    if (outcome->number < 8)
+    if (outcome->number < NUMBER_COUNT)
         counts.number[call->sort][outcome->number]++;
     if (subject.made_broken != RULE_NONE)
         counts.rule_alone[subject.made_broken]++;
@@ -407,18 +525,31 @@ static void count_call(const struct call *call, const struct outcome *outcome)
         met(SPECIAL_CHAINED);
 }
 
-/* Makes the call on both sides, holds it to what is known of stations, and
- * counts it. */
+/* A sheet that is sound by its making. To one without a record area nothing can
+ * be added. */
+static bool is_refused_as_made(const struct call *call, const struct outcome *outcome)
+{
+    return call->sort >= CALL_SHEET_CHECK && outcome->number == NUMBER_SHEET && sheet_is_as_made()
+        && !(call->sort == CALL_ADD_RECORD && !subject.made.records.is);
+}
+
+/* Makes the call on both sides, holds it to what is known of stations and of
+ * records, and counts it. */
 static struct outcome make_call(const struct call *call)
 {
     struct outcome outcome;
     if (!same_on_both_sides(call, &outcome))
         differs(call, NULL);
     const char *breach = station_breach(call, &outcome);
+    if (breach == NULL)
+        breach = record_breach(call, &outcome);
+    if (breach == NULL && is_refused_as_made(call, &outcome))
+        breach = "a sheet that was made sound is refused";
     if (breach != NULL)
         differs(call, breach);
     count_call(call, &outcome);
     count_stations(&counts, call, &outcome);
+    count_records(&counts, call, &outcome);
     return outcome;
 }
 
@@ -429,6 +560,18 @@ static void keep_bank(const struct call *call, bool own)
         return;
     memcpy(subject.bank, part_after(PART_BANK), subject.bank_n);
     subject.changed = true;
+}
+
+/* The ring too, and the list of its records follows. */
+static void keep_ring(const struct call *call, const struct outcome *outcome, bool own)
+{
+    if (!own)
+        return;
+    const char *breach = list_follow(&counts, call, outcome);
+    if (breach != NULL)
+        differs(call, breach);
+    if (call->sort == CALL_ADD_RECORD && part_changed(call, PART_RING))
+        memcpy(subject.ring, part_after(PART_RING), subject.ring_n);
 }
 
 static struct call new_call(enum call_sort sort)
@@ -481,7 +624,7 @@ static void count_post(const struct call *call, const struct outcome *outcome)
     int area = made_area_of(&subject.made, call->value);
     if (outcome->number == NUMBER_DONE && over_areas(call->value, call->value + count - 1))
         met(SPECIAL_POST_OVER_AREAS);
-    if (outcome->number == NUMBER_POSTED_BYTES_OR_MARK && call->part_n[PART_BYTES] > 0
+    if (outcome->number == NUMBER_BAD_INPUT && call->part_n[PART_BYTES] > 0
         && (area < 0 || subject.made.areas[area].access == 3))
         met(SPECIAL_7_BEFORE_6);
 }
@@ -507,13 +650,51 @@ static void call_mark(void)
     keep_bank(&call, own);
 }
 
+static void call_ring(void)
+{
+    struct call call = new_call(CALL_RING_CHECK);
+    choose_ring(&call);
+    make_call(&call);
+}
+
+/* A whole record, mostly; else none, one byte or word less or more, or two. */
+static size_t some_record_bytes(void)
+{
+    size_t right = 2 * (size_t)subject.made.records.words;
+    if (chance(60))
+        return right;
+    switch (below(7)) {
+    case 0: return 0;
+    case 1: return right == 0 ? 0 : right - 1;
+    case 2: return right + 1;
+    case 3: return right == 0 ? 0 : right - 2;
+    case 4: return right + 2;
+    case 5: return 2 * right;
+    default: return below(100);
+    }
+}
+
+static void call_add(void)
+{
+    static uint8_t record[4 * RECORD_WORDS_MOST + 100];
+    struct call call = new_call(CALL_ADD_RECORD);
+    bool own = choose_ring(&call);
+    call.part_n[PART_BYTES] = some_record_bytes();
+    noise_fill(record, call.part_n[PART_BYTES]);
+    call.part[PART_BYTES] = record;
+    struct outcome outcome = make_call(&call);
+    keep_ring(&call, &outcome, own);
+}
+
+/* Too small more often where the ring is refused, which is told first. */
 static void choose_out(struct call *call, bool large_enough)
 {
     static uint8_t out[OUT_ROOM];
+    uint32_t small = call->part[PART_RING] == subject.ring ? 8 : 40;
     call->part_n[PART_OUT] = ONE_OF(100, 100, 100, 100, 101, 101, 300, 300, 256, 120);
     if (chance(2))
         call->part_n[PART_OUT] = OUT_ROOM;
-    if (!large_enough && chance(10))
+    if (!large_enough && chance(small))
         call->part_n[PART_OUT] = ONE_OF(0, 1, 50, 99, 99);
     noise_fill(out, call->part_n[PART_OUT]);
     call->part[PART_OUT] = out;
@@ -524,21 +705,26 @@ static void call_answer(void)
     static uint8_t frame[FRAME_ROOM];
     struct call call = new_call(CALL_ANSWER);
     bool own = choose_bank(&call);
-    call.part_n[PART_BYTES] = make_frame(&subject.made, call.part[PART_BANK], frame);
+    bool own_ring = choose_ring(&call);
+    call.part_n[PART_BYTES] = make_frame(&subject.made, call.part[PART_BANK],
+                                         stored_in_ring(&call), frame);
     call.part[PART_BYTES] = frame;
     choose_out(&call, false);
     struct outcome outcome = make_call(&call);
     count_frame(&call, &outcome);
     keep_bank(&call, own);
+    keep_ring(&call, &outcome, own_ring);
 }
 
 /* The error code that goes out for a reason; 0 for silence and for a reply
  * without error. */
-static uint8_t error_of_reason(const uint8_t *frame, uint32_t reason)
+static uint8_t error_of_reason(const struct call *call, uint32_t reason)
 {
+    const uint8_t *frame = call->part[PART_BYTES];
     switch (reason) {
     case REASON_FUNCTION: return 1;
-    case REASON_BAD_COUNT: return frame[1] == 0x03 && get16(frame + 4, 0) > 47 ? 2 : 3;
+    case REASON_BAD_COUNT:
+        return frame[1] == 0x03 && get16(frame + 4, 0) > 47 && !starts_at_record(call) ? 2 : 3;
     case REASON_ADDRESS: return 2;
     case REASON_CLEAR_VALUE: case REASON_ITEM: return 3;
     default: return 0;
@@ -554,7 +740,7 @@ static bool answer_fits(const struct call *call, const struct outcome *why,
         return answer->number == why->number;
     const uint8_t *frame = call->part[PART_BYTES];
     const uint8_t *out = part_after(PART_OUT);
-    uint8_t error = error_of_reason(frame, why->reason);
+    uint8_t error = error_of_reason(call, why->reason);
     if (error == 0 && why->reason != REASON_NONE)
         return answer->number == NUMBER_SILENCE;
     if (answer->number != NUMBER_DONE)
@@ -574,22 +760,32 @@ static bool as_made(const struct faulty *faulty, const struct outcome *why)
     return why->reason == faulty->reason && why->address == faulty->address;
 }
 
-/* A frame is asked about, then answered: the bank is the same for both. */
+/* A frame for the call's bank and ring; whether its reason is known. */
+static bool choose_frame(struct call *call, struct faulty *faulty, bool own)
+{
+    uint32_t stored = stored_in_ring(call);
+    bool known = chance(50);
+    if (known)
+        make_faulty(&subject.made, subject.bank, stored, faulty);
+    else
+        faulty->n = make_frame(&subject.made, call->part[PART_BANK], stored, faulty->frame);
+    call->part[PART_BYTES] = faulty->frame;
+    call->part_n[PART_BYTES] = faulty->n;
+    return known && own && sheet_is_as_made();
+}
+
+/* A frame is asked about, then answered: the bank and the ring are the same for
+ * both. */
 static void call_why(void)
 {
     static struct faulty faulty;
     struct call call = new_call(CALL_WHY);
     bool own = choose_bank(&call);
-    bool known = chance(50);
-    if (known)
-        make_faulty(&subject.made, subject.bank, &faulty);
-    else
-        faulty.n = make_frame(&subject.made, call.part[PART_BANK], faulty.frame);
-    call.part[PART_BYTES] = faulty.frame;
-    call.part_n[PART_BYTES] = faulty.n;
+    bool own_ring = choose_ring(&call);
+    bool known = choose_frame(&call, &faulty, own);
     struct outcome why = make_call(&call);
     count_why(&call, &why);
-    if (known && own && why.number == NUMBER_DONE && sheet_is_as_made() && !as_made(&faulty, &why))
+    if (known && why.number == NUMBER_DONE && !as_made(&faulty, &why))
         differs(&call, "the reason is not the one that the frame was made for");
     call.sort = CALL_ANSWER;
     choose_out(&call, true);
@@ -598,6 +794,7 @@ static void call_why(void)
     if (!answer_fits(&call, &why, &answer))
         differs(&call, "the answer is not the one that the reason says");
     keep_bank(&call, own);
+    keep_ring(&call, &answer, own_ring);
 }
 
 /* A passing frame, damaged: whatever the frame, the reason is its check, and
@@ -608,7 +805,9 @@ static void call_damaged(void)
     struct call call = new_call(CALL_ANSWER);
     call.part[PART_BANK] = subject.bank;
     call.part_n[PART_BANK] = subject.bank_n;
-    call.part_n[PART_BYTES] = make_passing_frame(&subject.made, subject.bank, frame);
+    lend_ring(&call);
+    call.part_n[PART_BYTES] = make_passing_frame(&subject.made, subject.bank,
+                                                 stored_in_ring(&call), frame);
     call.part[PART_BYTES] = frame;
     enum damage damage = damage_frame(frame, call.part_n[PART_BYTES]);
     call.sort = CALL_WHY;
@@ -625,16 +824,73 @@ static void call_damaged(void)
         differs(&call, "a damaged frame was not met with silence");
 }
 
+/* ---- Records one after the other ---- */
+
+static void add_whole_record(void)
+{
+    uint8_t record[2 * RECORD_WORDS_MOST];
+    struct call call = new_call(CALL_ADD_RECORD);
+    lend_ring(&call);
+    call.part_n[PART_BYTES] = 2 * (size_t)subject.made.records.words;
+    noise_fill(record, call.part_n[PART_BYTES]);
+    call.part[PART_BYTES] = record;
+    struct outcome outcome = make_call(&call);
+    keep_ring(&call, &outcome, true);
+}
+
+static void read_one_record(void)
+{
+    uint8_t frame[8];
+    struct call call = new_call(CALL_ANSWER);
+    call.part[PART_BANK] = subject.bank;
+    call.part_n[PART_BANK] = subject.bank_n;
+    lend_ring(&call);
+    put_start(frame, 0x03, some_record(&subject.made, stored_in_ring(&call)), 1);
+    frame[0] = own_station(&subject.made, subject.bank);
+    call.part[PART_BYTES] = frame;
+    call.part_n[PART_BYTES] = add_check(frame, 6);
+    choose_out(&call, true);
+    struct outcome outcome = make_call(&call);
+    count_frame(&call, &outcome);
+    keep_ring(&call, &outcome, true);
+}
+
+/* Some records are added, and then some are read. */
+static void call_sequence(void)
+{
+    for (uint32_t adds = 1 + below(4); adds > 0 && counts.calls < calls_asked; adds--)
+        add_whole_record();
+    for (uint32_t reads = 1 + below(4); reads > 0 && counts.calls < calls_asked; reads--)
+        read_one_record();
+}
+
 /* Two calls are on one frame; the last call of a run may be left alone. */
 static bool is_room_for_two(void)
 {
     return calls_asked - counts.calls >= 2;
 }
 
+/* A call about a ring: more of them where there are records to add. */
+static bool some_ring_call(bool sound)
+{
+    bool records = sound && subject.made.records.is;
+    if (!chance(records ? 20 : 5))
+        return false;
+    if (records && chance(18))
+        call_sequence();
+    else if (chance(22))
+        call_ring();
+    else
+        call_add();
+    return true;
+}
+
 static void some_call(void)
 {
     bool sound = subject.broken == RULE_NONE && sheet_is_as_made();
     uint32_t sort = below(100);
+    if (some_ring_call(sound))
+        return;
     if (sort < 1)
         call_check(CALL_CHECK_START);
     else if (sort < 2)
@@ -671,7 +927,7 @@ int main(int argc, char **argv)
         subject.left--;
         some_call();
     }
-    bool enough = counts_enough(&counts, calls >= LEAST_CALLS ? LEAST_MET : 0);
+    bool enough = counts_enough(&counts, calls >= LEAST_CALLS ? calls / CALLS_FOR_ONE : 0);
     printf("seed %" PRIu64 ": compared %" PRIu64 " calls, %" PRIu64 " differences\n", seed,
            counts.calls, differences);
     return differences == 0 && enough ? 0 : 1;

@@ -9,6 +9,7 @@ enum { MOST_TRIES = 20, MOST_READ = 47, MOST_WRITTEN = 45 };
 struct making {
     const struct made *made;
     const uint8_t *bank;
+    uint32_t stored;        /* records in the ring */
     struct faulty *faulty;
     uint32_t wanted;        /* bits like those of the faults */
     uint32_t closed;        /* the first address that is not open */
@@ -73,12 +74,14 @@ static uint32_t open_start(const struct making *making, bool write)
     return chance(50) ? area->last - below(length < 3 ? length : 3) : area->first + below(length);
 }
 
-/* An address that cannot be; false if the search finds none. */
+/* An address that cannot be; false if the search finds none. A read that starts
+ * at a record's is another matter. */
 static bool closed_start(const struct making *making, bool write, uint32_t *start)
 {
     for (int tries = 0; tries < MOST_TRIES; tries++) {
         *start = some_address(making->made);
-        if (run_length(making->made, *start, write) == 0)
+        if (run_length(making->made, *start, write) == 0
+            && (write || !made_is_record(making->made, *start)))
             return true;
     }
     return false;
@@ -191,8 +194,43 @@ static void put_bad_count(struct making *making, bool write, uint32_t start, uin
     put_in(making, REASON_BAD_COUNT);
 }
 
+static bool is_stored(const struct making *making, uint32_t address)
+{
+    return address - making->made->records.first < making->stored;
+}
+
+/* A record that is stored, or one that is not; any if the search finds none. */
+static uint32_t record_start(const struct making *making, bool stored)
+{
+    uint32_t start;
+    int tries = 0;
+    do
+        start = some_record(making->made, making->stored);
+    while (is_stored(making, start) != stored && ++tries < MOST_TRIES);
+    return start;
+}
+
+/* A read of a record; another count than one is told ahead of a record that is
+ * not stored. */
+static size_t faulty_record(struct making *making, uint8_t *frame)
+{
+    uint32_t start = record_start(making, !wants(making, REASON_ADDRESS));
+    uint32_t count = 1;
+    if (!is_stored(making, start)) {
+        making->closed = start;
+        put_in(making, REASON_ADDRESS);
+    }
+    if (wants(making, REASON_BAD_COUNT)) {
+        count = ONE_OF(0, 0, 2, 2, 47, 48, 0x0101, 0xFFFF);
+        put_in(making, REASON_BAD_COUNT);
+    }
+    return put_start(frame, 0x03, start, count);
+}
+
 static size_t faulty_read(struct making *making, uint8_t *frame)
 {
+    if (making->made->records.is && chance(40))
+        return faulty_record(making, frame);
     uint32_t count;
     uint32_t start = make_run(making, false, MOST_READ, &count);
     if (wants(making, REASON_BAD_COUNT)) {
@@ -356,9 +394,10 @@ static uint32_t some_faults(void)
     return faults;
 }
 
-void make_faulty(const struct made *made, const uint8_t *bank, struct faulty *faulty)
+void make_faulty(const struct made *made, const uint8_t *bank, uint32_t stored,
+                 struct faulty *faulty)
 {
-    struct making making = { made, bank, faulty, some_faults(), 0, 0 };
+    struct making making = { made, bank, stored, faulty, some_faults(), 0, 0 };
     faulty->faults = 0;
     faulty->n = make_whole(&making, faulty->frame);
     int reason = REASON_NONE + 1;

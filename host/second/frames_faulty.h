@@ -14,8 +14,9 @@ struct faulty {
     uint32_t address;           /* what is told with it */
 };
 
-/* A frame for a sound sheet and a sound bank of it: with no fault, with one or
- * with several. */
-void make_faulty(const struct made *made, const uint8_t *bank, struct faulty *faulty);
+/* A frame for a sound sheet, a sound bank of it and a ring with so many records
+ * stored: with no fault, with one or with several. */
+void make_faulty(const struct made *made, const uint8_t *bank, uint32_t stored,
+                 struct faulty *faulty);
 
 #endif

@@ -4,11 +4,21 @@
 
 /* ---- Addresses, counts, stations ---- */
 
+/* At, inside or next to the record area. */
+static uint32_t address_near_records(const struct made *made)
+{
+    const struct made_records *records = &made->records;
+    return (records->first + ONE_OF(0, records->count - 1, records->count, 0xFFFF,
+                                    below(records->count))) & 0xFFFF;
+}
+
 /* An address at, inside or next to an area, or anywhere. */
 uint32_t some_address(const struct made *made)
 {
     const struct made_area *area = &made->areas[below(made->areas_n)];
     uint32_t length = area->last - area->first + 1;
+    if (made->records.is && chance(8))
+        return address_near_records(made);
     switch (below(12)) {
     case 0: return area->last;
     case 1: return (area->first - 1) & 0xFFFF;
@@ -45,8 +55,8 @@ static uint32_t some_count(const struct made *made, uint32_t start)
 {
     uint32_t run = run_length(made, start, false);
     switch (below(10)) {
-    case 0: return ONE_OF(0, 0, 0, 0, 0, 1, 46, 48, 0x7FFF, 0x8000, 0xFFFF);
-    case 1: return ONE_OF(0, 0, 46, 47, 48);
+    case 0: return ONE_OF(0, 0, 0, 0, 0, 0, 0, 0, 1, 46, 48, 0x7FFF, 0x8000, 0xFFFF);
+    case 1: return ONE_OF(0, 0, 0, 0, 0, 0, 46, 47, 48);
     case 2: return run;
     case 3: return run + 1;
     case 4: return ONE_OF(0x0100, 0x0101, 0x0102, 0x0080, 0x8001, 0x10000 - start) & 0xFFFF;
@@ -365,6 +375,82 @@ static size_t body_cut_write(const struct made *made, uint8_t *frame)
     return 2 + below(6);
 }
 
+/* ---- Bodies about records ---- */
+
+uint32_t some_record(const struct made *made, uint32_t stored)
+{
+    uint32_t count = made->records.count;
+    uint32_t number;
+    switch (below(10)) {
+    case 0: number = 1 + below(3) / 2; break;
+    case 1: number = count; break;
+    case 2: case 3: number = stored; break;
+    case 4: case 5: number = stored + 1; break;
+    default: number = 1 + below(stored > 0 && chance(80) ? stored : count); break;
+    }
+    if (number < 1 || number > count)
+        number = 1 + below(count);
+    return made->records.first + (number - 1);
+}
+
+static uint32_t some_record_count(void)
+{
+    return chance(70) ? 1
+        : ONE_OF(0, 0, 0, 2, 2, 2, 3, 46, 47, 47, 47, 48, 48, 49, 0x0101, 0xFFFF);
+}
+
+static size_t body_record(const struct made *made, uint32_t stored, uint8_t *frame)
+{
+    uint32_t start = some_record(made, stored);
+    uint32_t count = some_record_count();
+    if (chance(12)) {
+        start = made->records.first + (chance(50) ? 0 : made->records.count - 1);
+        count = 2;
+    }
+    return put_start(frame, 0x03, start, count);
+}
+
+/* From the area in front of the records into them: a read or a write. */
+static size_t body_into_records(const struct made *made, uint8_t *frame)
+{
+    uint32_t back = 1 + below(3);
+    if (made_area_of(made, made->records.first - back) < 0)
+        back = 1;
+    uint32_t start = made->records.first - back;
+    uint32_t count = back + 1 + below(2);
+    if (chance(40))
+        return put_start(frame, 0x03, start, count);
+    size_t n = put_start(frame, 0x10, start, count) + 1;
+    frame[6] = (uint8_t)(2 * count);
+    put_words(made, frame + n, start, count, 100);
+    return n + 2 * (size_t)count;
+}
+
+/* A write or a clear at a record. */
+static size_t body_on_record(const struct made *made, uint32_t stored, uint8_t *frame)
+{
+    uint32_t start = some_record(made, stored);
+    uint32_t count = 1 + below(3);
+    switch (below(3)) {
+    case 0: return put_start(frame, 0x05, start, chance(60) ? 0 : ONE_OF(1, 0xFF00));
+    case 1: return put_start(frame, 0x06, start, below(0x10000));
+    default: break;
+    }
+    size_t n = put_start(frame, 0x10, start, count) + 1;
+    frame[6] = (uint8_t)(2 * count);
+    noise_fill(frame + n, 2 * (size_t)count);
+    return n + 2 * (size_t)count;
+}
+
+static size_t body_of_records(const struct made *made, uint32_t stored, uint8_t *frame)
+{
+    bool next = made_area_of(made, made->records.first - 1) >= 0;
+    uint32_t sort = below(20);
+    if (sort < 11 || (sort < 17 && !next))
+        return body_record(made, stored, frame);
+    return sort < 17 ? body_into_records(made, frame) : body_on_record(made, stored, frame);
+}
+
 /* ---- Frames ---- */
 
 typedef size_t make_body(const struct made *made, uint8_t *frame);
@@ -374,25 +460,34 @@ static make_body *some_body(void)
     static make_body *const bodies[] = {
         body_read, body_read, body_read, body_read, body_read,
         body_long_read, body_long_read, body_long_read, body_long_read, body_long_read,
-        body_long_read,
+        body_long_read, body_long_read, body_long_read,
         body_clear, body_clear, body_clear,
         body_write_one, body_write_one, body_write_one,
         body_half, body_half, body_half, body_half, body_half, body_half,
         body_write_many, body_write_many, body_write_many, body_write_many, body_write_many,
         body_write_many,
         body_over_areas, body_over_areas, body_over_areas, body_over_areas, body_over_areas,
-        body_over_areas, body_over_areas,
+        body_over_areas, body_over_areas, body_over_areas, body_over_areas,
         body_address_then_bad, body_address_then_bad, body_address_then_bad,
-        body_address_then_bad, body_station, body_station, body_station, body_station,
+        body_address_then_bad, body_address_then_bad, body_address_then_bad,
+        body_station, body_station, body_station, body_station, body_station, body_station,
         body_counts_off, body_counts_off, body_length_off, body_length_off, body_cut_write,
         body_other_function, body_noise, body_too_long
     };
     return bodies[below(sizeof bodies / sizeof bodies[0])];
 }
 
-size_t make_frame(const struct made *made, const uint8_t *bank, uint8_t *frame)
+/* About records, where there are any, in so many of a hundred. */
+static size_t put_body(const struct made *made, uint32_t stored, uint8_t *frame)
 {
-    size_t n = some_body()(made, frame);
+    if (made->records.is && chance(48))
+        return body_of_records(made, stored, frame);
+    return some_body()(made, frame);
+}
+
+size_t make_frame(const struct made *made, const uint8_t *bank, uint32_t stored, uint8_t *frame)
+{
+    size_t n = put_body(made, stored, frame);
     frame[0] = some_station(made, bank);
     n = add_check(frame, n);
     if (chance(3))
@@ -404,11 +499,12 @@ size_t make_frame(const struct made *made, const uint8_t *bank, uint8_t *frame)
     return n;
 }
 
-size_t make_passing_frame(const struct made *made, const uint8_t *bank, uint8_t *frame)
+size_t make_passing_frame(const struct made *made, const uint8_t *bank, uint32_t stored,
+                          uint8_t *frame)
 {
     size_t n;
     do {
-        n = some_body()(made, frame);
+        n = put_body(made, stored, frame);
         frame[0] = own_station(made, bank);
     } while (n > 98);
     return add_check(frame, n);
@@ -457,12 +553,24 @@ enum damage damage_frame(uint8_t *frame, size_t n)
 
 /* ---- Posting ---- */
 
+/* Right in front of the records, if that can be posted at; else near them. */
+static uint32_t post_near_records(const struct made *made)
+{
+    uint32_t address = made->records.first - 1;
+    int area = made_area_of(made, address);
+    if (area >= 0 && made->areas[area].access == 1 && chance(80))
+        return address;
+    return address_near_records(made);
+}
+
 /* An address to post at: mostly in an access 1 area, if the sheet has one. */
 static uint32_t post_address(const struct made *made)
 {
     const struct made_area *area = &made->areas[below(made->areas_n)];
     for (int tries = 0; tries < 6 && area->access != 1; tries++)
         area = &made->areas[below(made->areas_n)];
+    if (made->records.is && chance(50))
+        return post_near_records(made);
     if (chance(40))
         return area_with_neighbour(made, 1)->last;
     if (chance(8))
@@ -478,6 +586,8 @@ static uint32_t post_count(const struct made *made, uint32_t address)
     int area = made_area_of(made, address);
     while (area >= 0 && made->areas[area].access == 1)
         area = made_area_of(made, address + ++run);
+    if (run > 0 && made_is_record(made, address + run) && chance(60))
+        return run + 1 + below(2);
     switch (below(8)) {
     case 0: return run;
     case 1: return run + 1;

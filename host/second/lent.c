@@ -53,7 +53,7 @@ void lend(struct lent *lent, const uint8_t *bytes, size_t n, unsigned offset, bo
 bool lent_back(struct lent *lent)
 {
     uint8_t *store = store_of(lent);
-    OPEN(store, sizeof lent->store);
+    OPEN(store, lent->front + lent->n + LENT_CANARY);
     return canary_stands(store, 0, lent->front)
         && canary_stands(store, lent->front + lent->n, lent->front + lent->n + LENT_CANARY);
 }

@@ -6,7 +6,8 @@
 #include <stddef.h>
 #include <stdint.h>
 
-enum { LENT_CANARY = 32, LENT_ROOM = 5200 };
+/* The room of the largest ring, and some more. */
+enum { LENT_CANARY = 32, LENT_ROOM = 620800 };
 
 struct lent {
     uint64_t store[(2 * LENT_CANARY + LENT_ROOM + 16) / 8];

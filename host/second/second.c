@@ -43,6 +43,9 @@ static uint32_t address_place(const struct sheet *sheet) { return sheet_word(she
 static uint32_t rate_place(const struct sheet *sheet) { return sheet_word(sheet, 9); }
 static uint32_t clear_address(const struct sheet *sheet) { return sheet_word(sheet, 10); }
 
+/* Word 11 says whether there is a record area. */
+static bool has_records(const struct sheet *sheet) { return sheet_word(sheet, 11) == 1; }
+
 /* rule S20: the words of an area row */
 static uint32_t area_word(const struct sheet *sheet, size_t area, size_t column)
 {
@@ -166,6 +169,30 @@ static size_t area_of_address(const struct sheet *sheet, uint64_t address)
     return area;
 }
 
+/* The three words of a record area, behind the item rows. */
+static uint32_t records_word(const struct sheet *sheet, size_t column)
+{
+    return sheet_word(sheet, 12 + 4 * (size_t)area_count(sheet) + 6 * (size_t)item_count(sheet)
+                             + column);
+}
+
+static uint32_t records_first(const struct sheet *sheet) { return records_word(sheet, 0); }
+static uint32_t record_count(const struct sheet *sheet) { return records_word(sheet, 1); }
+static uint32_t record_words(const struct sheet *sheet) { return records_word(sheet, 2); }
+
+/* The address behind the last record; it is above FFFF where the area ends
+ * there or beyond. */
+static uint32_t records_end(const struct sheet *sheet)
+{
+    return records_first(sheet) + record_count(sheet);
+}
+
+/* False for every address where the sheet has no record area. */
+static bool is_record_address(const struct sheet *sheet, uint32_t address)
+{
+    return has_records(sheet) && records_first(sheet) <= address && address < records_end(sheet);
+}
+
 /* ---- The rules of the header ---- */
 
 /* rule S12: room for a header */
@@ -204,14 +231,15 @@ static bool keeps_bank_words(const struct sheet *sheet)
 /* rule S6 */
 static bool keeps_functions(const struct sheet *sheet) { return functions(sheet) <= 15; }
 
-/* rule S7 */
+/* rule S7, with the words of a record area where there is one */
 static bool keeps_length_word(const struct sheet *sheet)
 {
-    return sheet_word(sheet, 7) == 12 + 4 * area_count(sheet) + 6 * item_count(sheet);
+    return sheet_word(sheet, 7) == 12 + 4 * area_count(sheet) + 6 * item_count(sheet)
+                                   + (has_records(sheet) ? 3 : 0);
 }
 
 /* rule S11 */
-static bool keeps_word_11(const struct sheet *sheet) { return sheet_word(sheet, 11) == 0; }
+static bool keeps_word_11(const struct sheet *sheet) { return sheet_word(sheet, 11) <= 1; }
 
 /* rule S12 */
 static bool keeps_byte_length(const struct sheet *sheet)
@@ -466,6 +494,49 @@ static bool keeps_rate_range(const struct sheet *sheet)
         || (item_low(sheet, item) == 0 && item_high(sheet, item) == 1);
 }
 
+/* ---- The rules of the record area ----
+ * A sheet without one keeps them all. */
+
+enum { MOST_RECORDS = 6600, MOST_RECORD_WORDS = 47 };
+
+static bool keeps_record_count(const struct sheet *sheet)
+{
+    return !has_records(sheet)
+        || (1 <= record_count(sheet) && record_count(sheet) <= MOST_RECORDS);
+}
+
+static bool keeps_record_words(const struct sheet *sheet)
+{
+    return !has_records(sheet)
+        || (1 <= record_words(sheet) && record_words(sheet) <= MOST_RECORD_WORDS);
+}
+
+static bool keeps_records_end(const struct sheet *sheet)
+{
+    return !has_records(sheet) || records_end(sheet) <= 0x10000;
+}
+
+/* A record area of no records has no address to share. */
+static bool records_share(const struct sheet *sheet, size_t area)
+{
+    return area_length(sheet, area) > 0 && record_count(sheet) > 0
+        && records_first(sheet) <= area_last(sheet, area)
+        && area_first(sheet, area) < records_end(sheet);
+}
+
+static bool keeps_records_apart(const struct sheet *sheet)
+{
+    for (size_t area = 0; has_records(sheet) && area < area_count(sheet); area++)
+        if (records_share(sheet, area))
+            return false;
+    return true;
+}
+
+static bool keeps_clear_off_records(const struct sheet *sheet)
+{
+    return !clear_allowed(sheet) || !is_record_address(sheet, clear_address(sheet));
+}
+
 /* ---- All rules in their order ---- */
 
 struct rule {
@@ -484,7 +555,7 @@ static const struct rule rules[RULE_COUNT] = {
     [RULE_BANK_WORDS] = { "bank words 2 to 256", keeps_bank_words },
     [RULE_FUNCTIONS] = { "functions 0 to 15", keeps_functions },
     [RULE_LENGTH_WORD] = { "length word", keeps_length_word },
-    [RULE_WORD_11] = { "word 11 zero", keeps_word_11 },
+    [RULE_WORD_11] = { "word 11 zero or one", keeps_word_11 },
     [RULE_BYTE_LENGTH] = { "byte length", keeps_byte_length },
     [RULE_ACCESS] = { "access 1 or 3", keeps_access },
     [RULE_FIRST_ABOVE_LAST] = { "first not above last", keeps_first_last },
@@ -509,7 +580,12 @@ static const struct rule rules[RULE_COUNT] = {
     [RULE_ADDRESS_HOLDS_1] = { "address range holds 1", keeps_address_holds_1 },
     [RULE_RATE_HOLDS_1] = { "rate range holds 1", keeps_rate_holds_1 },
     [RULE_ADDRESS_RANGE] = { "address within 1 to F7", keeps_address_range },
-    [RULE_RATE_RANGE] = { "rate 0 to 1", keeps_rate_range }
+    [RULE_RATE_RANGE] = { "rate 0 to 1", keeps_rate_range },
+    [RULE_RECORD_COUNT] = { "records 1 to 6600", keeps_record_count },
+    [RULE_RECORD_WORDS] = { "words of a record 1 to 47", keeps_record_words },
+    [RULE_RECORDS_END] = { "records end by FFFF", keeps_records_end },
+    [RULE_RECORDS_SHARE] = { "records and areas share none", keeps_records_apart },
+    [RULE_CLEAR_IN_RECORDS] = { "clear address no record's", keeps_clear_off_records }
 };
 
 enum second_rule second_broken_rule(const uint8_t *bytes, size_t bytes_n)
@@ -621,6 +697,101 @@ uint32_t second_bank_fresh(const uint8_t *sheet, size_t sheet_n,
     return NUMBER_DONE;
 }
 
+/* ---- The ring ----
+ * Two words, the place of the newest record and the number stored, and then
+ * the room of every record, in the order of their places. */
+
+enum { RING_HEAD = 4 };
+
+static uint32_t ring_newest(const uint8_t *ring) { return word_at(ring, 0); }
+static uint32_t ring_stored(const uint8_t *ring) { return word_at(ring, 1); }
+
+static size_t record_bytes(const struct sheet *sheet)
+{
+    return 2 * (size_t)record_words(sheet);
+}
+
+static size_t ring_size(const struct sheet *sheet)
+{
+    return has_records(sheet) ? RING_HEAD + record_count(sheet) * record_bytes(sheet) : 0;
+}
+
+/* Where the record of a place begins in the ring. */
+static size_t record_offset(const struct sheet *sheet, uint32_t place)
+{
+    return RING_HEAD + place * record_bytes(sheet);
+}
+
+/* Of a ring of the right size. What the records' room holds is free, and so is
+ * the newest one's place unless nothing is stored. */
+static bool ring_sound(const struct sheet *sheet, const uint8_t *ring)
+{
+    if (ring_newest(ring) >= record_count(sheet) || ring_stored(ring) > record_count(sheet))
+        return false;
+    return ring_stored(ring) > 0 || ring_newest(ring) == 0;
+}
+
+/* Whether 8 is told of a ring, of a sound sheet. */
+static bool ring_refused(const struct sheet *sheet, const uint8_t *ring, size_t ring_n)
+{
+    if (ring_n != ring_size(sheet))
+        return true;
+    return has_records(sheet) && !ring_sound(sheet, ring);
+}
+
+/* The place of a record by its number; 1 is the newest, and each next one lies
+ * in front of the one before, round from place 0 to the last. */
+static uint32_t place_of_record(const struct sheet *sheet, const uint8_t *ring, uint32_t number)
+{
+    return (ring_newest(ring) + record_count(sheet) - (number - 1)) % record_count(sheet);
+}
+
+/* Where the next record goes: the first to place 0, every other behind the
+ * newest. In a full ring that is the oldest one's room. */
+static uint32_t next_place(const struct sheet *sheet, const uint8_t *ring)
+{
+    return ring_stored(ring) == 0 ? 0 : (ring_newest(ring) + 1) % record_count(sheet);
+}
+
+uint32_t second_ring_check(const uint8_t *sheet, size_t sheet_n,
+                           const uint8_t *ring, size_t ring_n)
+{
+    struct sheet rows = { sheet, sheet_n };
+    if (second_broken_rule(sheet, sheet_n) != RULE_NONE)
+        return NUMBER_SHEET;
+    return ring_refused(&rows, ring, ring_n) ? NUMBER_RING : NUMBER_DONE;
+}
+
+/* To a sheet without a record area nothing can be added, whatever the ring. */
+uint32_t second_add_record(const uint8_t *sheet, size_t sheet_n,
+                           uint8_t *ring, size_t ring_n,
+                           const uint8_t *record, size_t record_n)
+{
+    struct sheet rows = { sheet, sheet_n };
+    if (second_broken_rule(sheet, sheet_n) != RULE_NONE || !has_records(&rows))
+        return NUMBER_SHEET;
+    if (ring_refused(&rows, ring, ring_n))
+        return NUMBER_RING;
+    if (record_n != record_bytes(&rows))
+        return NUMBER_BAD_INPUT;
+    uint32_t place = next_place(&rows, ring);
+    memcpy(ring + record_offset(&rows, place), record, record_n);
+    put_word(ring, 0, place);
+    if (ring_stored(ring) < record_count(&rows))
+        put_word(ring, 1, ring_stored(ring) + 1);
+    return NUMBER_DONE;
+}
+
+/* The refusals ahead of a frame, 2, 3, 4 and 8. */
+static uint32_t refuse_ring(const struct sheet *sheet, const uint8_t *bank, size_t bank_n,
+                            const uint8_t *ring, size_t ring_n)
+{
+    uint32_t number = refuse_bank(sheet, bank, bank_n);
+    if (number != NUMBER_DONE)
+        return number;
+    return ring_refused(sheet, ring, ring_n) ? NUMBER_RING : NUMBER_DONE;
+}
+
 /* ---- Posting and the mark ---- */
 
 static bool address_has_access(const struct sheet *sheet, uint64_t address, uint32_t access)
@@ -654,7 +825,7 @@ uint32_t second_post(const uint8_t *sheet, size_t sheet_n,
     if (number != NUMBER_DONE)
         return number;
     if (words_n == 0 || words_n % 2 == 1)
-        return NUMBER_POSTED_BYTES_OR_MARK;
+        return NUMBER_BAD_INPUT;
     if (!posted_addresses_good(&rows, address, words_n / 2))
         return NUMBER_POSTED_ADDRESS;
     for (uint32_t i = 0; i < words_n / 2; i++)
@@ -671,7 +842,7 @@ uint32_t second_set_mark(const uint8_t *sheet, size_t sheet_n,
     if (number != NUMBER_DONE)
         return number;
     if (mark > 1)
-        return NUMBER_POSTED_BYTES_OR_MARK;
+        return NUMBER_BAD_INPUT;
     put_word(bank, bank_words(&rows), mark);
     return NUMBER_DONE;
 }
@@ -716,10 +887,11 @@ static bool check_agrees(const uint8_t *frame, size_t frame_n)
 
 enum { READ = 0x03, CLEAR = 0x05, WRITE_ONE = 0x06, WRITE_MANY = 0x10 };
 
-/* A frame before a sound sheet and a sound bank. */
+/* A frame before a sound sheet, a sound bank and a ring that goes with them. */
 struct query {
     struct sheet sheet;
     const uint8_t *bank;
+    const uint8_t *ring;
     const uint8_t *frame;
     size_t n;
 };
@@ -736,6 +908,18 @@ static uint32_t count_or_value_of(const struct query *query)
 static bool is_write(const struct query *query)
 {
     return function_of(query) == WRITE_ONE || function_of(query) == WRITE_MANY;
+}
+
+/* Whether the frame is a read that starts in the record area. */
+static bool reads_records(const struct query *query)
+{
+    return function_of(query) == READ && is_record_address(&query->sheet, start_of(query));
+}
+
+/* The number of the record that such a read asks for. */
+static uint32_t record_asked(const struct query *query)
+{
+    return start_of(query) - records_first(&query->sheet) + 1;
 }
 
 /* rule J4: how many addresses the run of a 03, 06 or 10 has. */
@@ -809,10 +993,12 @@ static enum second_step step_4(const struct query *query)
     return GOES_ON;
 }
 
-/* step 5: rules J50 to J52 */
+/* step 5: rules J50 to J52, and one record at a time, however many are stored */
 static enum second_step step_5(const struct query *query)
 {
     uint32_t count = count_or_value_of(query);
+    if (reads_records(query) && count != 1)
+        return STEP_5_RECORD_COUNT;
     if (function_of(query) == READ && count == 0)
         return STEP_5_READ_COUNT_0;
     if (function_of(query) == WRITE_MANY && count == 0)
@@ -822,11 +1008,14 @@ static enum second_step step_5(const struct query *query)
     return GOES_ON;
 }
 
-/* step 6 for one address of a run: rules J60 to J62 */
+/* step 6 for one address of a run: rules J60 to J62. A record's address lies in
+ * no area, so that a run that gets there from outside stops. */
 static enum second_step step_6_address(const struct query *query, uint32_t address)
 {
     if (address > 0xFFFF)
         return STEP_6_ABOVE_FFFF;
+    if (is_record_address(&query->sheet, address))
+        return STEP_6_RECORD;
     if (area_of_address(&query->sheet, address) == area_count(&query->sheet))
         return STEP_6_NO_AREA;
     if (is_write(query) && address_has_access(&query->sheet, address, 1))
@@ -842,9 +1031,11 @@ static enum second_step step_6_run(const struct query *query)
     return step;
 }
 
-/* step 6: rules J60 to J65 */
+/* step 6: rules J60 to J65, and the number of a record */
 static enum second_step step_6(const struct query *query)
 {
+    if (reads_records(query))
+        return record_asked(query) <= ring_stored(query->ring) ? GOES_ON : STEP_6_NOT_STORED;
     if (function_of(query) == CLEAR)
         return start_of(query) == clear_address(&query->sheet)
             ? GOES_ON : STEP_6_NOT_CLEAR;
@@ -924,7 +1115,7 @@ static enum second_step step_7(const struct query *query)
 static enum second_step good_step(const struct query *query)
 {
     switch (function_of(query)) {
-    case READ: return STEP_GOOD_READ;
+    case READ: return reads_records(query) ? STEP_GOOD_RECORD : STEP_GOOD_READ;
     case CLEAR: return STEP_GOOD_CLEAR;
     case WRITE_ONE: return STEP_GOOD_WRITE_ONE;
     default: return STEP_GOOD_WRITE_MANY;
@@ -973,9 +1164,10 @@ static uint8_t error_of(enum second_step step)
     case STEP_3_FUNCTION:
         return 1;
     case STEP_6_ABOVE_FFFF: case STEP_6_NO_AREA: case STEP_6_READ_ONLY:
-    case STEP_6_OVER_47: case STEP_6_NOT_CLEAR:
+    case STEP_6_OVER_47: case STEP_6_NOT_CLEAR: case STEP_6_RECORD: case STEP_6_NOT_STORED:
         return 2;
     case STEP_5_READ_COUNT_0: case STEP_5_WRITE_COUNT_0: case STEP_5_BYTE_COUNT:
+    case STEP_5_RECORD_COUNT:
     case STEP_7_CLEAR_VALUE: case STEP_7_BAD_ITEM:
         return 3;
     default:
@@ -1000,6 +1192,18 @@ static uint32_t reply_words(const struct query *query, uint8_t *out)
     return 3 + 2 * count;
 }
 
+/* A whole record, as it was added. */
+static uint32_t reply_record(const struct query *query, uint8_t *out)
+{
+    const struct sheet *sheet = &query->sheet;
+    uint32_t place = place_of_record(sheet, query->ring, record_asked(query));
+    out[0] = query->frame[0];
+    out[1] = READ;
+    out[2] = (uint8_t)record_bytes(sheet);
+    memcpy(out + 3, query->ring + record_offset(sheet, place), record_bytes(sheet));
+    return 3 + (uint32_t)record_bytes(sheet);
+}
+
 /* rules R2 and R3: each is the first six bytes of the frame. */
 static uint32_t reply_echo(const struct query *query, uint8_t *out)
 {
@@ -1022,6 +1226,8 @@ static uint32_t reply_body(const struct query *query, uint8_t *out, enum second_
         return reply_error(query, out, error_of(step));
     if (step == STEP_GOOD_READ)
         return reply_words(query, out);
+    if (step == STEP_GOOD_RECORD)
+        return reply_record(query, out);
     return reply_echo(query, out);
 }
 
@@ -1039,14 +1245,15 @@ static uint32_t reply(const struct query *query, uint8_t *out, enum second_step 
  * of the frame, which agreed in step 2. */
 uint32_t second_answer(const uint8_t *sheet, size_t sheet_n,
                        uint8_t *bank, size_t bank_n,
+                       const uint8_t *ring, size_t ring_n,
                        const uint8_t *frame, size_t frame_n,
                        uint8_t *out, size_t out_n,
                        uint32_t *length, uint32_t *rate)
 {
-    struct query query = { { sheet, sheet_n }, bank, frame, frame_n };
+    struct query query = { { sheet, sheet_n }, bank, ring, frame, frame_n };
     *length = 0;
     *rate = 0;
-    uint32_t number = refuse_bank(&query.sheet, bank, bank_n);
+    uint32_t number = refuse_ring(&query.sheet, bank, bank_n, ring, ring_n);
     if (number != NUMBER_DONE)
         return number;
     if (out_n < 100)
@@ -1062,10 +1269,11 @@ uint32_t second_answer(const uint8_t *sheet, size_t sheet_n,
 
 enum second_step second_step(const uint8_t *sheet, size_t sheet_n,
                              const uint8_t *bank, size_t bank_n,
+                             const uint8_t *ring, size_t ring_n,
                              const uint8_t *frame, size_t frame_n)
 {
-    struct query query = { { sheet, sheet_n }, bank, frame, frame_n };
-    if (refuse_bank(&query.sheet, bank, bank_n) != NUMBER_DONE)
+    struct query query = { { sheet, sheet_n }, bank, ring, frame, frame_n };
+    if (refuse_ring(&query.sheet, bank, bank_n, ring, ring_n) != NUMBER_DONE)
         return STEP_REFUSED;
     return judge(&query);
 }
@@ -1080,6 +1288,7 @@ static const char *const step_names[STEP_COUNT] = {
     [STEP_4_NOT_8] = "4 not of 8 bytes",
     [STEP_4_BELOW_9] = "4 10 below 9 bytes",
     [STEP_4_NOT_9_PLUS] = "4 10 not 9 plus byte count",
+    [STEP_5_RECORD_COUNT] = "5 a record, count not 1",
     [STEP_5_READ_COUNT_0] = "5 03 with count 0",
     [STEP_5_WRITE_COUNT_0] = "5 10 with count 0",
     [STEP_5_BYTE_COUNT] = "5 byte count not twice",
@@ -1088,9 +1297,12 @@ static const char *const step_names[STEP_COUNT] = {
     [STEP_6_READ_ONLY] = "6 write to access 1",
     [STEP_6_OVER_47] = "6 count over 47",
     [STEP_6_NOT_CLEAR] = "6 not the clear address",
+    [STEP_6_RECORD] = "6 run into records, or a write",
+    [STEP_6_NOT_STORED] = "6 a record not stored",
     [STEP_7_CLEAR_VALUE] = "7 clear value not 0",
     [STEP_7_BAD_ITEM] = "7 bad item",
     [STEP_GOOD_READ] = "good 03",
+    [STEP_GOOD_RECORD] = "good 03 of a record",
     [STEP_GOOD_CLEAR] = "good 05",
     [STEP_GOOD_WRITE_ONE] = "good 06",
     [STEP_GOOD_WRITE_MANY] = "good 10"
@@ -1140,13 +1352,19 @@ static bool has_other_length(const struct query *query)
     return query->n != 8;
 }
 
+/* How many registers a read may ask for: of records, one. */
+static uint32_t most_read(const struct query *query)
+{
+    return is_record_address(&query->sheet, start_of(query)) ? 1 : 47;
+}
+
 /* rule Y16: a read of too many is told here, ahead of its addresses, though it
- * gets the error of an address. */
+ * gets the error of an address unless it starts in the record area. */
 static bool has_bad_count(const struct query *query)
 {
     uint32_t count = count_or_value_of(query);
     switch (function_of(query)) {
-    case READ: return count == 0 || count > 47;
+    case READ: return count == 0 || count > most_read(query);
     case WRITE_MANY: return count == 0 || query->frame[6] != 2 * count;
     default: return false;
     }
@@ -1159,12 +1377,22 @@ static uint32_t addresses_of(const struct query *query)
     return function == READ || function == WRITE_MANY ? count_or_value_of(query) : 1;
 }
 
+/* Whether a read may have an address: one of an area, or the address of a
+ * stored record if that is where the read starts. */
+static bool is_open_to_read(const struct query *query, uint32_t address)
+{
+    const struct sheet *sheet = &query->sheet;
+    if (address == start_of(query) && is_record_address(sheet, address))
+        return address - records_first(sheet) < ring_stored(query->ring);
+    return area_of_address(sheet, address) < area_count(sheet);
+}
+
 /* Whether the function may be used at an address. No area has an address above
  * FFFF. */
 static bool is_open(const struct query *query, uint32_t address)
 {
     switch (function_of(query)) {
-    case READ: return area_of_address(&query->sheet, address) < area_count(&query->sheet);
+    case READ: return is_open_to_read(query, address);
     case CLEAR: return address == clear_address(&query->sheet);
     default: return address_has_access(&query->sheet, address, 3);
     }
@@ -1247,13 +1475,14 @@ static uint32_t address_told(const struct query *query, enum second_reason reaso
 /* rule Y2 */
 uint32_t second_why(const uint8_t *sheet, size_t sheet_n,
                     const uint8_t *bank, size_t bank_n,
+                    const uint8_t *ring, size_t ring_n,
                     const uint8_t *frame, size_t frame_n,
                     uint32_t *reason, uint32_t *address)
 {
-    struct query query = { { sheet, sheet_n }, bank, frame, frame_n };
+    struct query query = { { sheet, sheet_n }, bank, ring, frame, frame_n };
     *reason = REASON_NONE;
     *address = 0;
-    uint32_t number = refuse_bank(&query.sheet, bank, bank_n);
+    uint32_t number = refuse_ring(&query.sheet, bank, bank_n, ring, ring_n);
     if (number != NUMBER_DONE)
         return number;
     enum second_reason first = first_reason(&query);

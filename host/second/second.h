@@ -1,9 +1,10 @@
 /* A second statement of the rules of docs/RULES.md, for the host tests.
  *
- * The ten functions do what the library's ten do. They are written for
+ * The twelve functions do what the library's twelve do. They are written for
  * reading, rule by rule in that page's order, and share nothing with the library.
  * Words are two bytes, upper byte first. A null pointer with length 0 is an
- * empty slice. Frame and answer buffer must be separate memory. */
+ * empty slice, as the ring of a sheet without a record area. Frame and answer
+ * buffer must be separate memory. */
 #ifndef SECOND_H
 #define SECOND_H
 
@@ -26,15 +27,22 @@ uint32_t second_set_mark(const uint8_t *sheet, size_t sheet_n,
                          uint8_t *bank, size_t bank_n, uint32_t mark);
 uint32_t second_answer(const uint8_t *sheet, size_t sheet_n,
                        uint8_t *bank, size_t bank_n,
+                       const uint8_t *ring, size_t ring_n,
                        const uint8_t *frame, size_t frame_n,
                        uint8_t *out, size_t out_n,
                        uint32_t *length, uint32_t *rate);
 uint32_t second_why(const uint8_t *sheet, size_t sheet_n,
                     const uint8_t *bank, size_t bank_n,
+                    const uint8_t *ring, size_t ring_n,
                     const uint8_t *frame, size_t frame_n,
                     uint32_t *reason, uint32_t *address);
+uint32_t second_ring_check(const uint8_t *sheet, size_t sheet_n,
+                           const uint8_t *ring, size_t ring_n);
+uint32_t second_add_record(const uint8_t *sheet, size_t sheet_n,
+                           uint8_t *ring, size_t ring_n,
+                           const uint8_t *record, size_t record_n);
 
-/* The numbers of the rules N0 to N7. */
+/* The numbers of the rules N0 to N7, and that of a ring. */
 enum second_number {
     NUMBER_DONE = 0,
     NUMBER_SILENCE = 1,
@@ -43,10 +51,13 @@ enum second_number {
     NUMBER_BANK_SOUND = 4,
     NUMBER_BUFFER = 5,
     NUMBER_POSTED_ADDRESS = 6,
-    NUMBER_POSTED_BYTES_OR_MARK = 7
+    NUMBER_BAD_INPUT = 7,           /* posted bytes, a mark or a record */
+    NUMBER_RING = 8,
+    NUMBER_COUNT
 };
 
-/* The rules of a sheet, in their order: rules S0 to S64. */
+/* The rules of a sheet, in their order: rules S0 to S64, and those of a record
+ * area. */
 enum second_rule {
     RULE_NONE,
     RULE_HEADER,
@@ -84,11 +95,16 @@ enum second_rule {
     RULE_RATE_HOLDS_1,
     RULE_ADDRESS_RANGE,
     RULE_RATE_RANGE,
+    RULE_RECORD_COUNT,
+    RULE_RECORD_WORDS,
+    RULE_RECORDS_END,
+    RULE_RECORDS_SHARE,
+    RULE_CLEAR_IN_RECORDS,
     RULE_COUNT
 };
 
 /* Where a frame stopped in 01's order of judgement, or what sort of good
- * frame it was. STEP_REFUSED: sheet or bank is refused before any step. */
+ * frame it was. STEP_REFUSED: sheet, bank or ring is refused before any step. */
 enum second_step {
     STEP_REFUSED,
     STEP_1_SHORT,
@@ -99,6 +115,7 @@ enum second_step {
     STEP_4_NOT_8,
     STEP_4_BELOW_9,
     STEP_4_NOT_9_PLUS,
+    STEP_5_RECORD_COUNT,
     STEP_5_READ_COUNT_0,
     STEP_5_WRITE_COUNT_0,
     STEP_5_BYTE_COUNT,
@@ -107,9 +124,12 @@ enum second_step {
     STEP_6_READ_ONLY,
     STEP_6_OVER_47,
     STEP_6_NOT_CLEAR,
+    STEP_6_RECORD,
+    STEP_6_NOT_STORED,
     STEP_7_CLEAR_VALUE,
     STEP_7_BAD_ITEM,
     STEP_GOOD_READ,
+    STEP_GOOD_RECORD,
     STEP_GOOD_CLEAR,
     STEP_GOOD_WRITE_ONE,
     STEP_GOOD_WRITE_MANY,
@@ -142,6 +162,7 @@ uint64_t second_broken_rules(const uint8_t *sheet, size_t sheet_n);
 /* The step a frame stops at; nothing is written. */
 enum second_step second_step(const uint8_t *sheet, size_t sheet_n,
                              const uint8_t *bank, size_t bank_n,
+                             const uint8_t *ring, size_t ring_n,
                              const uint8_t *frame, size_t frame_n);
 
 const char *second_rule_name(enum second_rule rule);

@@ -113,7 +113,7 @@ static void break_length_word(uint8_t *bytes, size_t *n)
 static void break_word_11(uint8_t *bytes, size_t *n)
 {
     (void)n;
-    put16(bytes, 11, ONE_OF(1, 2, 0x0100, 0x8000, 0xFFFF));
+    put16(bytes, 11, ONE_OF(2, 2, 3, 0x0100, 0x0101, 0x8000, 0xFFFF));
 }
 
 static void break_byte_length(uint8_t *bytes, size_t *n)
@@ -435,6 +435,70 @@ static void break_rate_range(struct made *made)
         set_range(made, made->rate_place, 1, ONE_OF(1, 2, 0xFFFF));
 }
 
+/* ---- The record area ---- */
+
+/* A sheet without a record area gets one. */
+static struct made_records *some_records(struct made *made)
+{
+    struct made_records *records = &made->records;
+    if (!records->is) {
+        records->is = true;
+        records->count = 1 + below(8);
+        records->words = 1 + below(RECORD_WORDS_MOST);
+        records->first = some_records_first(made, records->count);
+    }
+    return records;
+}
+
+static void break_record_count(struct made *made)
+{
+    struct made_records *records = some_records(made);
+    records->count = chance(30) ? 0
+        : chance(80) ? RECORDS_MOST + 1 : ONE_OF(RECORDS_MOST + 2, 7000, 0x4000, 0x8000);
+    if (records->count > 0)
+        records->first = some_records_first(made, records->count);
+}
+
+static void break_record_words(struct made *made)
+{
+    some_records(made)->words = chance(40) ? 0 : chance(70) ? RECORD_WORDS_MOST + 1
+        : ONE_OF(49, 0x0100, 0x0101, 0x012F, 0x8000, 0xFFFF);
+}
+
+/* By one address, or by more. */
+static void break_records_end(struct made *made)
+{
+    struct made_records *records = some_records(made);
+    if (records->count == 1)
+        records->count = 2 + below(3);
+    uint32_t beyond = chance(60) ? 1 : 1 + below(records->count - 1);
+    records->first = 0x10000 - records->count + beyond;
+}
+
+/* One address with the area's first or last, some inside of it, or all of it. */
+static void share_records(struct made *made)
+{
+    const struct made_area *area = some_area(made);
+    struct made_records *records = some_records(made);
+    switch (below(4)) {
+    case 0: records->first = area->last; break;
+    case 1: records->first = (area->first - records->count + 1) & 0xFFFF; break;
+    case 2: records->first = area->first + below(length_of(area)); break;
+    default:
+        records->first = area->first == 0 ? 0 : area->first - 1;
+        records->count = length_of(area) + 2;
+        break;
+    }
+}
+
+static void clear_in_records(struct made *made)
+{
+    const struct made_records *records = some_records(made);
+    made->functions |= 2;
+    made->clear = ONE_OF(records->first, records->first + records->count - 1,
+                         records->first + below(records->count));
+}
+
 /* ---- All of them ---- */
 
 struct breaker {
@@ -477,7 +541,12 @@ static const struct breaker breakers[RULE_COUNT] = {
     [RULE_ADDRESS_HOLDS_1] = { break_address_holds_1, NULL },
     [RULE_RATE_HOLDS_1] = { break_rate_holds_1, NULL },
     [RULE_ADDRESS_RANGE] = { break_address_range, NULL },
-    [RULE_RATE_RANGE] = { break_rate_range, NULL }
+    [RULE_RATE_RANGE] = { break_rate_range, NULL },
+    [RULE_RECORD_COUNT] = { break_record_count, NULL },
+    [RULE_RECORD_WORDS] = { break_record_words, NULL },
+    [RULE_RECORDS_END] = { break_records_end, NULL },
+    [RULE_RECORDS_SHARE] = { share_records, NULL },
+    [RULE_CLEAR_IN_RECORDS] = { clear_in_records, NULL }
 };
 
 bool can_break_alone(enum second_rule rule)

@@ -1,5 +1,5 @@
 /* Sound sheets of many shapes, the two makers' maps, and sound banks. The
- * sheets with a broken rule are in sheets_broken.c. */
+ * sheets with a broken rule are in sheets_broken.c, the rings in rings_made.c. */
 #include "sheets_made.h"
 #include "noise.h"
 
@@ -32,6 +32,12 @@ int made_item_of(const struct made *made, uint32_t place)
             return (int)i;
     }
     return -1;
+}
+
+bool made_is_record(const struct made *made, uint32_t address)
+{
+    const struct made_records *records = &made->records;
+    return records->is && records->first <= address && address - records->first < records->count;
 }
 
 /* ---- Values ---- */
@@ -254,6 +260,75 @@ static void choose_functions(struct made *made)
     while (made_area_of(made, made->clear) >= 0);
 }
 
+/* ---- The record area ---- */
+
+/* Mostly few records, so that a ring is soon full; the most are rare. */
+static uint32_t some_record_count(void)
+{
+    uint32_t sort = below(200);
+    if (sort < 26)
+        return 1;
+    if (sort < 58)
+        return 2;
+    if (sort < 154)
+        return 3 + below(6);
+    if (sort < 166)
+        return 9 + below(60);
+    if (sort < 170)
+        return 250 + below(20);
+    return RECORDS_MOST - (chance(10) ? 1 : 0);
+}
+
+/* Long records in large rings are rarer still. */
+static uint32_t some_record_words(uint32_t count)
+{
+    if (count > 1000 && chance(96))
+        return 1;
+    if (count > 200 && chance(80))
+        return 1 + below(3);
+    return chance(75) ? ONE_OF(1, 1, 2, 22, 46, RECORD_WORDS_MOST, RECORD_WORDS_MOST)
+                      : 1 + below(RECORD_WORDS_MOST);
+}
+
+uint32_t some_records_first(const struct made *made, uint32_t count)
+{
+    const struct made_area *area = &made->areas[below(made->areas_n)];
+    switch (below(14)) {
+    case 0: return 0;
+    case 1: return 0x10000 - count;
+    case 2: return (made->clear + 1) & 0xFFFF;
+    case 3: return (made->clear - count) & 0xFFFF;
+    case 4: case 5: return (area->first - count) & 0xFFFF;
+    case 6: case 7: case 8: case 9: case 10: case 11: return (area->last + 1) & 0xFFFF;
+    default: return below(0x10000 - count + 1);
+    }
+}
+
+static bool records_are_free(const struct made *made)
+{
+    uint32_t first = made->records.first;
+    uint32_t last = first + made->records.count - 1;
+    for (uint32_t i = 0; i < made->areas_n; i++)
+        if (made->areas[i].first <= last && first <= made->areas[i].last)
+            return false;
+    bool on_clear = first <= made->clear && made->clear <= last;
+    return last <= 0xFFFF && !((made->functions & 2) != 0 && on_clear);
+}
+
+/* A record area, if one that is free is soon found. */
+static void add_records(struct made *made)
+{
+    made->records.is = true;
+    for (int tries = 0; tries < 8; tries++) {
+        made->records.count = some_record_count();
+        made->records.words = some_record_words(made->records.count);
+        made->records.first = some_records_first(made, made->records.count);
+        if (records_are_free(made))
+            return;
+    }
+    memset(&made->records, 0, sizeof made->records);
+}
+
 /* ---- Shapes ---- */
 
 static void shape_small(struct made *made)
@@ -433,6 +508,15 @@ void make_as_we(struct made *made, uint32_t bore)
     made->address_place = map_place(made, 0x0108);
 }
 
+/* The record area of the makers' newer meters, on AS-WE's map. */
+static void add_history(struct made *made)
+{
+    made->records.is = true;
+    made->records.first = 0x0400;
+    made->records.count = RECORDS_MOST;
+    made->records.words = 22;
+}
+
 void make_sound(struct made *made)
 {
     uint32_t sort = below(10);
@@ -444,6 +528,10 @@ void make_sound(struct made *made)
         while (!try_shape(made))
             ;
     }
+    if (sort == 1 && chance(6))
+        add_history(made);
+    else if (chance(58))
+        add_records(made);
 }
 
 /* ---- Sheets and banks in bytes ---- */
@@ -458,8 +546,9 @@ static void put_header(const struct made *made, uint8_t *bytes)
 {
     const uint32_t header[12] = {
         1, made->areas_n, 12, made->items_n, 12 + 4 * made->areas_n, made->bank_words,
-        made->functions, 12 + 4 * made->areas_n + 6 * made->items_n, made->address_place,
-        made->rate_place, made->clear, 0
+        made->functions,
+        12 + 4 * made->areas_n + 6 * made->items_n + (made->records.is ? 3 : 0),
+        made->address_place, made->rate_place, made->clear, made->records.is ? 1 : 0
     };
     for (size_t i = 0; i < 12; i++)
         put16(bytes, i, header[i]);
@@ -480,6 +569,12 @@ size_t put_sheet(const struct made *made, uint8_t *bytes)
         put16(row, 1, made->items[i].place);
         put_bound(&made->items[i], row + 4, made->items[i].low);
         put_bound(&made->items[i], row + 8, made->items[i].high);
+    }
+    if (made->records.is) {
+        put16(row, 0, made->records.first);
+        put16(row, 1, made->records.count);
+        put16(row, 2, made->records.words);
+        row += 6;
     }
     return (size_t)(row - bytes);
 }

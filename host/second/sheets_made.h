@@ -8,6 +8,9 @@
 
 enum { SHEET_ROOM = 2048, BANK_ROOM = 1024 };
 
+/* The most that a record area can have, stated for the comparison itself. */
+enum { RECORDS_MOST = 6600, RECORD_WORDS_MOST = 47 };
+
 /* The stations that a meter can have, stated for the comparison itself and not
  * taken from what is compared: rule S63. */
 enum { FIRST_STATION = 1, LAST_STATION = 0xF7 };
@@ -21,16 +24,27 @@ struct made_item {
     int64_t low, high;
 };
 
+/* Without a record area, all is 0. */
+struct made_records {
+    bool is;
+    uint32_t first, count, words;
+};
+
 /* A sheet before it is put into words; one area and a few items more than 01
  * allows, so that those limits can be broken. */
 struct made {
     uint32_t areas_n, items_n, bank_words, functions, address_place, rate_place, clear;
+    struct made_records records;
     struct made_area areas[10];
     struct made_item items[70];
 };
 
-/* A sound sheet of some shape. */
+/* A sound sheet of some shape, often with a record area. */
 void make_sound(struct made *made);
+
+/* Where a record area of so many records could begin: next to an area or the
+ * clear address, at one of the ends, or anywhere; it need not be free. */
+uint32_t some_records_first(const struct made *made, uint32_t count);
 
 /* The two makers' maps; the high bound of 0109 of AS-WE goes by the bore,
  * as rule M22 has it. */
@@ -57,6 +71,9 @@ bool spoil_item(const struct made *made, uint8_t *bank);
 /* The area or item that an address or place lies in, -1 if in none. */
 int made_area_of(const struct made *made, uint32_t address);
 int made_item_of(const struct made *made, uint32_t place);
+
+/* Whether an address is a record's. */
+bool made_is_record(const struct made *made, uint32_t address);
 
 /* The least and the largest value that the words of a kind can hold. */
 int64_t kind_least(uint32_t kind);

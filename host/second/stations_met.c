@@ -45,6 +45,11 @@ static bool frame_is_for_no_meter(const struct call *call)
     return call->part_n[PART_BYTES] == 0 || !is_station(call->part[PART_BYTES][0]);
 }
 
+static bool has_bank(const struct call *call)
+{
+    return CALL_BANK_CHECK <= call->sort && call->sort <= CALL_WHY;
+}
+
 /* ---- What holds of every call ---- */
 
 static bool range_is_of_stations(const struct call *call)
@@ -58,7 +63,7 @@ static bool range_is_of_stations(const struct call *call)
 
 static const char *answer_breach(const struct call *call, const struct outcome *outcome)
 {
-    if (outcome->number == NUMBER_BUFFER)
+    if (outcome->number == NUMBER_BUFFER || outcome->number == NUMBER_RING)
         return NULL;
     if (frame_is_for_no_meter(call) && !is_untouched(call, outcome))
         return "a frame for no meter's station was not met with silence";
@@ -70,6 +75,8 @@ static const char *answer_breach(const struct call *call, const struct outcome *
 static const char *why_breach(const struct call *call, const struct outcome *outcome)
 {
     bool silent = REASON_TOO_SHORT <= outcome->reason && outcome->reason <= REASON_STATION;
+    if (outcome->number == NUMBER_RING)
+        return NULL;
     if (frame_is_for_no_meter(call) && !silent)
         return "the reason of a frame for no meter's station is behind the station";
     return NULL;
@@ -81,7 +88,7 @@ const char *station_breach(const struct call *call, const struct outcome *outcom
         return NULL;
     if (!range_is_of_stations(call))
         return "a sheet was taken whose address can be what no meter has";
-    if (call->sort == CALL_SHEET_CHECK || outcome->number == NUMBER_BANK_SIZE
+    if (!has_bank(call) || outcome->number == NUMBER_BANK_SIZE
         || outcome->number == NUMBER_BANK_SOUND)
         return NULL;
     if (!is_station(station_of(call, part_after(PART_BANK))))
@@ -137,7 +144,8 @@ static void count_refused_bank(struct counts *counts, const struct call *call)
 static enum second_step step_of(const struct call *call, const uint8_t *frame)
 {
     return second_step(call->part[PART_SHEET], call->part_n[PART_SHEET], call->part[PART_BANK],
-                       call->part_n[PART_BANK], frame, call->part_n[PART_BYTES]);
+                       call->part_n[PART_BANK], call->part[PART_RING], call->part_n[PART_RING],
+                       frame, call->part_n[PART_BYTES]);
 }
 
 /* A frame that got silence for nothing but its station: with the bank's own it
@@ -168,7 +176,8 @@ static uint32_t bad_station(const struct call *call)
     const uint8_t *frame = call->part[PART_BYTES];
     uint32_t reason, address;
     second_why(sheet, call->part_n[PART_SHEET], call->part[PART_BANK], call->part_n[PART_BANK],
-               frame, call->part_n[PART_BYTES], &reason, &address);
+               call->part[PART_RING], call->part_n[PART_RING], frame, call->part_n[PART_BYTES],
+               &reason, &address);
     if (reason != REASON_ITEM)
         return FIRST_STATION;
     for (size_t row = 12; row < get16(sheet, 4); row += 4) {
