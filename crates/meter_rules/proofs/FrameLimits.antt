@@ -197,7 +197,7 @@ into room row =
     }
 
 -- an answer buffer, of bytes that no reply of the table has
-abbrev buffer : ℕ → List ℕ
+abbrev pub buffer : ℕ → List ℕ
 buffer room = replicate room 0xA5
 
 -- an outcome is what a row says; beyond the reply the buffer is as before

@@ -12,3 +12,4 @@ pub mod Written
 pub mod Keeping
 pub mod Soundness
 pub mod FrameLimits
+pub mod RecordLimits

@@ -3,3 +3,4 @@ pub mod Order
 pub mod Parts
 pub mod FirstAddress
 pub mod FirstItem
+pub mod RecordReasons
