@@ -9,7 +9,7 @@ use lib.ListN.{take, replicate}
 use Rattle.words.specs.Words.{wordAt, withWord, bytesOf}
 use Rattle.words.specs.Changes.{Change, at, changed}
 use Rattle.range.specs.Range.{inRange}
-use Rattle.sheet_rules.specs.Rows.{areas, items}
+use Rattle.sheet_rules.specs.Rows.{areas, items, recordArea}
 use Rattle.sheet_rules.specs.Rules.{sound, headerSound, areasSound, itemsSound, settingsSound, recordsSound, itemPlaces, writablePlaces, placesFollow, areasAscend, lengthsSum}
 use Rattle.sheet_rules.specs.Lookup.{liesIn}
 use Rattle.lists.specs.Lists.{each, some, upFrom, samePlaces}
@@ -61,6 +61,10 @@ fromZero = bytesOf (changed 0 sheetWords (at 43 0 ∷ []))
 
 abbrev toF8 : List ℕ
 toF8 = bytesOf (changed 0 sheetWords (at 45 0x00F8 ∷ []))
+
+-- with one record of one word in the gap, at 0023
+abbrev withRecord : List ℕ
+withRecord = bytesOf (changed 0 sheetWords (at 7 79 ∷ at 11 1 ∷ []) ++ (0x0023 ∷ 1 ∷ 1 ∷ []))
 
 -- a sheet whose first place is read only, and whose pair and word are at the highest values
 abbrev highest : List ℕ
@@ -189,6 +193,11 @@ table =
     ∷ refuses 0xFFFF (1 ∷ 2 ∷ 3 ∷ 4 ∷ []) 6  -- past FFFF
     ∷ refuses 0x10000 (1 ∷ 2 ∷ []) 6
     ∷ refuses 0x10020 (1 ∷ 2 ∷ []) 6  -- an address is not cut to sixteen bits
+    ∷ check withRecord (bank []) 0  -- with a record in the gap
+    ∷ post withRecord (bank []) 0x0023 (1 ∷ 2 ∷ []) 6 (bank [])  -- at the record
+    ∷ post withRecord (bank []) 0x0022 (1 ∷ 2 ∷ 3 ∷ 4 ∷ []) 6 (bank [])  -- into it
+    ∷ post withRecord (bank []) 0x0022 (0x12 ∷ 0x34 ∷ []) 0 (bank (at 8 0x1234 ∷ []))  -- up to it
+    ∷ post withRecord (bank []) 0x0024 (0x12 ∷ 0x34 ∷ []) 0 (bank (at 9 0x1234 ∷ []))  -- behind it
     -- an even number of bytes, and not none; told before a bad address
     ∷ refuses 0x0020 [] 7
     ∷ refuses 0x0020 (1 ∷ []) 7
@@ -215,5 +224,5 @@ table =
 
 -- every row is right
 pub bank-limits : each right table ≡ true
-unfolding table right changed bytesOf checkAnswer freshOutcome freshAnswer freshStores lowStores postOutcome postAnswer postStores allReadOnly markOutcome markAnswer stored liesIn firstCase bankSound goodBy sound headerSound areasSound itemsSound settingsSound recordsSound each some upFrom samePlaces itemPlaces writablePlaces placesFollow areasAscend lengthsSum areas items wordAt withWord inRange
+unfolding table right changed bytesOf checkAnswer freshOutcome freshAnswer freshStores lowStores postOutcome postAnswer postStores allReadOnly markOutcome markAnswer stored liesIn firstCase bankSound goodBy sound headerSound areasSound itemsSound settingsSound recordsSound recordArea each some upFrom samePlaces itemPlaces writablePlaces placesFollow areasAscend lengthsSum areas items wordAt withWord inRange
 bank-limits = refl
