@@ -1,5 +1,6 @@
 pub mod Calls
 pub mod Refusals
 pub mod Frames
+pub mod Records
 pub mod Witness
 pub mod Reasons

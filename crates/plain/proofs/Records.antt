@@ -175,3 +175,11 @@ module _ (sheet ring : List ℕ) (ringed : ringFits sheet ring ≡ true) {at num
   its-place-once place there =
       stands-once (recordArea sheet) ring number some few (whole .place) place
       (subst (λ (n : ℕ). StandsAt ring n number place) (same .itsMany) there)
+
+-- an address is one record's: its number, and what its sheet says of all of them
+pub record-once : (sheet : List ℕ) {at number many words : ℕ} {number′ many′ words′ : ℕ} → RecordAt sheet at number many words
+    → RecordAt sheet at number′ many′ words′ → (number ≡ number′) × (many ≡ many′) × (words ≡ words′)
+record-once sheet one other =
+    let mine = so-record sheet one in
+    let theirs = so-record sheet other in
+    (mine .itsNumber ∙ sym (theirs .itsNumber), mine .itsMany ∙ sym (theirs .itsMany), mine .itsWords ∙ sym (theirs .itsWords))
