@@ -5,7 +5,9 @@ use Prim.Native.Nat.{ℕ, _+_, _*_}
 use native.Mathlib.Omega.{arith}
 use Rattle.sheet_rules.specs.declared.Area.{Area}
 use Rattle.sheet_rules.specs.declared.Item.{Item}
-use Rattle.sheet_rules.specs.Rows.{word, twoWords, areaRows, areaAt, itemFrom}
+use Rattle.sheet_rules.specs.declared.RecordArea.{RecordArea}
+use Rattle.sheet_rules.specs.Rows.{word, twoWords, areaCount, itemCount, recordAreas, areaRows, rowsEnd, itemStart, recordArea, areaAt, itemFrom}
+use Rattle.sheet_rules.proofs.Records.{records-read}
 
 module _ (sheet : List ℕ) where
   pub area-read : (k : ℕ) (area : Area) → area .first ≡ word sheet (areaRows + 4 * k)
@@ -32,3 +34,16 @@ module _ (sheet : List ℕ) where
       let lows = pair-read (start + 2) low third (fourth ∙ ap (word sheet) behind-third) in
       let highs = pair-read (start + 4) high fifth (sixth ∙ ap (word sheet) behind-fifth) in
       (λ i. record { kind = kind i; place = place i; low = lows i; high = highs i }) ∙ ap (itemFrom sheet) same
+
+  -- a record area, of three words that were read behind the item rows
+  pub record-read : recordAreas sheet ≡ 1 → {start areas items : ℕ} → start ≡ itemStart areas items → areas ≡ areaCount sheet → items ≡ itemCount sheet
+      → (records : RecordArea) → records .first ≡ word sheet start → records .records ≡ word sheet (start + 1) → records .words ≡ word sheet (start + 2)
+      → records ≡ recordArea sheet
+  record-read one {start} begin areas items records first many words =
+      let behind : start ≡ rowsEnd sheet = omega (arith, begin, areas, items) in
+      (λ i. record {
+        first = (first ∙ ap (word sheet) behind) i;
+        records = (many ∙ ap (λ (n : ℕ). word sheet (n + 1)) behind) i;
+        words = (words ∙ ap (λ (n : ℕ). word sheet (n + 2)) behind) i;
+      })
+      ∙ records-read sheet one

@@ -179,7 +179,7 @@ pub fn item_place(sheet: &[u8], areas: u16, k: u16) -> u16
     word(sheet, item_start(areas, k) + 1)
 }
 
-// The record area: rules S11 and S80. One without records where the sheet has none.
+// The record area: rules S11 and S80. One without records where the sheet has none. One test for the whole row, as in `area_row`.
 pub fn record_area(sheet: &[u8]) -> RecordArea
     ensures { λ r. ⌜ r ≡ recordArea (now (sheet .entry)) ⌝ }
 {
@@ -191,9 +191,17 @@ pub fn record_area(sheet: &[u8]) -> RecordArea
         };
     }
     let n = item_start(area_count(sheet), item_count(sheet));
+    if 2 * n + 6 <= sheet.len() {
+        return RecordArea {
+            first: word_inside(sheet, n),
+            records: word_inside(sheet, n + 1),
+            words: word_inside(sheet, n + 2),
+        };
+    }
+    let row = past(sheet, n);
     RecordArea {
-        first: word(sheet, n),
-        records: word(sheet, n + 1),
-        words: word(sheet, n + 2),
+        first: row.kind,
+        records: row.place,
+        words: (row.low / 65536) as u16,
     }
 }
