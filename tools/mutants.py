@@ -45,7 +45,7 @@ LINE_FEED = "↵"
 LONGEST_CHECK = 600
 
 # the crates that hold definitions, without their functions, in an order in which they can be checked; the quick tables first
-BARE = "lists refusals words check_value range sheet_rules makers listing bank_rules frame meter_rules why_rules plain".split()
+BARE = "lists refusals words check_value range sheet_rules makers listing bank_rules ring_rules frame meter_rules why_rules plain".split()
 # the statements that are typed in specs/
 STATED = ["plain"]
 # the files that compute a statement from the definitions, and stand on nothing else of proofs/
@@ -55,9 +55,10 @@ TABLES = {
     "sheet_rules": ["Terms", "Sides", "SheetLimits"],
     "makers": ["Sheets"],
     "bank_rules": ["BankLimits"],
+    "ring_rules": ["RingLimits"],
     "frame": ["Rooms"],
-    "meter_rules": ["CaseSet", "FrameLimits"],
-    "why_rules": ["ReasonCases"],
+    "meter_rules": ["CaseSet", "FrameLimits", "RecordLimits"],
+    "why_rules": ["ReasonCases", "RecordReasons"],
     "listing": ["Example", "Texts", "Makers"],
 }
 
