@@ -87,7 +87,7 @@ pub extern "C" fn cedarskein_ring_check(sheet: &[u8], ring: &[u8]) -> u32
     numbers::of_answer(ring::check(sheet, ring))
 }
 
-// Adds the bytes of one whole record to a ring: 0, or 2, 8, 7 in this order.
+// Adds the bytes of one whole record to a ring: 0, or 2, 8, 7 in this order; 2 also where the sheet has no record area.
 #[no_mangle]
 pub extern "C" fn cedarskein_add_record(sheet: &[u8], ring: &mut [u8], bytes: &[u8]) -> u32
     ensures { λ r. ⌜ ringTold r (now (ring .exit)) ≡ ringToldOf (addOutcome (now (sheet .entry)) (now (ring .entry)) (now (bytes .entry))) ⌝ }

@@ -127,9 +127,15 @@ module _ (given : Lent) (frame buffer : List ℕ) (accepted : Accepted given buf
   seen (plain.erred number size rate reply) gets = (number, size, reply .itsCode)
   seen (plain.read is none number size rate reply) gets = (number, omega (arith, size, some-read is gets))
   seen (plain.recorded is k many words at number size rate reply) gets =
-      let record-is = so-record (given .sheet) at in
-      (number, omega (arith, size, record-is .itsWords,
-      records-rules (given .sheet) (accepted .sheetSound) (in-records-has (given .sheet) (word frame 2) (record-is .inside)) .words-low))
+      let record-is = so-record (given .sheet) at in (
+        number,
+        omega (
+          arith,
+          size,
+          record-is .itsWords,
+          records-rules (given .sheet) (accepted .sheetSound) (in-records-has (given .sheet) (word frame 2) (record-is .inside)) .words-low,
+        ),
+      )
   seen (plain.echoed is number size rate reply) gets = (number, omega (arith, size))
 
   -- a frame gets what is seen, and what is seen it gets

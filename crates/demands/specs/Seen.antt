@@ -1,4 +1,5 @@
--- What the customer's demands suppose of a call with one frame, and what he sees of it. Assumes nothing.
+-- What the customer's demands suppose of a call with one frame, and what he sees of it. The ring is lent to be read, so that it is as it was (rule D26).
+-- Assumes nothing.
 use mathlib.Core.Path.{_≡_}
 use mathlib.Core.Bool.{true}
 use mathlib.Core.List.{List}

@@ -14,7 +14,7 @@ use Rattle.frame.specs.Frame.{reads, writesMany, station, function, star
 abbrev pub wordsFrom : List ℕ → ℕ → ℕ → List ℕ
 wordsFrom source first many = map (λ place. wordAt source (2 * place)) (upFrom first many)
 
--- rule R1
+-- rules R1 and R9: the words of a run, or of a record
 abbrev pub readReply : List ℕ → List ℕ → ℕ → ℕ → List ℕ
 readReply source frame first many = station frame ∷ reads ∷ (2 * many) ∷ bytesOf (wordsFrom source first many)
 

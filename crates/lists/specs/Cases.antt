@@ -37,7 +37,7 @@ NoneOf (condition ∷ more) = (condition ≡ false) × NoneOf more
 abbrev pub FirstAfter : List Bool → Bool → Type 0
 FirstAfter earlier this = NoneOf earlier × (this ≡ true)
 
--- a number is handed back by cases in their order, some of which were passed before: it is a case's exactly if none of the earlier ones
+-- a number is handed back by cases in their order, of different numbers, some of which were passed before: it is a case's exactly if none of the earlier ones
 -- holds and this one does, and 0 exactly if none holds
 abbrev pub InOrder : ℕ → List Bool → List (Case ℕ) → Type 0
 InOrder number earlier [] = (number ≡ 0) ↔ NoneOf earlier

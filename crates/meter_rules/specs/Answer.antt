@@ -22,7 +22,7 @@ use Rattle.meter_rules.specs.Judgement.{lentRefusals}
 use Rattle.meter_rules.specs.Reply.{errorCode, replyTo, storesOf}
 use Rattle.frame.specs.Reply.{errorLength, laid}
 
--- rules N0 to N5 and F4: the number of each answer
+-- rules N0 to N5, N8 and F4: the number of each answer
 abbrev pub answeredNumber : Answered → ℕ
 answeredNumber (Reply length rate) = 0
 answeredNumber (Error code rate) = 0

@@ -25,7 +25,7 @@ errorCode (GoodRecord first many) = 0
 errorCode GoodClear = 0
 errorCode (GoodWrite first many) = 0
 
--- the reply to a frame that is no error, by bank and ring; empty for silence
+-- rules R1 to R3 and R9: the reply to a frame that is no error, by bank and ring; empty where there is none
 abbrev pub goodReply : Judged → List ℕ → List ℕ → List ℕ → List ℕ
 goodReply FailsCheck bank ring frame = []
 goodReply OtherStation bank ring frame = []

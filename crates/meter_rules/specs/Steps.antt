@@ -56,10 +56,11 @@ wrongCount sheet frame =
     (eqb (function frame) reads && (eqb (second frame) 0 || (startsInRecords sheet frame && not (eqb (second frame) 1))))
     || (eqb (function frame) writesMany && (eqb (second frame) 0 || not (eqb (byteCount frame) (2 * second frame))))
 
--- rules J66 and T20: the number of the record that a read asks for is beyond what is stored
+-- rule S86: the number of the record that a read asks for
 abbrev pub askedNumber : List ℕ → List ℕ → ℕ
 askedNumber sheet frame = recordNumber (recordArea sheet) (start frame)
 
+-- rules J66 and T20: it is beyond what is stored
 abbrev pub beyondStored : Lent → List ℕ → Bool
 beyondStored given frame = ltb (storedCount (given .ring)) (askedNumber (given .sheet) frame)
 

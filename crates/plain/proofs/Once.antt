@@ -226,9 +226,10 @@ module _ (given : Lent) (frame : List ℕ) (keeps : sound (given .sheet) ≡ tru
         reads : Gets given frame good → one .buffer ≡ other .buffer
         reads (plain.allRight x y z s t right v) =
             record-once frame before (one .buffer) (other .buffer) room one-buffer other-buffer
-            (omega (arith, mine .itsWords, records-rules (given .sheet) keeps (in-records-has (given .sheet) (word frame 2) (mine .inside)) .words-high))
-            (placeOf (recordArea (given .sheet)) (given .ring) number,
-            its-place (given .sheet) (given .ring) ringed at (right .recorded is number many words at)) d reply
+            (omega (arith, mine .itsWords, records-rules (given .sheet) keeps (in-records-has (given .sheet) (word frame 2) (mine .inside)) .words-high)) (
+              placeOf (recordArea (given .sheet)) (given .ring) number,
+              its-place (given .sheet) (given .ring) ringed at (right .recorded is number many words at),
+            ) d reply
     hands-back-once good gets (left.read is none a b c d) (left.recorded was number many words at e f g h) banks = absurd (none (number, many, words, at))
     hands-back-once good gets (left.recorded is number many words at a b c d) (left.read was none e f g h) banks = absurd (none (number, many, words, at))
     hands-back-once good gets (left.read is none a b c d) (left.echoed another e f g h) banks = absurd (another is)

@@ -54,7 +54,7 @@ registers frame = cond (eqb (byte frame 1) 0x06) 1 (word frame 4)
 abbrev pub address : List ℕ → ℕ → ℕ
 address frame k = word frame 2 + k
 
--- an address that can be read, and one that can be written
+-- an address of a register that can be read, and of one that can be written; a record's address is neither
 pub record Readable (sheet : List ℕ) (at : ℕ) : Type 0 where
   pub small : at ≤ 0xFFFF
   pub place : ℕ
@@ -67,7 +67,8 @@ pub record Writable (sheet : List ℕ) (at : ℕ) : Type 0 where
   pub place : ℕ
   pub lies : LiesAt sheet at place 3
 
--- a read from no record's address on asks for at most 47 registers, each of which can be read; a record that is read is one of those stored
+-- a read from no record's address on asks for at most 47 registers, each of which can be read; a record that is read is one of those stored; a write's
+-- registers can be written; a clear is at the clear address
 pub record RightAddress (given : Lent) (frame : List ℕ) : Type 0 where
   pub atMost47 : byte frame 1 ≡ 0x03 → (AtRecord (given .sheet) (word frame 2) → ⊥) → word frame 4 ≤ 47
   pub read : byte frame 1 ≡ 0x03 → (AtRecord (given .sheet) (word frame 2) → ⊥) → (k : ℕ) → k < registers frame → Readable (given .sheet) (address frame k)

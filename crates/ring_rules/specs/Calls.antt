@@ -25,7 +25,7 @@ ringFits sheet ring = cond (hasRecords sheet) (ringSound (recordArea sheet) ring
 abbrev pub badRing : List ℕ → List ℕ → Bool
 badRing sheet ring = not (ringFits sheet ring)
 
--- rules N2 and T33, of adding: the sheet has no record area
+-- rules N2 and T33, of adding: the sheet has no record area. That has the number of a sheet that breaks a rule.
 abbrev pub withoutRecords : List ℕ → Bool
 withoutRecords sheet = not (hasRecords sheet)
 

@@ -1,5 +1,5 @@
--- What the laws of a ring speak of beside it: the words of a record's bytes, records added one after another, the lesser of two numbers. Assumes
--- nothing.
+-- What the laws of a ring speak of beside it: the words of a record's bytes; records added one after another, and calls of adding, of which those with
+-- a record of another length add nothing; the lesser of two numbers. The laws are in proofs/. Assumes nothing.
 use Prim.Native.Nat.{ℕ, _*_}
 use mathlib.Core.Bool.{cond}
 use mathlib.Core.List.{List, [], _∷_, map}

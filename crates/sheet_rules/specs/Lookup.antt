@@ -1,4 +1,4 @@
--- What lies at an address, the address of a place, and the item that holds a place, over the areas and items of a sheet. Assumes nothing.
+-- What lies at an address, the address of a place, the number of a record, and the item that holds a place, over the areas, items and records of a sheet. Assumes nothing.
 use Prim.Native.Nat.{ℕ, _+_, _-_}
 use mathlib.Core.Bool.{Bool, _&&_, _||_, cond}
 use mathlib.Core.List.{List, [], _∷_}

@@ -1,4 +1,4 @@
--- The words of a sheet's header, and its area and item rows, read from the bytes. Total on any bytes: a word past the end is 0. Assumes
+-- The words of a sheet's header, its area and item rows, and its record area, read from the bytes. Total on any bytes: a word past the end is 0. Assumes
 -- nothing.
 use Prim.Native.Nat.{ℕ, zero, suc, _+_, _*_, _-_}
 use mathlib.Core.Bool.{Bool, cond}

@@ -29,10 +29,11 @@ tooLong frame = ltb longest (length frame)
 abbrev pub checkDiffers : List ℕ → Bool
 checkDiffers frame = not (checkAgrees frame)
 
--- rule Y16: what step 5 tests, and a read of more registers than a reply has room for, from an address that is no record's
+-- rule J64, which rule Y16 tells as a count: a read of more registers than a reply has room for, from an address that is no record's
 abbrev pub readsTooMany : List ℕ → List ℕ → Bool
 readsTooMany sheet frame = eqb (function frame) reads && ltb mostRead (second frame) && not (startsInRecords sheet frame)
 
+-- rule Y16: what step 5 tests, and that
 abbrev pub badCount : List ℕ → List ℕ → Bool
 badCount sheet frame = wrongCount sheet frame || readsTooMany sheet frame
 
@@ -41,7 +42,7 @@ abbrev pub shutRead : Lent → List ℕ → Bool
 shutRead given frame =
     cond (startsInRecords (given .sheet) frame) (beyondStored given frame) (not (allOpen Read (given .sheet) (run frame)))
 
--- rule Y17: an address of the run is not open to the function; a clear elsewhere than at the clear address
+-- rule Y17: of a read as above; of a write an address of the run that is not open to it; a clear elsewhere than at the clear address
 abbrev pub shutAddress : Lent → List ℕ → Bool
 shutAddress given frame =
     (eqb (function frame) reads && shutRead given frame)

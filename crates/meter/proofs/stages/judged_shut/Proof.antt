@@ -47,8 +47,12 @@ returns-2 : tie.Need-returns-2
 returns-2 c =
     let start = c .before .before .before .before .before .before .before .before .before .before in
     count-stops (given start) (frame start) (start .pre .0 .apart)
-    (simp (start .pre .1 .0 .asks, found start (c .before .before .before .before .before .record-area .ensures) (passed (c .before .before .before .in-records .ensures) (c .before .before .if1 .left)),
-    ne-eqb (parts start .second) 1 (c .if2 .taken), or-true))
+    (simp (
+      start .pre .1 .0 .asks,
+      found start (c .before .before .before .before .before .record-area .ensures) (passed (c .before .before .before .in-records .ensures) (c .before .before .if1 .left)),
+      ne-eqb (parts start .second) 1 (c .if2 .taken),
+      or-true,
+    ))
 
 judged-record-requires : tie.Need-judged-record-requires
 judged-record-requires c κs =

@@ -50,8 +50,11 @@ returns-4 c =
     let without = sym (allowed-word s (ap (λ (h : Header). h .functions) (c .before .before .before .before .before .before .before .before .before .before .pre)) (c .before .sums-05 .ensures)) in
     sym (records-asked s (c .before .before .before .before .before .before .record-area .result) (c .before .before .before .before .before .before .record-area .ensures)
     (sym (ap (λ (h : Header). h .«record_areas») (c .before .before .before .before .before .before .before .before .before .before .pre)) ∙ c .before .before .before .before .before .before .before .if1 .left)
-    ∙ simp (passed (c .before .before .before .before .before .records-sound .ensures) (c .before .before .before .before .if2 .left), passed (c .before .before .before .all-apart .ensures) (c .before .before .if3 .left),
-    without ∙ not-true (c .before .sums-05 .result) (c .if4 .taken)))
+    ∙ simp (
+      passed (c .before .before .before .before .before .records-sound .ensures) (c .before .before .before .before .if2 .left),
+      passed (c .before .before .before .all-apart .ensures) (c .before .before .if3 .left),
+      without ∙ not-true (c .before .sums-05 .result) (c .if4 .taken),
+    ))
 
 cast-in-records : tie.Need-cast-in-records
 cast-in-records c = search needs
@@ -66,8 +69,11 @@ returns-5 c =
     let with-05 = sym (allowed-word s (ap (λ (h : Header). h .functions) pre) (c .before .before .before .sums-05 .ensures)) in
     sym (records-asked s (c .before .before .before .before .before .before .before .before .record-area .result) (c .before .before .before .before .before .before .before .before .record-area .ensures)
     (sym (ap (λ (h : Header). h .«record_areas») (c .before .before .before .before .before .before .before .before .before .before .before .before .pre)) ∙ c .before .before .before .before .before .before .before .before .before .if1 .left)
-    ∙ simp (passed (c .before .before .before .before .before .before .before .records-sound .ensures) (c .before .before .before .before .before .before .if2 .left), passed (c .before .before .before .before .before .all-apart .ensures) (c .before .before .before .before .if3 .left),
-    with-05 ∙ not-false (c .before .before .before .sums-05 .result) (c .before .before .if4 .left))
+    ∙ simp (
+      passed (c .before .before .before .before .before .before .before .records-sound .ensures) (c .before .before .before .before .before .before .if2 .left),
+      passed (c .before .before .before .before .before .all-apart .ensures) (c .before .before .before .before .if3 .left),
+      with-05 ∙ not-false (c .before .before .before .sums-05 .result) (c .before .before .if4 .left),
+    )
     (ap (λ (clear : ℕ). not (inRecords clear (c .before .before .before .before .before .before .before .before .record-area .result))) (sym (ap (λ (h : Header). h .clear) pre))
     ∙ sym (ap not (c .in-records .ensures))))
 
