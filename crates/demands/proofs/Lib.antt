@@ -3,4 +3,5 @@ pub mod Refusals
 pub mod Frames
 pub mod Records
 pub mod Witness
+pub mod RecordWitness
 pub mod Reasons
