@@ -154,6 +154,9 @@ fn judged_shut(sheet: &[u8], bank: &[u8], ring: &[u8], frame: &[u8], parts: Part
     requires { ⌜ shutIn (now sheet) parts ≡ true ⌝ }
     ensures { λ r. ⌜ r ≡ judgedFrom 4 (lentWith (now (sheet .entry)) (now (bank .entry)) (now (ring .entry))) (now (frame .entry)) ⌝ }
 {
+    if !rows::has_records(sheet) {
+        return Judged::WrongAddress;
+    }
     let records = rows::record_area(sheet);
     if !one_row::in_records(parts.start as u32, records) {
         return Judged::WrongAddress;

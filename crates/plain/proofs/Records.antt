@@ -42,7 +42,7 @@ module _ (sheet : List ℕ) where
 
   row-so : recordAreas sheet ≡ 1 → RecordRow sheet (area .first) (area .records) (area .words)
   row-so one =
-      let is = records-read sheet one in
+      let is = records-read sheet (eq-eqb (recordAreas sheet) 1 one) in
       record {
         one = word-same sheet 22 ∙ one;
         itsFirst = first-word ∙ ap (λ (r : RecordArea). r .first) is;
@@ -57,7 +57,7 @@ module _ (sheet : List ℕ) where
 
   so-row : {first many words : ℕ} → RecordRow sheet first many words → SameRow first many words
   so-row row =
-      let is = records-read sheet (sym (word-same sheet 22) ∙ row .one) in
+      let is = records-read sheet (eq-eqb (recordAreas sheet) 1 (sym (word-same sheet 22) ∙ row .one)) in
       record {
         itsFirst = sym (row .itsFirst) ∙ first-word ∙ ap (λ (r : RecordArea). r .first) is;
         itsMany = sym (row .itsMany) ∙ behind 1 (26 + 8 * areaRows sheet + 12 * itemRows sheet) (omega arith) ∙ ap (λ (r : RecordArea). r .records) is;

@@ -49,23 +49,20 @@ module _ (sheet ring bytes : List ℕ) where
           front-passes (sheetRefusals sheet) (no-area ∷ bad-ring ∷ bad-bytes ∷ []) is told
           ∙ refused-here no-area (bad-ring ∷ bad-bytes ∷ []) (ap not none)
 
-      module _ (has : hasRecords sheet ≡ true) {records : RecordArea} (area : records ≡ recordArea sheet) where
+      module _ (has : hasRecords sheet ≡ true) where
         behind-area : addAnswer sheet ring bytes ≡ answerBy (bad-ring ∷ bad-bytes ∷ [])
         unfolding addAnswer
         behind-area =
             front-passes (sheetRefusals sheet) (no-area ∷ bad-ring ∷ bad-bytes ∷ []) is told
             ∙ passed-here no-area (bad-ring ∷ bad-bytes ∷ []) (ap not has)
 
-        -- the ring, judged by the area at hand
-        judged : {whole : Bool} → ringSound records ring ≡ whole → badRing sheet ring ≡ not whole
-        judged says = ap not (fits-by-records sheet ring has ∙ sym (ap (λ (r : RecordArea). ringSound r ring) area) ∙ says)
+        pub ring-refused : ringSound (recordArea sheet) ring ≡ false → addAnswer sheet ring bytes ≡ Refused BadRing
+        ring-refused bad = behind-area ∙ refused-here bad-ring (bad-bytes ∷ []) (ap not (fits-by-records sheet ring has ∙ bad))
 
-        pub ring-refused : ringSound records ring ≡ false → addAnswer sheet ring bytes ≡ Refused BadRing
-        ring-refused bad = behind-area ∙ refused-here bad-ring (bad-bytes ∷ []) (judged bad)
-
-        module _ (whole : ringSound records ring ≡ true) where
+        -- the record's bytes, by the area at hand
+        module _ (whole : ringSound (recordArea sheet) ring ≡ true) {records : RecordArea} (area : records ≡ recordArea sheet) where
           behind-ring : addAnswer sheet ring bytes ≡ answerBy (bad-bytes ∷ [])
-          behind-ring = behind-area ∙ passed-here bad-ring (bad-bytes ∷ []) (judged whole)
+          behind-ring = behind-area ∙ passed-here bad-ring (bad-bytes ∷ []) (ap not (fits-by-records sheet ring has ∙ whole))
 
           pub bytes-refused : (length bytes ≡ 2 * records .words → ⊥) → addAnswer sheet ring bytes ≡ Refused BadInput
           bytes-refused other =

@@ -1,7 +1,7 @@
 // The ring: the lent bytes that hold a meter's records, its check, and the call by which the firmware adds a record.
 ghost use mathlib.Core.Path.{_≡_};
 ghost use mathlib.Core.Bool.{true};
-ghost use Rattle.sheet_rules.specs.Rows.{hasRecords};
+ghost use Rattle.sheet_rules.specs.Rows.{recordArea};
 ghost use Rattle.ring_rules.specs.Ring.{ringBytes, ringSound, nextPlace, nextCount, added};
 ghost use Rattle.ring_rules.specs.Calls.{ringFits, ringAnswer, addOutcome, ringOutcome};
 use refusals::Answer;
@@ -38,21 +38,21 @@ pub fn sound(records: RecordArea, ring: &[u8]) -> bool
     newest == 0
 }
 
-// Whether a sheet has a record area: rule S11.
-fn has_records(sheet: &[u8]) -> bool
-    ensures { λ r. ⌜ r ≡ hasRecords (now (sheet .entry)) ⌝ }
+// Whether a ring is sound for a sheet's record area. Apart from `fits`, so that a sheet without one costs a call one test.
+fn sound_in(sheet: &[u8], ring: &[u8]) -> bool
+    ensures { λ r. ⌜ r ≡ ringSound (recordArea (now (sheet .entry))) (now (ring .entry)) ⌝ }
 {
-    words::word_at(sheet, 22) == 1
+    sound(rows::record_area(sheet), ring)
 }
 
 // Whether a ring goes with a sheet: rules T10 to T14.
 pub fn fits(sheet: &[u8], ring: &[u8]) -> bool
     ensures { λ r. ⌜ r ≡ ringFits (now (sheet .entry)) (now (ring .entry)) ⌝ }
 {
-    if !has_records(sheet) {
+    if !rows::has_records(sheet) {
         return ring.len() == 0;
     }
-    sound(rows::record_area(sheet), ring)
+    sound_in(sheet, ring)
 }
 
 // The refusals of every call with a ring: a sheet that breaks a rule, and a ring that does not go with it.
@@ -113,13 +113,13 @@ pub fn add(sheet: &[u8], ring: &mut [u8], bytes: &[u8]) -> Answer
     let Answer::Done = checked else {
         return checked;
     };
-    if !has_records(sheet) {
+    if !rows::has_records(sheet) {
         return Answer::Refused(Refusal::BrokenSheet);
     }
-    let records = rows::record_area(sheet);
-    if !sound(records, ring) {
+    if !sound_in(sheet, ring) {
         return Answer::Refused(Refusal::BadRing);
     }
+    let records = rows::record_area(sheet);
     if bytes.len() != 2 * (records.words as usize) {
         return Answer::Refused(Refusal::BadInput);
     }

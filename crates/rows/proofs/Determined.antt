@@ -14,6 +14,8 @@ use Rattle.rows.proofs.rate_place.Kinds as rate-place
 use Rattle.rows.proofs.rate_place.Reads as rate-place-reads
 use Rattle.rows.proofs.clear_address.Kinds as clear-address
 use Rattle.rows.proofs.clear_address.Reads as clear-address-reads
+use Rattle.rows.proofs.has_records.Kinds as has-records
+use Rattle.rows.proofs.has_records.Reads as has-records-reads
 use Rattle.rows.proofs.header.Kinds as header
 use Rattle.rows.proofs.header.Reads as header-reads
 use Rattle.rows.proofs.record_area.Kinds as record-area
@@ -47,6 +49,9 @@ rate-place-determined κs a x y = read-off (λ r. (r, x .1))
 
 pub clear-address-determined : Determined 1 clear-address.ps clear-address.r clear-address-reads.Post
 clear-address-determined κs a x y = read-off (λ r. (r, x .1))
+
+pub has-records-determined : Determined 1 has-records.ps has-records.r has-records-reads.Post
+has-records-determined κs a x y = read-off (λ r. (r, x .1))
 
 pub header-determined : Determined 1 header.ps header.r header-reads.Post
 header-determined κs a x y = read-off (λ r. (r, x .1))

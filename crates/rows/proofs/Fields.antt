@@ -1,12 +1,13 @@
 -- A row is what its words say. Assumes nothing.
 use mathlib.Core.Path.{_≡_, sym, ap, ap₂, subst, _∙_}
+use mathlib.Core.Bool.{true}
 use mathlib.Core.List.{List}
 use Prim.Native.Nat.{ℕ, _+_, _*_}
 use native.Mathlib.Omega.{arith}
 use Rattle.sheet_rules.specs.declared.Area.{Area}
 use Rattle.sheet_rules.specs.declared.Item.{Item}
 use Rattle.sheet_rules.specs.declared.RecordArea.{RecordArea}
-use Rattle.sheet_rules.specs.Rows.{word, twoWords, areaCount, itemCount, recordAreas, areaRows, rowsEnd, itemStart, recordArea, areaAt, itemFrom}
+use Rattle.sheet_rules.specs.Rows.{word, twoWords, areaCount, itemCount, hasRecords, areaRows, rowsEnd, itemStart, recordArea, areaAt, itemFrom}
 use Rattle.sheet_rules.proofs.Records.{records-read}
 
 module _ (sheet : List ℕ) where
@@ -36,7 +37,7 @@ module _ (sheet : List ℕ) where
       (λ i. record { kind = kind i; place = place i; low = lows i; high = highs i }) ∙ ap (itemFrom sheet) same
 
   -- a record area, of three words that were read behind the item rows
-  pub record-read : recordAreas sheet ≡ 1 → {start areas items : ℕ} → start ≡ itemStart areas items → areas ≡ areaCount sheet → items ≡ itemCount sheet
+  pub record-read : hasRecords sheet ≡ true → {start areas items : ℕ} → start ≡ itemStart areas items → areas ≡ areaCount sheet → items ≡ itemCount sheet
       → (records : RecordArea) → records .first ≡ word sheet start → records .records ≡ word sheet (start + 1) → records .words ≡ word sheet (start + 2)
       → records ≡ recordArea sheet
   record-read one {start} begin areas items records first many words =

@@ -2,7 +2,7 @@
 ghost use mathlib.Core.Path.{_≡_};
 ghost use Prim.Native.Nat.{_+_, _*_, _/_, _%_, _≤_, _<_};
 ghost use lib.ListN.{length};
-ghost use Rattle.sheet_rules.specs.Rows.{word, areaCount, itemCount, bankWords, functions, addressPlace, ratePlace, clearAddress, headerOf, recordArea, areaAt, itemFrom, itemStart, itemEnd, itemRow};
+ghost use Rattle.sheet_rules.specs.Rows.{word, areaCount, itemCount, bankWords, functions, addressPlace, ratePlace, clearAddress, hasRecords, headerOf, recordArea, areaAt, itemFrom, itemStart, itemEnd, itemRow};
 use sheet_rules::Area;
 use sheet_rules::Header;
 use sheet_rules::Item;
@@ -66,6 +66,13 @@ pub fn clear_address(sheet: &[u8]) -> u16
     ensures { λ r. ⌜ r ≡ clearAddress (now (sheet .entry)) ⌝ }
 {
     word(sheet, 10)
+}
+
+// Header word 11: rule S11.
+pub fn has_records(sheet: &[u8]) -> bool
+    ensures { λ r. ⌜ r ≡ hasRecords (now (sheet .entry)) ⌝ }
+{
+    word(sheet, 11) == 1
 }
 
 // The header as one value, for a caller that needs most of it. Its last word is read first: where that is inside, so are the others.
@@ -183,7 +190,7 @@ pub fn item_place(sheet: &[u8], areas: u16, k: u16) -> u16
 pub fn record_area(sheet: &[u8]) -> RecordArea
     ensures { λ r. ⌜ r ≡ recordArea (now (sheet .entry)) ⌝ }
 {
-    if word(sheet, 11) != 1 {
+    if !has_records(sheet) {
         return RecordArea {
             first: 0,
             records: 0,

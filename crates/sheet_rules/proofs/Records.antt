@@ -1,12 +1,12 @@
 -- The record area of a sheet: what its words say, and what a sound sheet says of it. None of its addresses lies in an area. Assumes nothing.
 use mathlib.Core.Path.{_≡_, refl, sym, ap, _∙_}
-use mathlib.Core.Bool.{Bool, true, false, not, cond, _&&_, _||_, true≢false}
+use mathlib.Core.Bool.{Bool, true, false, not, cond, _&&_, _||_, and-false, true≢false}
 use mathlib.Core.List.{List}
 use mathlib.Core.Logic.{_⊎_, inl, inr, ⊎-elim}
 use Prim.Native.Nat.{ℕ, _+_, _≤_, _<_}
 use native.Mathlib.Omega.{arith}
 use lib.Dec.{leb, ltb, eqb}
-use borrow.Author.Tests.{leb-true, ltb-true, eq-eqb, ne-eqb}
+use borrow.Author.Tests.{leb-true, ltb-true, le-ltb}
 use Rattle.lists.specs.Lists.{between, each}
 use Rattle.lists.proofs.Tests.{first-of, second-of}
 use Rattle.lists.proofs.Among.{Among, each-among}
@@ -23,13 +23,13 @@ use Rattle.sheet_rules.proofs.Sound.{sound-parts, between-low, between-
 -- ---- the words of it
 
 module _ (sheet : List ℕ) where
-  pub records-read : recordAreas sheet ≡ 1 → recordRow sheet ≡ recordArea sheet
+  pub records-read : hasRecords sheet ≡ true → recordRow sheet ≡ recordArea sheet
   unfolding recordArea
-  records-read one = sym (ap (λ (b : Bool). cond b (recordRow sheet) noRecords) (eq-eqb (recordAreas sheet) 1 one))
+  records-read has = sym (ap (λ (b : Bool). cond b (recordRow sheet) noRecords) has)
 
-  pub records-none : (recordAreas sheet ≡ 1 → ⊥) → noRecords ≡ recordArea sheet
+  pub records-none : hasRecords sheet ≡ false → noRecords ≡ recordArea sheet
   unfolding recordArea
-  records-none other = sym (ap (λ (b : Bool). cond b (recordRow sheet) noRecords) (ne-eqb (recordAreas sheet) 1 other))
+  records-none none = sym (ap (λ (b : Bool). cond b (recordRow sheet) noRecords) none)
 
   -- an address of a record is one of a sheet that has records
   pub in-records-has : (address : ℕ) → inRecords address (recordArea sheet) ≡ true → hasRecords sheet ≡ true
@@ -39,6 +39,11 @@ module _ (sheet : List ℕ) where
       go : (has : Bool) → inRecords address (cond has (recordRow sheet) noRecords) ≡ true → has ≡ true
       go true e = refl
       go false e = absurd (omega (arith, ltb-true address 0 (second-of (leb 0 address) (ltb address 0) e)))
+
+  -- and of one that has none no address is
+  pub none-in-records : hasRecords sheet ≡ false → (address : ℕ) → inRecords address (recordArea sheet) ≡ false
+  none-in-records none address =
+      ap (inRecords address) (sym (records-none none)) ∙ simp (le-ltb address 0 (omega arith), and-false)
 
 -- ---- what a sound sheet says of it
 
@@ -122,18 +127,18 @@ module _ (sheet : List ℕ) where
 -- ---- its rules, one by one
 
 module _ (sheet : List ℕ) where
-  pub records-unasked : (recordAreas sheet ≡ 1 → ⊥) → recordsSound sheet ≡ true
+  pub records-unasked : hasRecords sheet ≡ false → recordsSound sheet ≡ true
   unfolding recordsSound
-  records-unasked other = simp (ne-eqb (recordAreas sheet) 1 other)
+  records-unasked none = simp none
 
   -- where there is a record area, read as one value: its numbers, its addresses apart from the areas', and the clear address
-  pub records-asked : (records : RecordArea) → records ≡ recordArea sheet → recordAreas sheet ≡ 1
+  pub records-asked : (records : RecordArea) → records ≡ recordArea sheet → hasRecords sheet ≡ true
       → recordsSound sheet
       ≡ (recordCountRule records && recordWordsRule records && recordsEndRule records && each (apartRule records) (areas sheet)
       && not (allowed sheet bitOf05 && inRecords (clearAddress sheet) records))
   unfolding recordsSound
-  records-asked records read one =
+  records-asked records read asked =
       ap (λ (has : Bool). not has || (recordCountRule (recordArea sheet) && recordWordsRule (recordArea sheet) && recordsEndRule (recordArea sheet)
-      && each (apartRule (recordArea sheet)) (areas sheet) && recordClearRule sheet)) (eq-eqb (recordAreas sheet) 1 one)
+      && each (apartRule (recordArea sheet)) (areas sheet) && recordClearRule sheet)) asked
       ∙ sym (ap (λ (r : RecordArea). recordCountRule r && recordWordsRule r && recordsEndRule r && each (apartRule r) (areas sheet)
       && not (allowed sheet bitOf05 && inRecords (clearAddress sheet) r)) read)

@@ -5,7 +5,6 @@ use lib.Dec.{eqb}
 use lib.ListN.{length}
 use denote.Ref.{now}
 use Rattle.lists.proofs.Tests.{refused, passed}
-use Rattle.sheet_rules.specs.declared.RecordArea.{RecordArea}
 use Rattle.sheet_rules.specs.Rows.{recordArea}
 use Rattle.ring_rules.specs.Ring.{ringSound}
 use Rattle.ring_rules.specs.Calls.{ringFits}
@@ -24,22 +23,18 @@ returns c =
     let r = now (a .ring) in
     sym (ap (λ (has : Bool). cond has (ringSound (recordArea s) r) (eqb (length r) 0)) (refused (c .before .has-records .ensures) (c .if1 .taken)))
 
-record-area-requires : tie.Need-record-area-requires
-record-area-requires c κs = search needs
-
-sound-requires : tie.Need-sound-requires
-sound-requires c κs = search needs
+sound-in-requires : tie.Need-sound-in-requires
+sound-in-requires c κs = search needs
 
 returns-2 : tie.Need-returns-2
 unfolding ringFits
 returns-2 c =
-    let a = c .before .before .before .before .before .before .args in
+    let a = c .before .before .before .before .before .args in
     let s = now (a .sheet) in
     let r = now (a .ring) in
-    c .sound .ensures ∙ ap (λ (records : RecordArea). ringSound records r) (c .before .record-area .ensures)
+    c .sound-in .ensures
     ∙ sym (ap (λ (has : Bool). cond has (ringSound (recordArea s) r) (eqb (length r) 0))
-    (passed (c .before .before .before .has-records .ensures) (c .before .before .if1 .left)))
+    (passed (c .before .before .has-records .ensures) (c .before .if1 .left)))
 
 pub fits-spec : {M : Type 1} → statement M
-fits-spec =
-    tie.close (tie.spec has-records-requires returns record-area-requires sound-requires returns-2)
+fits-spec = tie.close (tie.spec has-records-requires returns sound-in-requires returns-2)

@@ -1,7 +1,8 @@
 -- `rows::record_area` meets its contract: one without records, or the three words behind the item rows, inside the sheet and past its end.
 -- Assumes nothing.
-use mathlib.Core.Path.{_≡_, sym, ap, _∙_}
+use mathlib.Core.Path.{ap}
 use denote.Ref.{now}
+use Rattle.lists.proofs.Tests.{refused, passed}
 use Rattle.sheet_rules.specs.declared.Item.{Item}
 use Rattle.sheet_rules.specs.Rows.{itemFrom}
 use Rattle.sheet_rules.proofs.Records.{records-none}
@@ -10,11 +11,11 @@ use borrow.Author.Needs.{needs}
 use Rattle.rows.proofs.record_area.Statement.{statement}
 use Rattle.rows.proofs.record_area.Tie as tie
 
-word-requires : tie.Need-word-requires
-word-requires c κs = search needs
+has-records-requires : tie.Need-has-records-requires
+has-records-requires c κs = search needs
 
 returns : tie.Need-returns
-returns c = records-none (now (c .before .before .before .args .sheet)) (λ one. c .if1 .taken (c .before .word .ensures ∙ one))
+returns c = records-none (now (c .before .before .before .args .sheet)) (refused (c .before .has-records .ensures) (c .if1 .taken))
 
 area-count-requires : tie.Need-area-count-requires
 area-count-requires c κs = search needs
@@ -48,27 +49,27 @@ word-inside-requires-3 c κs = search needs
 
 returns-2 : tie.Need-returns-2
 returns-2 c =
-    record-read (now (c .before .before .before .before .before .before .before .before .before .before .args .sheet)) (sym (c .before .before .before .before .before .before .before .before .word .ensures) ∙ c .before .before .before .before .before .before .before .if1 .left) (c .before .before .before .before .item-start .ensures) (c .before .before .before .before .before .before .area-count .ensures)
+    record-read (now (c .before .before .before .before .before .before .before .before .before .before .args .sheet)) (passed (c .before .before .before .before .before .before .before .before .has-records .ensures) (c .before .before .before .before .before .before .before .if1 .left)) (c .before .before .before .before .item-start .ensures) (c .before .before .before .before .before .before .area-count .ensures)
     (c .before .before .before .before .before .item-count .ensures) _ (c .before .before .word-inside .ensures) (c .before .word-inside2 .ensures) (c .word-inside3 .ensures)
 
 past-requires : tie.Need-past-requires
 past-requires c κs = search needs
 
-cast-t6 : tie.Need-cast-t6
-cast-t6 c = search needs
+cast-t7 : tie.Need-cast-t7
+cast-t7 c = search needs
 
 returns-3 : tie.Need-returns-3
 unfolding itemFrom
 returns-3 c =
     let row = c .before .past .ensures in
-    record-read (now (c .before .before .before .before .before .before .before .before .before .args .sheet)) (sym (c .before .before .before .before .before .before .before .word .ensures) ∙ c .before .before .before .before .before .before .if1 .left) (c .before .before .before .item-start .ensures) (c .before .before .before .before .before .area-count .ensures)
+    record-read (now (c .before .before .before .before .before .before .before .before .before .args .sheet)) (passed (c .before .before .before .before .before .before .before .has-records .ensures) (c .before .before .before .before .before .before .if1 .left)) (c .before .before .before .item-start .ensures) (c .before .before .before .before .before .area-count .ensures)
     (c .before .before .before .before .item-count .ensures) _ (ap (λ (item : Item). item .kind) (row .0)) (ap (λ (item : Item). item .place) (row .0)) (row .1)
 
 pub record-area-spec : {M : Type 1} → statement M
 record-area-spec =
     tie.close
     (tie.spec
-    word-requires
+    has-records-requires
     returns
     area-count-requires
     item-count-requires
@@ -82,5 +83,5 @@ record-area-spec =
     word-inside-requires-3
     returns-2
     past-requires
-    cast-t6
+    cast-t7
     returns-3)

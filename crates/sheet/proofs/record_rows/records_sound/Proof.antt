@@ -4,9 +4,10 @@ use mathlib.Core.Bool.{Bool, not, _&&_, and-false, and-true}
 use Prim.Native.Nat.{ℕ, _/_, _%_}
 use lib.Dec.{eqb}
 use denote.Ref.{now}
-use borrow.Author.Tests.{not-true, not-false}
+use borrow.Author.Tests.{eq-eqb, ne-eqb, not-true, not-false}
 use Rattle.lists.proofs.Tests.{refused, passed}
 use Rattle.sheet_rules.specs.declared.Header.{Header}
+use Rattle.sheet_rules.specs.Rows.{recordAreas}
 use Rattle.sheet_rules.specs.Rules.{bitOf05, inRecords}
 use Rattle.sheet_rules.proofs.Records.{records-unasked, records-asked}
 use Rattle.sheet.proofs.Areas.{allowed-word}
@@ -16,7 +17,7 @@ use Rattle.sheet.proofs.record_rows.records_sound.Tie as tie
 
 returns : tie.Need-returns
 returns c =
-    sym (records-unasked (now (c .before .before .before .args .sheet)) (λ one. c .if1 .taken (ap (λ (h : Header). h .«record_areas») (c .before .before .before .pre) ∙ one)))
+    sym (records-unasked (now (c .before .before .before .args .sheet)) (ne-eqb (recordAreas (now (c .before .before .before .args .sheet))) 1 (λ one. c .if1 .taken (ap (λ (h : Header). h .«record_areas») (c .before .before .before .pre) ∙ one))))
 
 record-area-requires : tie.Need-record-area-requires
 record-area-requires c κs = search needs
@@ -28,7 +29,7 @@ returns-2 : tie.Need-returns-2
 returns-2 c =
     let s = now (c .before .before .before .before .before .before .args .sheet) in
     sym (records-asked s (c .before .before .record-area .result) (c .before .before .record-area .ensures)
-    (sym (ap (λ (h : Header). h .«record_areas») (c .before .before .before .before .before .before .pre)) ∙ c .before .before .before .if1 .left)
+    (eq-eqb (recordAreas s) 1 (sym (ap (λ (h : Header). h .«record_areas») (c .before .before .before .before .before .before .pre)) ∙ c .before .before .before .if1 .left))
     ∙ simp (refused (c .before .records-sound .ensures) (c .if2 .taken)))
 
 all-apart-requires : tie.Need-all-apart-requires
@@ -38,7 +39,7 @@ returns-3 : tie.Need-returns-3
 returns-3 c =
     let s = now (c .before .before .before .before .before .before .before .before .args .sheet) in
     sym (records-asked s (c .before .before .before .before .record-area .result) (c .before .before .before .before .record-area .ensures)
-    (sym (ap (λ (h : Header). h .«record_areas») (c .before .before .before .before .before .before .before .before .pre)) ∙ c .before .before .before .before .before .if1 .left)
+    (eq-eqb (recordAreas s) 1 (sym (ap (λ (h : Header). h .«record_areas») (c .before .before .before .before .before .before .before .before .pre)) ∙ c .before .before .before .before .before .if1 .left))
     ∙ simp (refused (c .before .all-apart .ensures) (c .if3 .taken), and-false))
 
 sums-05-requires : tie.Need-sums-05-requires
@@ -49,7 +50,7 @@ returns-4 c =
     let s = now (c .before .before .before .before .before .before .before .before .before .before .args .sheet) in
     let without = sym (allowed-word s (ap (λ (h : Header). h .functions) (c .before .before .before .before .before .before .before .before .before .before .pre)) (c .before .sums-05 .ensures)) in
     sym (records-asked s (c .before .before .before .before .before .before .record-area .result) (c .before .before .before .before .before .before .record-area .ensures)
-    (sym (ap (λ (h : Header). h .«record_areas») (c .before .before .before .before .before .before .before .before .before .before .pre)) ∙ c .before .before .before .before .before .before .before .if1 .left)
+    (eq-eqb (recordAreas s) 1 (sym (ap (λ (h : Header). h .«record_areas») (c .before .before .before .before .before .before .before .before .before .before .pre)) ∙ c .before .before .before .before .before .before .before .if1 .left))
     ∙ simp (
       passed (c .before .before .before .before .before .records-sound .ensures) (c .before .before .before .before .if2 .left),
       passed (c .before .before .before .all-apart .ensures) (c .before .before .if3 .left),
@@ -68,7 +69,7 @@ returns-5 c =
     let pre = c .before .before .before .before .before .before .before .before .before .before .before .before .pre in
     let with-05 = sym (allowed-word s (ap (λ (h : Header). h .functions) pre) (c .before .before .before .sums-05 .ensures)) in
     sym (records-asked s (c .before .before .before .before .before .before .before .before .record-area .result) (c .before .before .before .before .before .before .before .before .record-area .ensures)
-    (sym (ap (λ (h : Header). h .«record_areas») (c .before .before .before .before .before .before .before .before .before .before .before .before .pre)) ∙ c .before .before .before .before .before .before .before .before .before .if1 .left)
+    (eq-eqb (recordAreas s) 1 (sym (ap (λ (h : Header). h .«record_areas») (c .before .before .before .before .before .before .before .before .before .before .before .before .pre)) ∙ c .before .before .before .before .before .before .before .before .before .if1 .left))
     ∙ simp (
       passed (c .before .before .before .before .before .before .before .records-sound .ensures) (c .before .before .before .before .before .before .if2 .left),
       passed (c .before .before .before .before .before .all-apart .ensures) (c .before .before .before .before .if3 .left),
