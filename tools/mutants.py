@@ -11,7 +11,7 @@ Three sorts (left out are specs/ of meter and sheet, which only private promises
 
   definition  a slip of a definition, the code untouched. Found by pattern: each number of specs/ one higher and one lower (those of the
               makers' maps one higher), each comparison, each `and`, `or` and `not` for another; and the hand-written ones of tools/mutants.txt, which change an order, an arm or a field.
-  statement   the same of the statements that are typed in specs/ themselves (crate plain), each number one higher.
+  statement   the same of the statements that are typed in specs/ themselves (crate plain, files Theorems.antt), each number one higher.
   code        a slip of the code, from tools/mutants.txt.
 
 A definition's slip says nothing where the proof of a function refuses it: the function was not changed. So it is tried in two copies that
@@ -48,6 +48,8 @@ LONGEST_CHECK = 600
 BARE = "lists refusals words check_value range sheet_rules makers listing bank_rules ring_rules frame meter_rules why_rules plain".split()
 # the statements that are typed in specs/
 STATED = ["plain"]
+# and the files of other crates that only statements speak of
+STATED_FILES = ["Theorems"]
 # the files that compute a statement from the definitions, and stand on nothing else of proofs/
 TABLES = {
     "words": ["Edges"],
@@ -175,7 +177,7 @@ def file_slips(path):
             definition, count = head.group(1), 0
             continue
         code, dashes, behind = line.partition("--")
-        sort = "statement" if crate in STATED else "definition"
+        sort = "statement" if crate in STATED or stem in STATED_FILES else "definition"
         for what, changed in line_slips(code, ONE_WAY if sort == "statement" or stem == "Maps" else BOTH_WAYS):
             count += 1
             yield Slip(f"{crate}.{stem}.{definition}.{count}", sort, crate, f"{what}: {changed.strip()}", [], [Change(path, at, line, changed + dashes + behind)])
