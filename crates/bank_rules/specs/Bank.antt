@@ -39,7 +39,7 @@ goodBy at item = inRange (item .kind) (item .low) (item .high) (valueBy at item)
 unfoldable pub bankSound : List ℕ → List ℕ → Bool
 bankSound sheet bank = each (goodBy (wordOf bank)) (items sheet) && leb (wordOf bank (markPlace sheet)) 1
 
--- the station and the rate of a bank: rules S8, S9, B21 and B22; the rate is a register's number, rules N54 and M31
+-- the station and the rate of a bank: rules S8, S9, B21 and B22; the rate is what its register holds, 0 or 1: rules N54 and M31
 abbrev pub stationOf : List ℕ → List ℕ → ℕ
 stationOf sheet bank = wordOf bank (addressPlace sheet)
 

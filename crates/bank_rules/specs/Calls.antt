@@ -36,7 +36,7 @@ misfittingBank given = not (fits (given .sheet) (given .bank))
 abbrev pub unsoundBank : Lent → Bool
 unsoundBank given = not (bankSound (given .sheet) (given .bank))
 
--- rules N7 and B41, of a mark (of posted bytes: `emptyOrOdd`)
+-- rules N7 and B41, of a mark (of posted bytes: `emptyOrOdd`; of a record: `wrongRecord` of ring_rules)
 abbrev pub badMark : ℕ → Bool
 badMark mark = not (leb mark 1)
 

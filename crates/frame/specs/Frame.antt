@@ -57,7 +57,7 @@ count frame = manyOf (function frame) (second frame)
 abbrev pub run : List ℕ → List ℕ
 run frame = upFrom (start frame) (count frame)
 
--- rule J64: the longest frame has room for no more words behind station, function, byte count and check
+-- rule J64: the longest frame has room for no more words beside station, function, byte count and check
 abbrev pub mostRead : ℕ
 mostRead = 47
 

@@ -30,7 +30,7 @@ abbrev pub wrongLengthIn : Parts → Bool
 wrongLengthIn parts =
     cond (eqb (parts .function) writesMany) (ltb (parts .length) 9 || not (eqb (parts .length) (9 + parts .bytes))) (not (eqb (parts .length) 8))
 
--- where a frame stops, or that it is good, once so many of these conditions have let it through
+-- where a frame stops, or that it is good, once so many of the steps' conditions have let it through
 unfoldable pub judgedFrom : ℕ → Lent → List ℕ → Judged
 judgedFrom passed given frame = firstCase (drop passed (steps given frame)) (goodFrame given frame)
 
@@ -49,7 +49,7 @@ pub record AsksRead (parts : Parts) : Type 0 where
 abbrev pub shutIn : List ℕ → Parts → Bool
 shutIn sheet parts = ltb mostRead (parts .second) || not (allOpen Read sheet (upFrom (parts .start) (parts .second)))
 
--- the frame asks for one record: what is known of every frame, and that it is a read of one address, which is a record's
+-- the frame asks for a record: what is known of every frame, and that it is a read whose first address is a record's
 pub record AsksRecord (sheet frame : List ℕ) (parts : Parts) (records : RecordArea) : Type 0 where
   pub known : Known sheet frame parts
   pub asks : parts .function ≡ reads

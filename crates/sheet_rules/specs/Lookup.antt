@@ -10,13 +10,13 @@ use Rattle.sheet_rules.specs.declared.RecordArea.{RecordArea}
 use Rattle.sheet_rules.specs.declared.Lies.the-variants.{At, Nowhere}
 use Rattle.sheet_rules.specs.Rules.{inArea, placeInArea, isPair}
 
--- rule S29, what lies at an address: a place of the bank with the access of its area, or nothing
+-- rule S29, what lies at an address: a place of the bank with the access of its area, or none
 unfoldable pub liesIn : List Area → ℕ → Lies
 liesIn [] address = Nowhere
 liesIn (area ∷ behind) address =
     cond (inArea address area) (At (area .place + (address - area .first)) (area .access)) (liesIn behind address)
 
--- its place; 0 where nothing lies there
+-- its place; 0 where there is none
 abbrev pub placeIn : Lies → ℕ
 placeIn (At place access) = place
 placeIn Nowhere = 0

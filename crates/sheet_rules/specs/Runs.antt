@@ -18,7 +18,7 @@ abbrev pub permits : Purpose → ℕ → Bool
 permits Read access = readable access
 permits Write access = writable access
 
--- what lies at an address is open to the purpose; nothing is open where nothing lies, as at a record's address
+-- what lies at an address is open to the purpose; where no place of the bank lies, as at a record's address, nothing is open
 abbrev pub opens : Purpose → Lies → Bool
 opens purpose (At place access) = permits purpose access
 opens purpose Nowhere = false

@@ -57,7 +57,7 @@ firstShut purpose sheet (address ∷ behind) =
     cond (opens purpose (liesIn (areas sheet) address)) (firstShut purpose sheet behind) address
 
 -- rule Y20, the address that is told: the lowest that is not open of a run, which ascends, or the frame's own for a clear. A record lies in no area,
--- so of one that is beyond what is stored it is the record's own.
+-- and a read of one that has come this far has a count of 1: so where it is beyond what is stored, its own address is told.
 abbrev pub firstBadAddress : List ℕ → List ℕ → ℕ
 firstBadAddress sheet frame =
     cond (eqb (function frame) reads) (firstShut Read sheet (run frame))
