@@ -36,10 +36,10 @@
  *
  *   The first word of a ring is the place of the newest record, 0 to N - 1, the second the number of records stored, 0 to
  *   N. Behind them are the places 0 to N - 1, of w words each. An empty ring has 0 in both words; the bytes behind them are
- *   free. So four bytes of 0 make a ring, and no call is needed for it.
+ *   free. So ring_n bytes whose first four are 0 are an empty ring, and no call is needed for it.
  *
- *   Records are added one by one, each whole: the first at place 0, each next one behind the newest, and behind place N - 1
- *   at place 0 again. Once N are stored, the next one overwrites the oldest. Record 1 is always the newest. A master reads
+ *   Records are added one by one, each whole: an empty ring takes it at place 0, any other right behind its newest, and past
+ *   place N - 1 comes place 0. Once N are stored, the next one overwrites the oldest. Record 1 is always the newest. A master reads
  *   record k by 03 at address first + k - 1 with count 1, and k is at most the number stored. It lies here:
  *
  *     newest = 256 * ring[0] + ring[1];
@@ -146,8 +146,9 @@
  *
  *   After a cut the new record is there whole and counted, or it is not counted; the others are as they were. One thing
  *   this does not save: in a full ring the new record is written over the oldest, which the two words count until the first
- *   copy is written. A cut in between leaves record N torn, with the front of the new record and the rest of the old one,
- *   and nothing here shows it. Where that matters, let a word of each record be a check value over the others.
+ *   copy is whole. A cut before that leaves as record N the front of the new record and the rest of the old one, or the
+ *   whole new record. Nothing here shows it; the next addition takes that place again. Where it matters, give each record a
+ *   check value over its other words, and a time or a serial number.
  *
  *   demo/ring_kept.c has this as C; host/ring_power_cut.c tries it with a cut at every byte.
  */
@@ -172,7 +173,7 @@ extern "C" {
 #define CEDARSKEIN_LONGEST_BANK 514  /* bytes of a bank with 256 words and the mark */
 
 /* The numbers that a call hands back, and what the firmware does then. With any number but 0 the bank, the ring and out are
- * as they were. Where several would hold, the first of 2, 3, 4, 8, 5, 7, 6 is told, so far as the call has that part. */
+ * as they were. Where several would hold, the first of 2, 3, 4, 8, 5, 7, 6 is told, of those that the call can give. */
 enum cedarskein_number {
     /* Done. Keep the bank, or the record that was added (see "A power cut"). Of cedarskein_answer: then send the first
      * *length bytes of out at *rate, and go on at the bank's rate. An error reply is a reply. */

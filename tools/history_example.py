@@ -7,8 +7,8 @@
 It is made up, in the shape of document 004, the meters AS-W and AS-C: 6600 records of 22 words (44 bytes) from 0400 on, and most of the settings and
 readings in front of them. It is the sheet of no meter. An item's range is one interval, and there is no AS-W or AS-C sheet for that reason: 004 takes 0
 at 0106 besides 0320 to 04B0. What is otherwise here than in 004: 0106 without the 0, stations 1 to 247 and not 0 to 255, the cutoff at 0109 as for bore
-40, five readings at 03FB in place of 021F, so that there is a register in front of the history, a clear of the alarm mark at 0300, and no settings
-behind 0113."""
+40, five readings at 03FB in place of 021F, so that there is a register in front of the history, a clear of the alarm mark at 0300, no alarm contact
+at 010C, and no settings behind 0113."""
 import argparse
 import os
 import sys

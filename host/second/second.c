@@ -698,7 +698,7 @@ uint32_t second_bank_fresh(const uint8_t *sheet, size_t sheet_n,
 }
 
 /* ---- The ring ----
- * Two words, the place of the newest record and the number stored, and then
+ * Two words, where the newest record stands and how many there are, and then
  * the room of every record, in the order of their places. */
 
 enum { RING_HEAD = 4 };

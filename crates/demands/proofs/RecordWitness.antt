@@ -1,6 +1,6 @@
 -- What the statements about records suppose is met: on a sheet with three records, a full ring and a fresh bank, calls that read each record, one
 -- beyond what is stored, and two at once; an addition after which the read of record 1 sends what was added; a damaged read; and for each refusal
--- number of each call with a ring an input that gets it. Assumes nothing.
+-- number of the two calls on a ring, and for 8 of the two with a frame, an input that gets it. Assumes nothing.
 use mathlib.Core.Path.{_≡_, refl}
 use mathlib.Core.List.{List, [], _∷_, _++_, map}
 use Prim.Native.Nat.{ℕ}
@@ -53,7 +53,7 @@ pub accepted : Accepted given answerBuffer
 unfolding ringFits ringSound recordArea bytesOf firstCase bankSound goodBy sound headerSound areasSound itemsSound settingsSound recordsSound each some upFrom samePlaces itemPlaces writablePlaces placesFollow areasAscend lengthsSum areas items wordAt withWord inRange
 accepted = record { sheetSound = refl; bankFits = refl; bankWhole = refl; ringGoes = refl; bufferLong = omega arith }
 
--- a read of each record, of one beyond what is stored in a ring of two, of two at once, and the first of them with a bit changed
+-- a read of each record, of two at once, and the first of them with a bit changed
 abbrev reads : List (List ℕ)
 reads =
     (0x01 ∷ 0x03 ∷ 0x00 ∷ 0x04 ∷ 0x00 ∷ 0x01 ∷ 0xC5 ∷ 0xCB ∷ [])
@@ -87,6 +87,15 @@ pub full-answers : map (answerTo (bytesOf full)) reads
 unfolding allOpen answerOutcome frameCheck ringFits ringSound recordArea actedOn judgedFrame replyTo storesOf withCheck runStores stopPlace stopIn badItem someBad stored passes valueOf liesIn bytesOf firstCase bankSound goodBy sound headerSound areasSound itemsSound settingsSound recordsSound each some upFrom samePlaces itemPlaces writablePlaces placesFollow areasAscend lengthsSum areas items wordAt withWord inRange
 full-answers = refl
 
+-- two are stored: the third is beyond them
+pub beyond-answers : map (answerTo (bytesOf partFull)) (take 3 reads)
+    ≡ sends (0x01 ∷ 0x03 ∷ 0x02 ∷ 0x22 ∷ 0x22 ∷ 0x20 ∷ 0xFD ∷ [])
+    ∷ sends (0x01 ∷ 0x03 ∷ 0x02 ∷ 0x11 ∷ 0x11 ∷ 0x74 ∷ 0x18 ∷ [])
+    ∷ errs (0x01 ∷ 0x83 ∷ 0x02 ∷ 0xC0 ∷ 0xF1 ∷ [])
+    ∷ []
+unfolding allOpen answerOutcome frameCheck ringFits ringSound recordArea actedOn judgedFrame replyTo storesOf withCheck runStores stopPlace stopIn badItem someBad stored passes valueOf liesIn bytesOf firstCase bankSound goodBy sound headerSound areasSound itemsSound settingsSound recordsSound each some upFrom samePlaces itemPlaces writablePlaces placesFollow areasAscend lengthsSum areas items wordAt withWord inRange
+beyond-answers = refl
+
 -- 4444 is added: then the reads send 4444, 2222 and 1111
 abbrev after : List ℕ
 after = addOutcome sheet (bytesOf full) (0x44 ∷ 0x44 ∷ []) .ring
@@ -99,7 +108,7 @@ pub added-answers : map (answerTo after) (take 3 reads)
 unfolding addOutcome addAnswer addStores allOpen answerOutcome frameCheck ringFits ringSound recordArea actedOn judgedFrame replyTo storesOf withCheck runStores stopPlace stopIn badItem someBad stored passes valueOf liesIn bytesOf firstCase bankSound goodBy sound headerSound areasSound itemsSound settingsSound recordsSound each some upFrom samePlaces itemPlaces writablePlaces placesFollow areasAscend lengthsSum areas items wordAt withWord inRange
 added-answers = refl
 
--- ---- demand 1: an input for each refusal of each call with a ring, and one that is not refused
+-- ---- demand 1: an input for each refusal of the calls on a ring, for 8 of those with a frame, and one that is not refused
 
 abbrev otherVersion : List ℕ
 otherVersion = withWord sheet 0 2

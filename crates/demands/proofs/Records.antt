@@ -43,7 +43,7 @@ listed at first (suc count) (suc n) inside =
 
 -- ---- a read
 
--- a good read of a record: what is sent is the record, and nothing is changed
+-- a good read of a record: what is sent is the record
 pub record Sends (given : Lent) (frame buffer : List ℕ) (number many words : ℕ) (left : Handed) : Type 0 where
   pub done : left .number ≡ 0
   pub size : left .length ≡ 5 + 2 * words

@@ -222,7 +222,7 @@ table =
     ∷ refused 8 (bytesOf history) (bytesOf freshBank) (bytesOf (ringOf 3 3)) 101 (0x01 ∷ 0x03 ∷ 0x00 ∷ 0x04 ∷ 0x00 ∷ 0x01 ∷ 0xC5 ∷ 0xCB ∷ [])
     -- a number above the records
     ∷ refused 8 (bytesOf history) (bytesOf freshBank) (bytesOf (ringOf 0 4)) 101 (0x01 ∷ 0x03 ∷ 0x00 ∷ 0x04 ∷ 0x00 ∷ 0x01 ∷ 0xC5 ∷ 0xCB ∷ [])
-    -- an empty ring not at place 0
+    -- none stored, and the place is 1
     ∷ refused 8 (bytesOf history) (bytesOf freshBank) (bytesOf (ringOf 1 0)) 101 (0x01 ∷ 0x03 ∷ 0x00 ∷ 0x04 ∷ 0x00 ∷ 0x01 ∷ 0xC5 ∷ 0xCB ∷ [])
     -- a bad ring, and a frame for another station
     ∷ refused 8 (bytesOf history) (bytesOf freshBank) [] 101 (0x02 ∷ 0x03 ∷ 0x00 ∷ 0x04 ∷ 0x00 ∷ 0x01 ∷ 0xC5 ∷ 0xF8 ∷ [])

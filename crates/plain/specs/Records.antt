@@ -27,7 +27,7 @@ pub record RecordAt (sheet : List ℕ) (address number many words : ℕ) : Type 
 abbrev pub AtRecord : List ℕ → ℕ → Type 0
 AtRecord sheet address = (number many words : ℕ) × RecordAt sheet address number many words
 
--- rule T1, the ring's first two words: the place of the newest record, and how many are stored
+-- rule T1, the ring's first two words: at which place its newest record stands, and how many are stored
 abbrev pub newest : List ℕ → ℕ
 newest ring = word ring 0
 

@@ -40,7 +40,7 @@ runs-agree {A} f g from other (suc count) agree =
         let there : other + suc k ≡ suc other + k = omega arith in
         ap f here ∙ agree (suc k) (omega arith) ∙ ap g there
 
--- rule T20 in plain numbers: record k of a sound ring is k - 1 places behind the newest, or that many behind it round from place 0 to the last
+-- rule T20 in plain numbers: record k of a sound ring is k - 1 places in front of the newest, or that many in front of it round from place 0 to the last
 module _ (records : RecordArea) (ring : List ℕ) (whole : ringSound records ring ≡ true) (number : ℕ) where
   pub place-straight : number - 1 ≤ newestPlace ring → placeOf records ring number ≡ newestPlace ring - (number - 1)
   place-straight enough = back-straight (records .records) (newestPlace ring) (number - 1) (ring-told records ring whole .place) enough

@@ -139,7 +139,7 @@ table =
     ∷ check (sheetOf 6601 1) [] 2  -- one more than there may be
     ∷ check (sheetOf 3 0) (ring 0 0 []) 2  -- no words
     ∷ check (sheetOf 3 48) [] 2  -- one more than there may be
-    -- adding: the first at place 0, each next behind the newest, from the last place round to 0, where the oldest one's room is taken
+    -- adding: to place 0 of an empty ring, else right behind the newest, and past the last place to 0 again, over the oldest
     ∷ adds empty (ring 0 1 (0x1234 ∷ 0xBBBB ∷ 0xCCCC ∷ []))
     ∷ adds (ring 0 1 held) (ring 1 2 (0xAAAA ∷ 0x1234 ∷ 0xCCCC ∷ []))
     ∷ adds (ring 1 2 held) (ring 2 3 (0xAAAA ∷ 0xBBBB ∷ 0x1234 ∷ []))

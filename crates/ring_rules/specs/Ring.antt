@@ -9,7 +9,7 @@ use Rattle.lists.specs.Lists.{upFrom}
 use Rattle.sheet_rules.specs.declared.RecordArea.{RecordArea}
 use Rattle.bank_rules.specs.Stores.{Store, wordOf, stored}
 
--- rule T1, the first two words: the place of the newest record, and how many are stored
+-- rule T1, the first two words: at which place the newest record stands, and how many are stored
 abbrev pub newestPlace : List ℕ → ℕ
 newestPlace ring = wordOf ring 0
 

@@ -125,7 +125,7 @@ table =
     -- word 3, the number of items; 2 stands above
     ∷ broken-with (built 1 1 1) []  -- 1, of one word
     ∷ broken-with (built 2 1 2) []  -- 1, of two words
-    ∷ sound-with (built 8 64 256) []  -- 64, in the longest sheet, of 856 bytes
+    ∷ sound-with (built 8 64 256) []  -- 64, in the longest sheet without a record area, of 856 bytes
     ∷ broken-with (built 8 65 256) []  -- 65 in its place
     ∷ broken-with (built 9 64 256) []  -- it with 9 areas
     ∷ broken-with (built 8 64 257) []  -- it with 257 words
@@ -186,7 +186,7 @@ table =
     ∷ broken-with (recorded 0xFFFF 2 1) []  -- two, from FFFF on
     ∷ sound-with (recorded 0xE638 6600 1) []  -- 6600, up to FFFF
     ∷ broken-with (recorded 0xE639 6600 1) []  -- one address further
-    -- it shares no address with an area: area 0 has 0010 to 0014, area 1 0020 and 0021, area 2, of access 1, 0030 and 0031
+    -- no address is its own and an area's: area 0 has 0010 to 0014, area 1 0020 and 0021, area 2, of access 1, 0030 and 0031
     ∷ sound-with (recorded 0x0000 16 1) []  -- in front of area 0, up to it
     ∷ broken-with (recorded 0x0000 17 1) []  -- one record more
     ∷ broken-with (recorded 0x0012 1 1) []  -- within it

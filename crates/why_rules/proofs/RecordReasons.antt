@@ -136,7 +136,7 @@ table =
     ∷ refuses 8 (bytesOf history) (bytesOf freshBank) (bytesOf (ringOf 3 3)) (0x01 ∷ 0x03 ∷ 0x00 ∷ 0x04 ∷ 0x00 ∷ 0x01 ∷ 0xC5 ∷ 0xCB ∷ [])
     -- a number above the records
     ∷ refuses 8 (bytesOf history) (bytesOf freshBank) (bytesOf (ringOf 0 4)) (0x01 ∷ 0x03 ∷ 0x00 ∷ 0x04 ∷ 0x00 ∷ 0x01 ∷ 0xC5 ∷ 0xCB ∷ [])
-    -- an empty ring not at place 0
+    -- none stored, and the place is 1
     ∷ refuses 8 (bytesOf history) (bytesOf freshBank) (bytesOf (ringOf 1 0)) (0x01 ∷ 0x03 ∷ 0x00 ∷ 0x04 ∷ 0x00 ∷ 0x01 ∷ 0xC5 ∷ 0xCB ∷ [])
     -- a mark of 2 and a bad ring: the bank first
     ∷ refuses 4 (bytesOf history) (bytesOf (changed 0 freshBank (at 5 2 ∷ []))) [] (0x01 ∷ 0x03 ∷ 0x00 ∷ 0x04 ∷ 0x00 ∷ 0x01 ∷ 0xC5 ∷ 0xCB ∷ [])
