@@ -18,6 +18,8 @@ use Rattle.rows.proofs.has_records.Kinds as has-records
 use Rattle.rows.proofs.has_records.Reads as has-records-reads
 use Rattle.rows.proofs.header.Kinds as header
 use Rattle.rows.proofs.header.Reads as header-reads
+use Rattle.rows.proofs.record_row.Kinds as record-row
+use Rattle.rows.proofs.record_row.Reads as record-row-reads
 use Rattle.rows.proofs.record_area.Kinds as record-area
 use Rattle.rows.proofs.record_area.Reads as record-area-reads
 use Rattle.rows.proofs.area_row.Kinds as area-row
@@ -67,6 +69,9 @@ item-row-determined κs a x y = read-off (λ r. (r, x .1))
 
 pub item-place-determined : Determined 1 item-place.ps item-place.r item-place-reads.Post
 item-place-determined κs a x y = read-off (λ r. (r, x .1))
+
+pub record-row-determined : Determined 1 record-row.ps record-row.r record-row-reads.Post
+record-row-determined κs a x y = read-off (λ r. (r, x .1))
 
 pub record-area-determined : Determined 1 record-area.ps record-area.r record-area-reads.Post
 record-area-determined κs a x y = read-off (λ r. (r, x .1))

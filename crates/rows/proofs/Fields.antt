@@ -7,7 +7,7 @@ use native.Mathlib.Omega.{arith}
 use Rattle.sheet_rules.specs.declared.Area.{Area}
 use Rattle.sheet_rules.specs.declared.Item.{Item}
 use Rattle.sheet_rules.specs.declared.RecordArea.{RecordArea}
-use Rattle.sheet_rules.specs.Rows.{word, twoWords, areaCount, itemCount, hasRecords, areaRows, rowsEnd, itemStart, recordArea, areaAt, itemFrom}
+use Rattle.sheet_rules.specs.Rows.{word, twoWords, areaCount, itemCount, hasRecords, areaRows, itemStart, recordFrom, recordArea, areaAt, itemFrom}
 use Rattle.sheet_rules.proofs.Records.{records-read}
 
 module _ (sheet : List ℕ) where
@@ -36,15 +36,14 @@ module _ (sheet : List ℕ) where
       let highs = pair-read (start + 4) high fifth (sixth ∙ ap (word sheet) behind-fifth) in
       (λ i. record { kind = kind i; place = place i; low = lows i; high = highs i }) ∙ ap (itemFrom sheet) same
 
-  -- a record area, of three words that were read behind the item rows
-  pub record-read : hasRecords sheet ≡ true → {start areas items : ℕ} → start ≡ itemStart areas items → areas ≡ areaCount sheet → items ≡ itemCount sheet
-      → (records : RecordArea) → records .first ≡ word sheet start → records .records ≡ word sheet (start + 1) → records .words ≡ word sheet (start + 2)
-      → records ≡ recordArea sheet
-  record-read one {start} begin areas items records first many words =
-      let behind : start ≡ rowsEnd sheet = omega (arith, begin, areas, items) in
-      (λ i. record {
-        first = (first ∙ ap (word sheet) behind) i;
-        records = (many ∙ ap (λ (n : ℕ). word sheet (n + 1)) behind) i;
-        words = (words ∙ ap (λ (n : ℕ). word sheet (n + 2)) behind) i;
-      })
-      ∙ records-read sheet one
+  -- a record row from a word on, of three words that were read there
+  pub record-read : {start n : ℕ} → start ≡ n → (records : RecordArea) → records .first ≡ word sheet start
+      → records .records ≡ word sheet (start + 1) → records .words ≡ word sheet (start + 2) → records ≡ recordFrom sheet n
+  record-read {start} {n} same records first many words =
+      (λ i. record { first = first i; records = many i; words = words i }) ∙ ap (recordFrom sheet) same
+
+  -- the sheet's, where it has one
+  pub area-of-records : hasRecords sheet ≡ true → {areas items : ℕ} → areas ≡ areaCount sheet → items ≡ itemCount sheet
+      → (records : RecordArea) → records ≡ recordFrom sheet (itemStart areas items) → records ≡ recordArea sheet
+  area-of-records one areas items records says =
+      says ∙ ap₂ (λ (a i : ℕ). recordFrom sheet (itemStart a i)) areas items ∙ records-read sheet one

@@ -2,7 +2,7 @@
 ghost use mathlib.Core.Path.{_≡_};
 ghost use Prim.Native.Nat.{_+_, _*_, _/_, _%_, _≤_, _<_};
 ghost use lib.ListN.{length};
-ghost use Rattle.sheet_rules.specs.Rows.{word, areaCount, itemCount, bankWords, functions, addressPlace, ratePlace, clearAddress, hasRecords, headerOf, recordArea, areaAt, itemFrom, itemStart, itemEnd, itemRow};
+ghost use Rattle.sheet_rules.specs.Rows.{word, areaCount, itemCount, bankWords, functions, addressPlace, ratePlace, clearAddress, hasRecords, headerOf, recordFrom, recordArea, areaAt, itemFrom, itemStart, itemEnd, itemRow};
 use sheet_rules::Area;
 use sheet_rules::Header;
 use sheet_rules::Item;
@@ -186,18 +186,11 @@ pub fn item_place(sheet: &[u8], areas: u16, k: u16) -> u16
     word(sheet, item_start(areas, k) + 1)
 }
 
-// The record area: rules S11 and S80. One without records where the sheet has none. One test for the whole row, as in `area_row`.
-pub fn record_area(sheet: &[u8]) -> RecordArea
-    ensures { λ r. ⌜ r ≡ recordArea (now (sheet .entry)) ⌝ }
+// The record row behind so many area rows and item rows. One test for the whole row, as in `area_row`.
+pub fn record_row(sheet: &[u8], areas: u16, items: u16) -> RecordArea
+    ensures { λ r. ⌜ r ≡ recordFrom (now (sheet .entry)) (itemStart areas items) ⌝ }
 {
-    if !has_records(sheet) {
-        return RecordArea {
-            first: 0,
-            records: 0,
-            words: 0,
-        };
-    }
-    let n = item_start(area_count(sheet), item_count(sheet));
+    let n = item_start(areas, items);
     if 2 * n + 6 <= sheet.len() {
         return RecordArea {
             first: word_inside(sheet, n),
@@ -211,4 +204,18 @@ pub fn record_area(sheet: &[u8]) -> RecordArea
         records: row.place,
         words: (row.low / 65536) as u16,
     }
+}
+
+// The record area: rules S11 and S80. One without records where the sheet has none.
+pub fn record_area(sheet: &[u8]) -> RecordArea
+    ensures { λ r. ⌜ r ≡ recordArea (now (sheet .entry)) ⌝ }
+{
+    if !has_records(sheet) {
+        return RecordArea {
+            first: 0,
+            records: 0,
+            words: 0,
+        };
+    }
+    record_row(sheet, area_count(sheet), item_count(sheet))
 }

@@ -28,7 +28,7 @@ pub(crate) fn records_sound(sheet: &[u8], header: Header) -> bool
     if header.record_areas != 1 {
         return true;
     }
-    let records = rows::record_area(sheet);
+    let records = rows::record_row(sheet, header.areas, header.items);
     if !one_row::records_sound(records) {
         return false;
     }

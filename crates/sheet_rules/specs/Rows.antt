@@ -148,14 +148,12 @@ items sheet = rows (itemAt sheet) 0 (itemCount sheet)
 abbrev pub hasRecords : List ℕ → Bool
 hasRecords sheet = eqb (recordAreas sheet) 1
 
--- rule S80: its row, the three words behind the item rows
+-- rule S80: a record row, three words from a word on; the sheet's stands behind the item rows
+abbrev pub recordFrom : List ℕ → ℕ → RecordArea
+recordFrom sheet n = record { first = word sheet n; records = word sheet (n + 1); words = word sheet (n + 2) }
+
 abbrev pub recordRow : List ℕ → RecordArea
-recordRow sheet =
-    record {
-      first = word sheet (rowsEnd sheet);
-      records = word sheet (rowsEnd sheet + 1);
-      words = word sheet (rowsEnd sheet + 2);
-    }
+recordRow sheet = recordFrom sheet (rowsEnd sheet)
 
 -- an area without records
 abbrev pub noRecords : RecordArea
