@@ -1,6 +1,6 @@
 -- Where a frame stops, from what the stages of judgement find. Assumes nothing.
 use mathlib.Core.Path.{_≡_, refl, sym, ap, ap₂, _∙_}
-use mathlib.Core.Bool.{Bool, true, false, not, cond, _&&_, _||_}
+use mathlib.Core.Bool.{Bool, true, false, not, cond, _&&_, _||_, and-false, or-true}
 use mathlib.Core.List.{List}
 use mathlib.Core.Logic.{_⊎_, inl, inr}
 use Prim.Native.Nat.{ℕ, _+_, _-_, _*_, _%_, _≤_, _<_}
@@ -22,15 +22,16 @@ use Rattle.frame.specs.declared.Passed.{Passed}
 use Rattle.frame.specs.declared.Passed.the-variants.{Frame, Fails}
 use Rattle.frame.proofs.Passing.{passed-parts, passed-true, passed-false}
 use Rattle.frame.specs.Frame.{reads, clears, writesOne, writesMany, function, start, second, isWrite, count, mostRead, partsOf, passedFrame}
+use Rattle.meter_rules.specs.declared.Judged.{Judged}
 use Rattle.meter_rules.specs.declared.Judged.the-variants.{FailsCheck, OtherStation, FunctionNotAllowed, WrongLength, WrongCount, WrongAddress, WrongValue, BadItem, GoodRead, GoodRecord, GoodClear, GoodWrite}
 use Rattle.sheet_rules.specs.declared.Purpose.the-variants.{Read}
 use Rattle.sheet_rules.specs.Runs.{allOpen}
 use Rattle.meter_rules.specs.Write.{firstPlace, someBad, stopPlace}
-use Rattle.meter_rules.specs.Steps.{startsInRecords, askedNumber, askedStart, goodRead, failsCheck, otherStation, codeAllowed, functionAllowed, functionNotAllowed, wrongLength, wrongCount, wrongAddress, wrongValue, badWrite, goodFrame, judgedFrame}
+use Rattle.meter_rules.specs.Steps.{startsInRecords, askedStart, goodRead, failsCheck, otherStation, codeAllowed, functionAllowed, functionNotAllowed, wrongLength, wrongCount, wrongAddress, wrongValue, badWrite, goodFrame, judgedFrame}
 use Rattle.meter_rules.proofs.Order.{step-stops, step-passes, step-none, asks-for, value-is, bad-is, write-is, many-is, last-function, asks-write, read-address, registers-wrong, record-wrong, clear-address, clear-value, write-value, write-bad}
 use Rattle.meter.specs.declared.stages.Addressed.{Addressed}
 use Rattle.meter.specs.declared.stages.Addressed.the-variants.{Here, Elsewhere}
-use Rattle.meter.specs.Stages.{addressedTo, wrongLengthIn, judgedFrom, Known}
+use Rattle.meter.specs.Stages.{addressedTo, wrongLengthIn, judgedFrom, judgedRecord, judgedShut, Known}
 
 module _ (given : Lent) (frame : List ℕ) where
   -- ---- the steps, one after another
@@ -196,6 +197,30 @@ module _ (given : Lent) (frame : List ℕ) {first : Passed} (is : first ≡ pass
       pub then-known : sound (given .sheet) ≡ true → not allows ≡ false → Known (given .sheet) frame parts
       then-known keeps open-to = record { sheetSound = keeps; apart = apart; allowed = allowing ∙ not-false allows open-to }
 
+-- ---- a read of a record, by how many are newer
+
+module _ (records : RecordArea) (ring : List ℕ) (address : ℕ) {newer : ℕ} (inside : inRecords address records ≡ true) (behind : newer ≡ address - records .first) where
+  numbered : newer + 1 ≡ recordNumber records address
+  numbered = omega (arith, behind, in-records records address inside .low)
+
+  abbrev judgedBy : Bool → Judged
+  judgedBy past = cond past WrongAddress (GoodRecord (recordStart records (placeOf records ring (recordNumber records address))) (records .words))
+
+  pub record-beyond : {stored : ℕ} → stored ≡ storedCount ring → stored ≤ newer → WrongAddress ≡ judgedRecord records ring address
+  record-beyond says few =
+      sym (ap judgedBy (lt-ltb (storedCount ring) (recordNumber records address) (omega (arith, says, few, numbered))))
+
+  pub record-stored : {stored newest first many : ℕ} → stored ≡ storedCount ring → newer < stored → newest ≡ newestPlace ring
+      → first ≡ 2 + ((newest + records .records - newer) % records .records) * records .words → many ≡ records .words
+      → GoodRecord first many ≡ judgedRecord records ring address
+  record-stored says enough place begin words =
+      ap₂ GoodRecord
+      (begin
+      ∙ ap₂ (λ (n k : ℕ). 2 + ((n + records .records - k) % records .records) * records .words) place
+      (let back : newer ≡ recordNumber records address - 1 = omega (arith, numbered) in back))
+      words
+      ∙ sym (ap judgedBy (le-ltb (storedCount ring) (recordNumber records address) (omega (arith, says, enough, numbered))))
+
 -- ---- the steps in the parts of the frame
 
 -- step 4 and step 5
@@ -239,9 +264,6 @@ module _ (frame : List ℕ) {parts : Parts} (apart : parts ≡ partsOf frame) wh
     read-function : function frame ≡ reads
     read-function = sym (ap (λ (p : Parts). p .function) apart) ∙ asks
 
-    begins : {records : RecordArea} (given : Lent) → records ≡ recordArea (given .sheet) → inRecords (parts .start) records ≡ startsInRecords (given .sheet) frame
-    begins given area = ap₂ (λ (p : Parts) (r : RecordArea). inRecords (p .start) r) apart area
-
     pub read-of-parts : (given : Lent) → startsInRecords (given .sheet) frame ≡ false
         → wrongAddress given frame ≡ (ltb mostRead (parts .second) || not (allOpen Read (given .sheet) (upFrom (parts .start) (parts .second))))
     read-of-parts given outside =
@@ -258,37 +280,43 @@ module _ (frame : List ℕ) {parts : Parts} (apart : parts ≡ partsOf frame) wh
         ∙ ap (λ (p : Parts). GoodRead (placeIn (liesIn (areas (given .sheet)) (p .start))) (p .second)) apart
         ∙ good-read given frame read-function outside e
 
-    -- a read of a record, by how many are newer
-    module _ (given : Lent) (records : RecordArea) (area : records ≡ recordArea (given .sheet)) (inside : inRecords (parts .start) records ≡ true)
-        {newer : ℕ} (behind : newer ≡ parts .start - records .first) where
-      asked : newer + 1 ≡ askedNumber (given .sheet) frame
-      asked =
-          let low = in-records records (parts .start) inside .low in
-          let is : newer + 1 ≡ parts .start + 1 - records .first = omega (arith, behind, low) in
-          is ∙ ap₂ (λ (p : Parts) (r : RecordArea). recordNumber r (p .start)) apart area
+    -- a read whose count is not 0 and that is no good one of registers
+    module _ (given : Lent) (some : parts .second ≡ 0 → ⊥)
+        (shut : (ltb mostRead (parts .second) || not (allOpen Read (given .sheet) (upFrom (parts .start) (parts .second)))) ≡ true) where
+      abbrev area : RecordArea
+      area = recordArea (given .sheet)
 
-      starts : startsInRecords (given .sheet) frame ≡ true
-      starts = sym (begins given area) ∙ inside
+      abbrev begins : Bool
+      begins = inRecords (parts .start) area
 
-      beyond : wrongAddress given frame ≡ ltb (storedCount (given .ring)) (newer + 1)
-      beyond =
-          read-address frame given read-function ∙ record-wrong frame given starts
-          ∙ ap (ltb (storedCount (given .ring))) (sym asked)
+      abbrev number : ℕ
+      number = recordNumber area (parts .start)
 
-      pub record-beyond : {stored : ℕ} → stored ≡ storedCount (given .ring) → stored ≤ newer → WrongAddress ≡ judgedFrom 5 given frame
-      record-beyond says few = stops-address given frame (beyond ∙ lt-ltb (storedCount (given .ring)) (newer + 1) (omega (arith, says, few)))
+      its-start : startsInRecords (given .sheet) frame ≡ begins
+      its-start = ap (λ (p : Parts). inRecords (p .start) area) (sym apart)
 
-      pub record-stored : {stored newest first many : ℕ} → stored ≡ storedCount (given .ring) → newer < stored → newest ≡ newestPlace (given .ring)
-          → first ≡ 2 + ((newest + records .records - newer) % records .records) * records .words → many ≡ records .words
-          → GoodRecord first many ≡ judgedFrom 5 given frame
-      record-stored {newest = newest} says enough place begin words =
-          ap₂ GoodRecord
-          (begin
-          ∙ ap₂ (λ (n k : ℕ). 2 + ((n + records .records - k) % records .records) * records .words) place
-          (let back : newer ≡ newer + 1 - 1 = omega arith in back)
-          ∙ ap₂ (λ (r : RecordArea) (k : ℕ). recordStart r (placeOf r (given .ring) k)) area asked)
-          (words ∙ ap (λ (r : RecordArea). r .words) area)
-          ∙ good-record given frame read-function starts (beyond ∙ le-ltb (storedCount (given .ring)) (newer + 1) (omega (arith, says, enough)))
+      beyond : begins ≡ true → wrongAddress given frame ≡ ltb (storedCount (given .ring)) number
+      beyond inside =
+          read-address frame given read-function ∙ record-wrong frame given (its-start ∙ inside)
+          ∙ ap (λ (p : Parts). ltb (storedCount (given .ring)) (recordNumber area (p .start))) (sym apart)
+
+      of-one : eqb (parts .second) 1 ≡ true → judgedFrom 5 given frame ≡ judgedFrom 4 given frame
+      of-one one = count-passes given frame apart (simp (asks, one, ne-eqb (parts .second) 0 some, and-false))
+
+      pub shut-of-parts : judgedShut (given .sheet) (given .ring) (parts .start) (parts .second) ≡ judgedFrom 4 given frame
+      shut-of-parts = go begins refl (eqb (parts .second) 1) refl (ltb (storedCount (given .ring)) number) refl
+        where
+          go : (inside : Bool) → begins ≡ inside → (one : Bool) → eqb (parts .second) 1 ≡ one → (past : Bool) → ltb (storedCount (given .ring)) number ≡ past
+              → cond inside (cond one (cond past WrongAddress (GoodRecord (recordStart area (placeOf area (given .ring) number)) (area .words))) WrongCount) WrongAddress
+              ≡ judgedFrom 4 given frame
+          go false outside one _ past _ =
+              stops-address given frame (read-of-parts given (its-start ∙ outside) ∙ shut) ∙ read-counted given frame apart asks some (its-start ∙ outside)
+          go true inside false more past _ = count-stops given frame apart (simp (asks, inside, more, or-true))
+          go true inside true one true e = stops-address given frame (beyond inside ∙ e) ∙ of-one one
+          go true inside true one false e =
+              ap (λ (p : Parts). GoodRecord (recordStart area (placeOf area (given .ring) (recordNumber area (p .start)))) (area .words)) apart
+              ∙ good-record given frame read-function (its-start ∙ inside) (beyond inside ∙ e)
+              ∙ of-one one
 
   module _ (asks : parts .function ≡ clears) where
     pub clear-function : function frame ≡ clears

@@ -6,17 +6,17 @@ use mathlib.Core.List.{List}
 use lib.Dec.{ltb, eqb}
 use lib.ListN.{drop}
 use Rattle.lists.specs.Cases.{firstCase}
-use Rattle.lists.specs.Lists.{upFrom}
 use Rattle.sheet_rules.specs.declared.RecordArea.{RecordArea}
 use Rattle.sheet_rules.specs.Rows.{recordArea}
 use Rattle.sheet_rules.specs.Rules.{sound, inRecords}
-use Rattle.sheet_rules.specs.declared.Purpose.the-variants.{Read}
-use Rattle.sheet_rules.specs.Runs.{allOpen}
+use Rattle.sheet_rules.specs.Lookup.{recordNumber}
+use Rattle.ring_rules.specs.Ring.{storedCount, placeOf, recordStart}
 use Rattle.bank_rules.specs.Bank.{stationOf}
 use Rattle.bank_rules.specs.Calls.{Lent}
 use Rattle.frame.specs.declared.Parts.{Parts}
-use Rattle.frame.specs.Frame.{reads, writesMany, mostRead, partsOf}
+use Rattle.frame.specs.Frame.{reads, writesMany, partsOf}
 use Rattle.meter_rules.specs.declared.Judged.{Judged}
+use Rattle.meter_rules.specs.declared.Judged.the-variants.{WrongCount, WrongAddress, GoodRecord}
 use Rattle.meter_rules.specs.Steps.{functionAllowed, steps, goodFrame}
 use Rattle.meter.specs.declared.stages.Addressed.{Addressed}
 use Rattle.meter.specs.declared.stages.Addressed.the-variants.{Here, Elsewhere}
@@ -40,18 +40,18 @@ pub record Known (sheet frame : List ℕ) (parts : Parts) : Type 0 where
   pub apart : parts ≡ partsOf frame
   pub allowed : functionAllowed sheet frame ≡ true
 
--- the frame is a read, of one register or more
+-- the frame is a read, and its count is not 0
 pub record AsksRead (parts : Parts) : Type 0 where
   pub asks : parts .function ≡ reads
   pub some : parts .second ≡ 0 → ⊥
 
--- what step 6 tests of a read of registers, by the parts of a frame
-abbrev pub shutIn : List ℕ → Parts → Bool
-shutIn sheet parts = ltb mostRead (parts .second) || not (allOpen Read sheet (upFrom (parts .start) (parts .second)))
+-- a read of one record by its address: it is beyond what is stored, or good
+abbrev pub judgedRecord : RecordArea → List ℕ → ℕ → Judged
+judgedRecord records ring address =
+    cond (ltb (storedCount ring) (recordNumber records address)) WrongAddress
+    (GoodRecord (recordStart records (placeOf records ring (recordNumber records address))) (records .words))
 
--- the frame asks for a record: what is known of every frame, and that it is a read whose first address is a record's
-pub record AsksRecord (sheet frame : List ℕ) (parts : Parts) (records : RecordArea) : Type 0 where
-  pub known : Known sheet frame parts
-  pub asks : parts .function ≡ reads
-  pub area : records ≡ recordArea sheet
-  pub inside : inRecords (parts .start) records ≡ true
+-- a read that is no good one of registers, by its first address and its count: from a record's address on it is of one record, and else its address is wrong
+abbrev pub judgedShut : List ℕ → List ℕ → ℕ → ℕ → Judged
+judgedShut sheet ring address many =
+    cond (inRecords address (recordArea sheet)) (cond (eqb many 1) (judgedRecord (recordArea sheet) ring address) WrongCount) WrongAddress

@@ -1,8 +1,8 @@
 // The order of judgement for a frame, stage by stage: each answers where the frame stops, or hands it on to the next.
 ghost use mathlib.Core.Path.{_≡_};
 ghost use mathlib.Core.Bool.{true};
-ghost use Rattle.meter.specs.Stages.{addressedTo, wrongLengthIn, judgedFrom, shutIn, Known, AsksRead, AsksRecord};
-ghost use Rattle.sheet_rules.specs.Rules.{sound};
+ghost use Rattle.meter.specs.Stages.{addressedTo, wrongLengthIn, judgedFrom, judgedRecord, judgedShut, Known, AsksRead};
+ghost use Rattle.sheet_rules.specs.Rules.{sound, inRecords};
 ghost use Rattle.bank_rules.specs.Calls.{lentWith};
 ghost use Rattle.frame.specs.Frame.{clears, isWrite, manyOf};
 ghost use Rattle.meter_rules.specs.Steps.{codeAllowed, judgedFrame};
@@ -135,11 +135,11 @@ fn judged_read(sheet: &[u8], bank: &[u8], ring: &[u8], frame: &[u8], parts: Part
     ensures { λ r. ⌜ r ≡ judgedFrom 4 (lentWith (now (sheet .entry)) (now (bank .entry)) (now (ring .entry))) (now (frame .entry)) ⌝ }
 {
     if frame::MOST_READ < parts.second {
-        return judged_shut(sheet, bank, ring, frame, parts);
+        return judged_shut(sheet, ring, parts.start, parts.second);
     }
     let run = lookup::reached(sheet, Purpose::Read, parts.start as u32);
     if run.end < parts.start as u32 + parts.second as u32 {
-        return judged_shut(sheet, bank, ring, frame, parts);
+        return judged_shut(sheet, ring, parts.start, parts.second);
     }
     Judged::GoodRead {
         first: run.place,
@@ -148,39 +148,29 @@ fn judged_read(sheet: &[u8], bank: &[u8], ring: &[u8], frame: &[u8], parts: Part
 }
 
 // Steps 5 and 6 for a read that is no good one of registers: from a record's address on it is of one record, and else it gets error 02.
-fn judged_shut(sheet: &[u8], bank: &[u8], ring: &[u8], frame: &[u8], parts: Parts) -> Judged
-    requires { ⌜ Known (now sheet) (now frame) parts ⌝ }
-    requires { ⌜ AsksRead parts ⌝ }
-    requires { ⌜ shutIn (now sheet) parts ≡ true ⌝ }
-    ensures { λ r. ⌜ r ≡ judgedFrom 4 (lentWith (now (sheet .entry)) (now (bank .entry)) (now (ring .entry))) (now (frame .entry)) ⌝ }
+fn judged_shut(sheet: &[u8], ring: &[u8], start: u16, many: u16) -> Judged
+    ensures { λ r. ⌜ r ≡ judgedShut (now (sheet .entry)) (now (ring .entry)) start many ⌝ }
 {
     if !rows::has_records(sheet) {
         return Judged::WrongAddress;
     }
     let records = rows::record_area(sheet);
-    if !one_row::in_records(parts.start as u32, records) {
+    if !one_row::in_records(start as u32, records) {
         return Judged::WrongAddress;
     }
-    if parts.second != 1 {
+    if many != 1 {
         return Judged::WrongCount;
     }
-    judged_record(sheet, bank, ring, frame, parts, records)
+    judged_record(ring, start, records)
 }
 
 // Step 6 for a read of a record: it is one of those that are stored. The newest is at its place, and each older one a place in front of the
 // one behind it, round from place 0 to the last.
-fn judged_record(
-    sheet: &[u8],
-    bank: &[u8],
-    ring: &[u8],
-    frame: &[u8],
-    parts: Parts,
-    records: RecordArea,
-) -> Judged
-    requires { ⌜ AsksRecord (now sheet) (now frame) parts records ⌝ }
-    ensures { λ r. ⌜ r ≡ judgedFrom 5 (lentWith (now (sheet .entry)) (now (bank .entry)) (now (ring .entry))) (now (frame .entry)) ⌝ }
+fn judged_record(ring: &[u8], start: u16, records: RecordArea) -> Judged
+    requires { ⌜ inRecords start records ≡ true ⌝ }
+    ensures { λ r. ⌜ r ≡ judgedRecord records (now (ring .entry)) start ⌝ }
 {
-    let newer = parts.start as u32 - records.first as u32;
+    let newer = start as u32 - records.first as u32;
     let stored = words::word_at(ring, 2) as u32;
     if stored <= newer {
         return Judged::WrongAddress;

@@ -19,7 +19,8 @@ use Rattle.meter_rules.proofs.Records.{open-outside}
 use Rattle.sheet_rules.specs.declared.Purpose.the-variants.{Read}
 use Rattle.sheet_rules.specs.declared.Run.{Run}
 use Rattle.sheet_rules.proofs.Reach.{run-shut, run-open}
-use Rattle.meter.proofs.Staging.{read-of-parts, good-read-of-parts, read-counted}
+use Rattle.meter.specs.Stages.{judgedFrom, judgedShut}
+use Rattle.meter.proofs.Staging.{read-of-parts, good-read-of-parts, read-counted, shut-of-parts}
 use borrow.Author.Needs.{needs}
 use Rattle.meter.proofs.stages.judged_read.Statement.{statement}
 use Rattle.meter.proofs.stages.judged_read.Tie as tie
@@ -41,13 +42,15 @@ module _ (start : tie.Start) where
         ap (λ (p : Parts). inRecords (p .start) (recordArea (given .sheet))) (sym (start .pre .0 .apart))
         ∙ open-outside (given .sheet) (parts .start) (parts .second) (start .pre .0 .sheetSound) (omega (arith, start .pre .1 .some)) all
 
-judged-shut-requires : tie.Need-judged-shut-requires
-judged-shut-requires c κs =
-    let start = c .before .before .before .before .before .before in
-    (start .pre .0, (start .pre .1, simp (lt-ltb mostRead (parts start .second) (c .if1 .taken))))
+  -- no good read of registers
+  module _ (shut : (ltb mostRead (parts .second) || not (allOpen Read (given .sheet) (upFrom (parts .start) (parts .second)))) ≡ true) where
+    is-shut : judgedShut (given .sheet) (given .ring) (parts .start) (parts .second) ≡ judgedFrom 4 given frame
+    is-shut = shut-of-parts frame (start .pre .0 .apart) (start .pre .1 .asks) given (start .pre .1 .some) shut
 
 returns : tie.Need-returns
-returns c = c .judged-shut .ensures
+returns c =
+    let start = c .before .before .before .before .before .before .before in
+    c .judged-shut .ensures ∙ is-shut start (simp (lt-ltb mostRead (parts start .second) (c .before .if1 .taken)))
 
 -- the run was looked up
 module _ (c : tie.After-reached) where
@@ -60,14 +63,12 @@ module _ (c : tie.After-reached) where
   run : c .reached .result ≡ runFrom Read (given begin .sheet) (parts begin .start)
   run = c .reached .ensures
 
-judged-shut-requires-2 : tie.Need-judged-shut-requires-2
-judged-shut-requires-2 c κs =
-    let found = c .before .before .before .before in
-    let start = begin found in
-    (start .pre .0, (start .pre .1, simp (below found, run-shut (given start .sheet) (start .pre .0 .sheetSound) Read (parts start .start) (run found) (parts start .second) (c .if2 .taken))))
-
 returns-2 : tie.Need-returns-2
-returns-2 c = c .judged-shut2 .ensures
+returns-2 c =
+    let found = c .before .before .before .before .before in
+    let start = begin found in
+    c .judged-shut2 .ensures
+    ∙ is-shut start (simp (below found, run-shut (given start .sheet) (start .pre .0 .sheetSound) Read (parts start .start) (run found) (parts start .second) (c .before .if2 .taken)))
 
 returns-3 : tie.Need-returns-3
 returns-3 c =
@@ -83,14 +84,14 @@ pub judged-read-spec : {M : Type 1} → statement M
 judged-read-spec =
     tie.close
     (tie.spec
-    judged-shut-requires
+    (λ c κs. search needs)
     returns
     (λ c. search needs)
     (λ c κs. search needs)
     (λ c. search needs)
     (λ c. search needs)
     (λ c. search needs)
-    judged-shut-requires-2
+    (λ c κs. search needs)
     returns-2
     (λ c. search needs)
     returns-3)
