@@ -60,7 +60,7 @@ int keep_newest(const struct kept_ring *kept)
     return store_heads(kept);
 }
 
-int keep_ring(const struct kept_ring *kept)
+int keep_whole_ring(const struct kept_ring *kept)
 {
     if (store_records(kept, 0, kept->ring_n - HEAD_SIZE) != 0)
         return -1;

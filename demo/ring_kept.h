@@ -18,14 +18,14 @@ struct kept_ring {
 };
 
 /* After each cedarskein_add_record that answered 0, and before the next: writes the newest record, and then both copies of the two words.
-   Hands back 0 where all was stored. Where it was not, only keep_ring makes good for it. */
+   Hands back 0 where all was stored. Where it was not, only keep_whole_ring makes good for it. */
 int keep_newest(const struct kept_ring *kept);
 
 /* Writes all records and both copies: of a ring that was made empty, and where a store has failed. Hands back 0 where all was stored. */
-int keep_ring(const struct kept_ring *kept);
+int keep_whole_ring(const struct kept_ring *kept);
 
 /* At start-up: loads the records, puts a good copy into the two words, and writes the other one anew where it differs. With NO_GOOD_COPY
-   the ring is empty, and nothing is written: the history is lost, and keep_ring begins a new one. */
+   the ring is empty, and nothing is written: the history is lost, and keep_whole_ring begins a new one. */
 enum restored restore_ring(const struct kept_ring *kept);
 
 #endif

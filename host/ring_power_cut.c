@@ -77,7 +77,7 @@ static void keep_so_many(unsigned added)
     unsigned serial;
     chip.bytes_left = NO_CUT;
     memset(ring, 0, kept.ring_n);
-    expect(keep_ring(&kept) == 0, "the empty ring is kept");
+    expect(keep_whole_ring(&kept) == 0, "the empty ring is kept");
     for (serial = 1; serial <= added; serial++) {
         add(serial);
         expect(keep_newest(&kept) == 0, "the record is kept");
@@ -306,10 +306,10 @@ static void failed_store(unsigned added, unsigned bytes)
     chip.bytes_left = bytes;
     expect(keep_newest(&kept) != 0, "the failure is told");
     chip.bytes_left = 0;
-    expect(keep_ring(&kept) != 0, "and told again");
+    expect(keep_whole_ring(&kept) != 0, "and told again");
     chip.bytes_left = NO_CUT;
     add(added + 2);
-    expect(keep_ring(&kept) == 0, "the ring is kept");
+    expect(keep_whole_ring(&kept) == 0, "the ring is kept");
     expect(starts_up(NO_CUT) && ring_is_of(added + 2), "the ring is that after");
     expect_records(added + 2, records.count + 1u);
 }
@@ -324,7 +324,7 @@ static void failed_record(unsigned added)
     chip.records_fail = 1;
     add(added + 1);
     expect(keep_newest(&kept) != 0, "the failure is told");
-    expect(keep_ring(&kept) != 0, "and told again");
+    expect(keep_whole_ring(&kept) != 0, "and told again");
     chip.records_fail = 0;
     expect(memcmp(heads, chip.heads, sizeof heads) == 0, "neither copy was begun");
     expect(starts_up(NO_CUT) && ring_is_of(added), "the ring is that before");
