@@ -162,18 +162,10 @@ static void expect_before(unsigned added, unsigned written)
                "the oldest record is torn, where the cut was");
 }
 
-/* A cut when so many bytes of the addition are written, and one at start-up; the second start-up goes through. */
-static void cut_after(unsigned added, unsigned bytes, unsigned bytes_at_start)
+/* The ring when so many bytes of the new record and of the copies were written. */
+static void expect_before_or_after(unsigned added, unsigned bytes)
 {
     unsigned size = 2u * records.words;
-    at_case("%u places of %u words, %u added, a cut after %u bytes, and after %u at start-up", records.count, records.words, added, bytes,
-            bytes_at_start);
-    keep_so_many(added);
-    add(added + 1);
-    chip.bytes_left = bytes;
-    expect((keep_newest(&kept) == 0) == (bytes >= size + KEPT_HEADS), "keeping the record fails, or it does not");
-    expect(starts_up(bytes_at_start), "a copy is good");
-    expect(starts_up(NO_CUT), "a copy is good at the second start-up");
     expect_number(CEDARSKEIN_DONE, cedarskein_ring_check(sheet, sizeof sheet, ring, kept.ring_n), "ring_check");
     expect(memcmp(chip.heads, chip.heads + HEAD, HEAD) == 0, "both copies are alike again");
     if (bytes >= size + HEAD)
@@ -188,6 +180,21 @@ static void cut_after(unsigned added, unsigned bytes, unsigned bytes_at_start)
         expect(0, "the ring is that before or that after");
 }
 
+/* A cut when so many bytes of the addition are written, and one at start-up; the second start-up goes through. */
+static void cut_after(unsigned added, unsigned bytes, unsigned bytes_at_start)
+{
+    unsigned size = 2u * records.words;
+    at_case("%u places of %u words, %u added, a cut after %u bytes, and after %u at start-up", records.count, records.words, added, bytes,
+            bytes_at_start);
+    keep_so_many(added);
+    add(added + 1);
+    chip.bytes_left = bytes;
+    expect((keep_newest(&kept) == 0) == (bytes >= size + KEPT_HEADS), "keeping the record fails, or it does not");
+    expect(starts_up(bytes_at_start), "a copy is good");
+    expect(starts_up(NO_CUT), "a copy is good at the second start-up");
+    expect_before_or_after(added, bytes);
+}
+
 /* Rings that are empty, part full, full, and round again once and twice. */
 static void cuts(uint16_t count, uint16_t words)
 {
@@ -199,24 +206,50 @@ static void cuts(uint16_t count, uint16_t words)
                 cut_after(added, bytes, bytes_at_start);
 }
 
-/* A ring that lies in lasting memory itself: the cut comes while the record is added, with any of what the call writes written, or later, while
- * the copies are. What is in the two words then does not matter. */
-static void cut_in_place(unsigned added, unsigned bytes, int from_the_end)
+/* Start-up with a ring that lies in lasting memory itself: the two words are a copy's, and the records as the cut left them. */
+static void expect_in_place(unsigned added, const uint8_t *left)
 {
-    static uint8_t before[MOST_BYTES], after[MOST_BYTES];
+    int full = stored_at(added) == records.count;
+    expect(starts_up(NO_CUT), "a copy is good");
+    expect_number(CEDARSKEIN_DONE, cedarskein_ring_check(sheet, sizeof sheet, ring, kept.ring_n), "ring_check");
+    expect(ring_is_of(added), "the ring is that before");
+    expect_records(added, full ? records.count : records.count + 1u);
+    if (full) {
+        const uint8_t *read = record_read(records.count);
+        expect(read != NULL && memcmp(read, left + record_at(records, added % records.count), 2 * (size_t)records.words) == 0,
+               "the oldest record is as the cut left it");
+    }
+}
+
+/* The cut comes while the record is added, with any of what the call writes written. What is in the ring's own two words does not matter. */
+static void cut_while_adding(unsigned added, unsigned bytes, int from_the_end)
+{
+    static uint8_t before[MOST_BYTES], left[MOST_BYTES];
     size_t i, n = kept.ring_n;
     at_case("a ring in lasting memory, %u places, %u added, %u bytes of it written from the %s", records.count, added, bytes,
             from_the_end ? "end" : "front");
     keep_so_many(added);
     memcpy(before, ring, n);
     add(added + 1);
-    memcpy(after, ring, n);
     for (i = 0; i < n; i++)
-        ring[i] = (from_the_end ? n - 1 - i < bytes : i < bytes) ? after[i] : before[i];
+        if (bytes <= (from_the_end ? n - 1 - i : i))
+            ring[i] = before[i];
+    memcpy(left, ring, n);
+    expect_in_place(added, left);
+    memset(ring, 0xA5, HEAD_SIZE);
+    expect_in_place(added, left);
+}
+
+/* The cut comes later, while the copies are written: the record is whole. */
+static void cut_while_keeping(unsigned added, unsigned bytes)
+{
+    at_case("a ring in lasting memory, %u places, %u added, a cut after %u bytes of the copies", records.count, added, bytes);
+    keep_so_many(added);
+    add(added + 1);
+    chip.bytes_left = bytes;
+    expect((keep_newest(&kept) == 0) == (bytes >= KEPT_HEADS), "keeping the record fails, or it does not");
     expect(starts_up(NO_CUT), "a copy is good");
-    expect_number(CEDARSKEIN_DONE, cedarskein_ring_check(sheet, sizeof sheet, ring, n), "ring_check");
-    expect(ring_is_of(added), "the ring is that before");
-    expect_records(added, stored_at(added) == records.count ? records.count : records.count + 1u);
+    expect_before_or_after(added, 2u * records.words + bytes);
 }
 
 static void cuts_in_place(uint16_t count, uint16_t words)
@@ -225,11 +258,14 @@ static void cuts_in_place(uint16_t count, uint16_t words)
     start(count, words);
     kept.records.load = NULL;
     kept.records.store = NULL;
-    for (added = 0; added <= 2u * count + 1; added++)
+    for (added = 0; added <= 2u * count + 1; added++) {
         for (bytes = 0; bytes <= kept.ring_n; bytes++) {
-            cut_in_place(added, bytes, 0);
-            cut_in_place(added, bytes, 1);
+            cut_while_adding(added, bytes, 0);
+            cut_while_adding(added, bytes, 1);
         }
+        for (bytes = 0; bytes <= KEPT_HEADS; bytes++)
+            cut_while_keeping(added, bytes);
+    }
     kept.records.load = load;
     kept.records.store = store;
 }
