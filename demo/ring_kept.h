@@ -17,15 +17,23 @@ struct kept_ring {
     struct lasting records, heads;
 };
 
-/* After each cedarskein_add_record that answered 0, and before the next: writes the newest record, and then both copies of the two words.
-   Hands back 0 where all was stored. Where it was not, only keep_ring makes good for it. */
+/* After each cedarskein_add_record that answered 0, before a frame is answered: writes the newest record, and then each copy of the two words that
+   differs from them, never the only good one first. Hands back 0 where all was stored. Where it was not, call it again before anything more is
+   added. */
 int keep_newest(const struct kept_ring *kept);
 
-/* Writes all records and both copies: of a ring that was made empty, and where a store has failed. Hands back 0 where all was stored. */
-int keep_ring(const struct kept_ring *kept);
+/* The same with all records: of a new ring, of one that was made empty, and where more was added after a store that failed. */
+int keep_whole_ring(const struct kept_ring *kept);
 
-/* At start-up: loads the records, puts a good copy into the two words, and writes the other one anew where it differs. With NO_GOOD_COPY
-   the ring is empty, and nothing is written: the history is lost, and keep_ring begins a new one. */
-enum restored restore_ring(const struct kept_ring *kept);
+enum restored_ring {
+    RING_RESTORED,    /* as it was kept, and in both copies */
+    RING_IN_ONE_COPY, /* as it was kept, but the other copy could not be written: keep_newest, before anything is added */
+    RING_LOST,        /* no copy is good: the ring is empty, nothing is written, and keep_whole_ring begins a new history */
+    RING_UNREAD       /* it could not be loaded, and may be good all the same: nothing is written, and the two words are as they were */
+};
+
+/* At start-up: loads the records, puts a good copy into the two words, and writes the other one anew where it differs. With RING_UNREAD try again;
+   until it is restored add nothing, and make the two words 0 where frames must be answered. */
+enum restored_ring restore_ring(const struct kept_ring *kept);
 
 #endif

@@ -29,7 +29,7 @@
  *   1, and in a sound sheet A, I and w fit a byte:
  *
  *     row    = 2 * (12 + 4 * sheet[3] + 6 * sheet[7]);
- *     first  = 256 * sheet[row] + sheet[row + 1];
+ *     first  = 256u * sheet[row] + sheet[row + 1];
  *     N      = 256 * sheet[row + 2] + sheet[row + 3];
  *     w      = sheet[row + 5];
  *     ring_n = 2 * (2 + (size_t)N * w);
@@ -39,8 +39,8 @@
  *   free. So ring_n bytes whose first four are 0 are an empty ring, and no call is needed for it.
  *
  *   Records are added one by one, each whole: an empty ring takes it at place 0, any other right behind its newest, and past
- *   place N - 1 comes place 0. Once N are stored, the next one overwrites the oldest. Record 1 is always the newest. A master reads
- *   record k by 03 at address first + k - 1 with count 1, and k is at most the number stored. It lies here:
+ *   place N - 1 comes place 0. Once N are stored, the next one overwrites the oldest. Record 1 is always the newest. A
+ *   master reads record k by 03 at address first + k - 1 with count 1, and k is at most the number stored. It lies here:
  *
  *     newest = 256 * ring[0] + ring[1];
  *     place  = (newest + N - (k - 1)) % N;
@@ -87,9 +87,13 @@
  * A board from version 1
  *
  *   From 2.0 on cedarskein_answer and cedarskein_why take a ring behind the bank, and a program that is compiled with this
- *   header shows each place to change: pass NULL, 0 there. Sheets of version 1.3 have word 11 at 0 and are taken as before,
- *   banks are as they were, and so is every reply. Two calls are new, cedarskein_ring_check and cedarskein_add_record, and
- *   one number, 8; a board whose sheet has no record area gets it only for a ring that is not 0 bytes.
+ *   header shows each place to change: pass NULL, 0 there. Compile anew everything that calls these two. Their names are
+ *   the same, and C checks no arguments at link time: an object that was compiled with version 1's header links without a
+ *   word, and its calls go wrong.
+ *
+ *   Sheets of version 1.3 have word 11 at 0 and are taken as before, banks are as they were, and so is every reply. Two
+ *   calls are new, cedarskein_ring_check and cedarskein_add_record, and one number, 8; a board whose sheet has no record
+ *   area gets it only for a ring that is not 0 bytes.
  *
  * What the caller owes
  *
@@ -137,18 +141,31 @@
  *   A ring is large, and an addition changes little of it, so it is kept otherwise. Its records lie once in memory that
  *   outlasts a cut, its two words twice, each copy followed by its check value as a bank's is:
  *
+ *   - write both copies once for a new ring: zeros are an empty ring, but not a kept one, since the check value of four zero
+ *     bytes is not 0000, and start-up would find the history lost;
  *   - add a record to the ring at work; where that answers 0, write the record's bytes to their place in the lasting
  *     memory (a ring that lies there itself has them already), when that is done the first copy of the two words, and when
- *     that is done the second;
+ *     that is done the second; only then answer a frame, or a master can read a record that a cut takes back;
+ *   - where a store fails, add nothing more, but write the record again and then the copies, beginning with the one that
+ *     start-up would not take: so a good one is left at any time;
  *   - at start-up load the records, and put the first copy into the two words where its check value agrees and
  *     cedarskein_ring_check answers 0, else the second on the same terms; write the other copy anew where it differs;
- *   - where neither copy is good, the two words are 0, and the history is lost. Report it.
+ *   - where neither copy is good, the two words are 0, and the history is lost. Report it. What could not be loaded is not
+ *     lost yet: write nothing, and load it again.
  *
  *   After a cut the new record is there whole and counted, or it is not counted; the others are as they were. One thing
  *   this does not save: in a full ring the new record is written over the oldest, which the two words count until the first
  *   copy is whole. A cut before that leaves as record N the front of the new record and the rest of the old one, or the
- *   whole new record. Nothing here shows it; the next addition takes that place again. Where it matters, give each record a
- *   check value over its other words, and a time or a serial number.
+ *   whole new record. With N = 1 that is record 1: the newest record, and the only one, is then torn. Nothing here shows it;
+ *   the next addition takes that place again. Where it matters, give each record a check value over its other words, and a
+ *   time or a serial number.
+ *
+ *   Each copy of the two words is written once for each record: with one every 5 minutes, the makers' shortest interval, a
+ *   memory that takes 100,000 writes lasts 347 days. Keep the 12 bytes of both in a memory that does not wear, or give each
+ *   copy several places in turn, with a number beside the two words that grows.
+ *
+ *   For banks and rings alike, the memory is one whose bytes can be written without erasing others. In flash a cut while a
+ *   sector is erased loses all that the sector holds: each copy needs one of its own there, and records go with theirs.
  *
  *   demo/ring_kept.c has this as C; host/ring_power_cut.c tries it with a cut at every byte.
  */
@@ -270,9 +287,9 @@ uint32_t cedarskein_answer(const uint8_t *sheet, size_t sheet_n, uint8_t *bank, 
 
 /* Tells why cedarskein_answer gives silence or an error to a frame, with the bank and the ring as they are before the frame.
  * Gives back 0, else the first of 2, 3, 4 and 8. With 0, *reason is a number of enum cedarskein_reason, and *address is
- *   for CEDARSKEIN_ADDRESS: the lowest address of the frame's run that is in no area, not open to its function, or above
- *      FFFF (it can be 10000 hexadecimal); for a clear elsewhere than at the clear address, and for a record that is not
- *      stored, the frame's own;
+ *   for CEDARSKEIN_ADDRESS: the lowest address of the frame's run that is in none of the areas (a record's is in none), not
+ *      open to its function, or above FFFF (it can be 10000 hexadecimal); for a clear elsewhere than at the clear address,
+ *      and for a record that is not stored, the frame's own;
  *   for CEDARSKEIN_ITEM: the first address of the first bad item, also where the frame writes only its lower half;
  *   for every other reason: 0.
  * *reason and *address are written by every call, zeros with a refusal. All that is lent is only read. */
