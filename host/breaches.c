@@ -47,6 +47,47 @@ static uint32_t word_of(const uint8_t *bytes)
     return (uint32_t)(256 * bytes[0] + bytes[1]);
 }
 
+/* ---- The record area, as the sheet's row has it ---- */
+
+struct records {
+    uint32_t first, count, words;
+};
+
+static size_t record_row(const uint8_t *sheet)
+{
+    return 2 * (12 + 4 * word_of(sheet + 2) + 6 * word_of(sheet + 6));
+}
+
+/* Of a sheet that may be refused for it; none where no three words end it. */
+static struct records records_told(const uint8_t *sheet, size_t sheet_n)
+{
+    struct records records = { 0, 0, 0 };
+    size_t row = sheet_n < 24 ? 0 : record_row(sheet);
+    if (row == 0 || sheet[23] != 1 || row + 6 != sheet_n || sheet_n > CEDARSKEIN_LONGEST_SHEET)
+        return records;
+    records.first = word_of(sheet + row);
+    records.count = word_of(sheet + row + 2);
+    records.words = word_of(sheet + row + 4);
+    return records;
+}
+
+static struct records records_of(const uint8_t *sheet, size_t sheet_n)
+{
+    static const struct records none = { 0, 0, 0 };
+    return __real_cedarskein_sheet_check(sheet, sheet_n) == 0 ? records_told(sheet, sheet_n) : none;
+}
+
+static int is_record(const struct records *records, uint32_t address)
+{
+    return records->first <= address && address < records->first + records->count;
+}
+
+/* Whether a run gets to the records from in front of them. */
+static int runs_into(const struct records *records, uint32_t start, size_t count)
+{
+    return records->count != 0 && start < records->first && records->first - start < count;
+}
+
 /* The check of an AS-WE sheet whose stations, item 9, are 1 to F7, whatever they are. */
 static uint32_t check_with_new_stations(const uint8_t *sheet, size_t sheet_n)
 {
@@ -57,10 +98,80 @@ static uint32_t check_with_new_stations(const uint8_t *sheet, size_t sheet_n)
     return __real_cedarskein_sheet_check(changed, sheet_n);
 }
 
+/* The check of a sheet with another record area. The makers' sheets have nothing at 4000 and behind it. */
+#define FREE_ADDRESS 0x4000
+static uint32_t check_with_records(const uint8_t *sheet, size_t sheet_n, uint32_t first, uint32_t count, uint32_t words)
+{
+    uint8_t changed[CEDARSKEIN_LONGEST_SHEET], *row = changed + sheet_n - 6;
+    memcpy(changed, sheet, sheet_n);
+    row[0] = (uint8_t)(first >> 8);
+    row[1] = (uint8_t)first;
+    row[2] = (uint8_t)(count >> 8);
+    row[3] = (uint8_t)count;
+    row[4] = (uint8_t)(words >> 8);
+    row[5] = (uint8_t)words;
+    return __real_cedarskein_sheet_check(changed, sheet_n);
+}
+
+/* Whether some area begins at a record, and whether the first record lies in an area: two runs share an address where either holds. */
+static int area_begins_in(const uint8_t *sheet, const struct records *records)
+{
+    uint32_t k;
+    for (k = 0; k < word_of(sheet + 2); k++)
+        if (is_record(records, word_of(sheet + 24 + 8 * k)))
+            return 1;
+    return 0;
+}
+
+static int begins_in_area(const uint8_t *sheet, const struct records *records)
+{
+    uint32_t k;
+    for (k = 0; k < word_of(sheet + 2); k++)
+        if (word_of(sheet + 24 + 8 * k) <= records->first && records->first <= word_of(sheet + 26 + 8 * k))
+            return 1;
+    return 0;
+}
+
+/* A sheet that is refused for where its records lie, and for nothing else, and that a broken door takes. */
+static int takes_records_there(const uint8_t *sheet, size_t sheet_n, const struct records *told)
+{
+    int begins = area_begins_in(sheet, told), inside = begins_in_area(sheet, told);
+    int clear = (sheet[13] & 2) != 0 && is_record(told, word_of(sheet + 20));
+    int beyond = told->first + told->count > 0x10000;
+    if (check_with_records(sheet, sheet_n, FREE_ADDRESS, told->count, told->words) != 0)
+        return 0;
+    if (breach_is("records_from_within_an_area_are_taken"))
+        return inside && !begins && !clear && !beyond;
+    if (breach_is("records_over_an_area_are_taken"))
+        return begins && !inside && !clear && !beyond;
+    if (breach_is("clear_address_among_records_is_taken"))
+        return clear && !begins && !inside && !beyond;
+    return breach_is("records_beyond_ffff_are_taken") && beyond && !begins && !inside && !clear;
+}
+
+/* The same, for the number of its records or their words. */
+static int takes_records(const uint8_t *sheet, size_t sheet_n)
+{
+    struct records told = records_told(sheet, sheet_n);
+    if (told.count + told.words == 0)
+        return 0;
+    if (breach_is("no_records_are_taken") && told.count == 0)
+        return check_with_records(sheet, sheet_n, told.first, 1, told.words) == 0;
+    if (breach_is("records_6601_are_taken") && told.count == 6601)
+        return check_with_records(sheet, sheet_n, told.first, 6600, told.words) == 0;
+    if (breach_is("records_of_no_word_are_taken") && told.words == 0)
+        return check_with_records(sheet, sheet_n, told.first, told.count, 1) == 0;
+    if (breach_is("records_of_48_words_are_taken") && told.words == 48)
+        return check_with_records(sheet, sheet_n, told.first, told.count, 47) == 0;
+    return takes_records_there(sheet, sheet_n, &told);
+}
+
 uint32_t __wrap_cedarskein_sheet_check(const uint8_t *sheet, size_t sheet_n)
 {
     uint32_t number = __real_cedarskein_sheet_check(sheet, sheet_n);
     volatile uint8_t read = 0;
+    if (number == 2 && takes_records(sheet, sheet_n))
+        return 0;
     if (breach_is("old_sheet_is_taken") && number == 2 && sheet_n == 328)
         return check_with_new_stations(sheet, sheet_n);
     if (breach_is("sheet_cut_is_taken") && sheet_n == 255)
@@ -101,13 +212,20 @@ uint32_t __wrap_cedarskein_bank_fresh(const uint8_t *sheet, size_t sheet_n, uint
 uint32_t __wrap_cedarskein_post(const uint8_t *sheet, size_t sheet_n, uint8_t *bank, size_t bank_n, uint32_t address,
                                 const uint8_t *words, size_t words_n)
 {
+    struct records records = records_of(sheet, sheet_n);
+    uint32_t number;
     if (breach_is("post_cuts_the_address"))
         address &= 0xFFFF;
     if (breach_is("post_leaves_the_last") && words_n > 2)
         words_n -= 2;
     if (breach_is("post_takes_odd") && words_n % 2 == 1)
         words_n -= 1;
-    return __real_cedarskein_post(sheet, sheet_n, bank, bank_n, address, words, words_n);
+    if (breach_is("post_stops_at_the_records") && words_n % 2 == 0 && runs_into(&records, address, words_n / 2))
+        words_n = 2 * (size_t)(records.first - address);
+    number = __real_cedarskein_post(sheet, sheet_n, bank, bank_n, address, words, words_n);
+    if (breach_is("post_at_a_record_is_taken") && number == 6 && is_record(&records, address))
+        return 0;
+    return number;
 }
 
 uint32_t __wrap_cedarskein_set_mark(const uint8_t *sheet, size_t sheet_n, uint8_t *bank, size_t bank_n, uint32_t mark)
@@ -190,28 +308,11 @@ static void store_broadcast(const uint8_t *sheet, size_t sheet_n, uint8_t *bank,
 
 /* ---- The ring, as the two calls on a frame are lent it ---- */
 
-/* A record area as the sheet's row has it, and whether a frame reads a record: one that starts there, with a right check. */
-struct records {
-    uint32_t first, count, words;
-};
-
-static struct records records_of(const uint8_t *sheet, size_t sheet_n)
-{
-    struct records records = { 0, 0, 0 };
-    size_t row;
-    if (sheet_n < 24 || sheet[23] != 1 || __real_cedarskein_sheet_check(sheet, sheet_n) != 0)
-        return records;
-    row = 2 * (12 + 4 * word_of(sheet + 2) + 6 * word_of(sheet + 6));
-    records.first = word_of(sheet + row);
-    records.count = word_of(sheet + row + 2);
-    records.words = word_of(sheet + row + 4);
-    return records;
-}
-
+/* Whether a frame reads a record: one that starts there, with a right check. */
 static int reads_record(const struct records *records, const uint8_t *frame, size_t frame_n)
 {
     return frame_n == 8 && frame[1] == 0x03 && __real_cedarskein_check_value(frame, frame_n) == 0
-        && word_of(frame + 2) - records->first < records->count;
+        && is_record(records, word_of(frame + 2));
 }
 
 /* The ring with another number stored, or the newest record one place on: as a door would see it that reckons otherwise. */
@@ -256,6 +357,51 @@ static const uint8_t *as_count_1(const struct records *records, const uint8_t *f
     one[6] = (uint8_t)(value & 0xFF);
     one[7] = (uint8_t)(value >> 8);
     return one;
+}
+
+/* A run from outside that a broken door ends in front of the records, and then answers. */
+static const uint8_t *as_run_outside(const struct records *records, const uint8_t *frame, size_t *frame_n)
+{
+    static uint8_t front[CEDARSKEIN_LONGEST_FRAME];
+    int reads = *frame_n == 8 && frame[1] == 0x03 && breach_is("read_stops_at_the_records");
+    int writes = *frame_n > 8 && frame[1] == 0x10 && breach_is("write_stops_at_the_records");
+    size_t n = *frame_n;
+    uint16_t value;
+    if (!(reads || writes) || n > sizeof front || __real_cedarskein_check_value(frame, n) != 0)
+        return frame;
+    if (!runs_into(records, word_of(frame + 2), word_of(frame + 4)) || (writes && frame[6] != 2 * word_of(frame + 4)))
+        return frame;
+    memcpy(front, frame, n);
+    front[4] = 0;
+    front[5] = (uint8_t)(records->first - word_of(frame + 2));
+    front[6] = (uint8_t)(2 * front[5]);
+    n = reads ? 8 : 9 + (size_t)front[6];
+    value = __real_cedarskein_check_value(front, n - 2);
+    front[n - 2] = (uint8_t)(value & 0xFF);
+    front[n - 1] = (uint8_t)(value >> 8);
+    *frame_n = n;
+    return front;
+}
+
+/* The reply to a write or a clear at a record, as if it were done; or a clear there that is done without a word. */
+static void spoil_write(const struct records *records, const uint8_t *frame, uint8_t *mark, uint8_t *out, uint32_t *length)
+{
+    uint16_t value;
+    int taken = (frame[1] == 0x05 && breach_is("clear_at_a_record_is_taken"))
+        || (frame[1] == 0x06 && breach_is("write_at_a_record_is_taken"));
+    if (frame[1] == 0x10 && breach_is("long_write_at_a_record_is_taken"))
+        taken = 1;
+    if (out[1] != (frame[1] | 0x80) || out[2] != 2 || !is_record(records, word_of(frame + 2)))
+        return;
+    if (frame[1] == 0x05 && breach_is("clear_at_a_record_clears_the_mark"))
+        *mark = 0;
+    if (!taken)
+        return;
+    memcpy(out, frame, 6);
+    value = __real_cedarskein_check_value(out, 6);
+    out[6] = (uint8_t)(value & 0xFF);
+    out[7] = (uint8_t)(value >> 8);
+    *length = 8;
 }
 
 /* Error 03 where 02 belongs, or the other way round, for a read that starts at a record. */
@@ -334,6 +480,7 @@ uint32_t __wrap_cedarskein_answer(const uint8_t *sheet, size_t sheet_n, uint8_t 
         ((uint8_t *)(uintptr_t)frame)[frame_n - 1] ^= 1;
     if (breach_is("record_count_2_is_answered"))
         frame = as_count_1(&records, frame, frame_n);
+    frame = as_run_outside(&records, frame, &frame_n);
     if (bank_n > 0 && bank_n <= sizeof bank_before)
         memcpy(bank_before, bank, bank_n);
     number = __real_cedarskein_answer(sheet, sheet_n, bank, bank_n, ring_seen(sheet, sheet_n, ring, ring_n, &records), ring_n, frame,
@@ -343,6 +490,7 @@ uint32_t __wrap_cedarskein_answer(const uint8_t *sheet, size_t sheet_n, uint8_t 
     if (number == 0) {
         spoil_reply(out, out_n, length, rate);
         spoil_record(&records, frame, frame_n, out, length);
+        spoil_write(&records, frame, bank + bank_n - 1, out, length);
     } else {
         spoil_refusal(bank, bank_n, out, out_n, length, rate);
     }
@@ -352,11 +500,25 @@ uint32_t __wrap_cedarskein_answer(const uint8_t *sheet, size_t sheet_n, uint8_t 
 
 /* ---- The two calls on a ring ---- */
 
+/* What a check of a ring may not do to what it is lent, or read of it. */
+static void spoil_checked(uint8_t *sheet, size_t sheet_n, uint8_t *ring, size_t ring_n)
+{
+    volatile uint8_t read = 0;
+    if (breach_is("ring_check_writes_the_sheet") && sheet_n > 0)
+        sheet[sheet_n - 1] ^= 1;
+    if (breach_is("ring_check_writes_the_ring") && ring_n > 0)
+        ring[ring_n - 1] ^= 1;
+    if (breach_is("ring_check_reads_behind_the_ring") && ring_n > 0)
+        read = *(volatile const uint8_t *)(ring + ring_n);
+    (void)read;
+}
+
 uint32_t __wrap_cedarskein_ring_check(const uint8_t *sheet, size_t sheet_n, const uint8_t *ring, size_t ring_n)
 {
     struct records records = records_of(sheet, sheet_n);
     uint32_t number = __real_cedarskein_ring_check(sheet, sheet_n, ring, ring_n);
     int fits = records.count != 0 && ring_n == 2 * (2 + (size_t)records.count * records.words);
+    spoil_checked((uint8_t *)(uintptr_t)sheet, sheet_n, (uint8_t *)(uintptr_t)ring, ring_n);
     if (breach_is("ring_at_place_n_is_sound") && number == 8 && fits && word_of(ring) == records.count && word_of(ring + 2) <= records.count)
         return 0;
     if (breach_is("ring_above_n_is_sound") && number == 8 && fits && word_of(ring) < records.count && word_of(ring + 2) > records.count)
@@ -392,6 +554,21 @@ static void spoil_added(uint8_t *ring, const struct records *records, const uint
         ring[4 + 2 * (size_t)records->count * records->words] ^= 1;
 }
 
+/* The same of an addition: sheet and record are only read, and a record that is too short no further than it goes. */
+static void spoil_add_lent(uint8_t *sheet, size_t sheet_n, uint8_t *record, size_t record_n, size_t asked)
+{
+    volatile uint8_t read = 0;
+    if (breach_is("add_writes_the_sheet") && sheet_n > 0)
+        sheet[sheet_n - 1] ^= 1;
+    if (breach_is("add_writes_the_record") && record_n > 0)
+        record[record_n - 1] ^= 1;
+    if (breach_is("add_reads_behind_the_record") && record_n > 0 && record_n == asked)
+        read = *(volatile const uint8_t *)(record + record_n);
+    if (breach_is("short_record_is_read_whole") && record_n > 0 && record_n < asked)
+        read = *(volatile const uint8_t *)(record + asked - 1);
+    (void)read;
+}
+
 uint32_t __wrap_cedarskein_add_record(const uint8_t *sheet, size_t sheet_n, uint8_t *ring, size_t ring_n, const uint8_t *record,
                                       size_t record_n)
 {
@@ -403,6 +580,7 @@ uint32_t __wrap_cedarskein_add_record(const uint8_t *sheet, size_t sheet_n, uint
     if (breach_is("longer_record_is_cut") && records.count != 0 && record_n > 2 * (size_t)records.words)
         record_n = 2 * (size_t)records.words;
     number = __real_cedarskein_add_record(sheet, sheet_n, ring, ring_n, record, record_n);
+    spoil_add_lent((uint8_t *)(uintptr_t)sheet, sheet_n, (uint8_t *)(uintptr_t)record, record_n, 2 * (size_t)records.words);
     if (number == 0)
         spoil_added(ring, &records, before);
     if (breach_is("refused_record_is_written") && number != 0 && ring_n > 0)
@@ -527,6 +705,24 @@ static void spoil_record_reason(const struct records *records, const uint8_t *fr
     }
 }
 
+/* What is told of a run that gets to the records from outside, and of a write or a clear at one. */
+static void spoil_outside_reason(const struct records *records, const uint8_t *frame, uint32_t *reason, uint32_t *address)
+{
+    int none = 0;
+    if (*reason != CEDARSKEIN_ADDRESS)
+        return;
+    if (breach_is("why_run_into_records_has_no_reason"))
+        none = *address == records->first && *address > word_of(frame + 2);
+    if (breach_is("why_clear_at_a_record_has_no_reason"))
+        none = frame[1] == 0x05 && is_record(records, word_of(frame + 2));
+    if (breach_is("why_write_at_a_record_has_no_reason"))
+        none = (frame[1] == 0x06 || frame[1] == 0x10) && is_record(records, word_of(frame + 2));
+    if (!none)
+        return;
+    *reason = CEDARSKEIN_NO_REASON;
+    *address = 0;
+}
+
 uint32_t __wrap_cedarskein_why(const uint8_t *sheet, size_t sheet_n, const uint8_t *bank, size_t bank_n, const uint8_t *ring,
                                size_t ring_n, const uint8_t *frame, size_t frame_n, uint32_t *reason, uint32_t *address)
 {
@@ -549,6 +745,7 @@ uint32_t __wrap_cedarskein_why(const uint8_t *sheet, size_t sheet_n, const uint8
     if (number == 0) {
         spoil_reason(frame, frame_n, reason, address);
         spoil_record_reason(&records, frame, frame_n, reason, address);
+        spoil_outside_reason(&records, frame, reason, address);
         spoil_address(frame, reason, address);
     } else {
         spoil_refused_why(reason_before, reason, address);

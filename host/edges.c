@@ -176,6 +176,15 @@ static void ring_of(size_t n, size_t right)
     expect_number(n == right ? CEDARSKEIN_DONE : CEDARSKEIN_BAD_RING, answer(), "answer");
 }
 
+/* A record of another length: no more of it is read than there is. */
+static void record_of(size_t n, size_t right)
+{
+    at_case("a record of %lu bytes for one of %lu, at the %s", (unsigned long)n, (unsigned long)right, edge_name());
+    edge_noise(&words, n);
+    expect_number(n == right ? CEDARSKEIN_DONE : CEDARSKEIN_BAD_INPUT,
+                  cedarskein_add_record(sheet.bytes, sheet.n, ring.bytes, ring.n, words.bytes, words.n), "add_record");
+}
+
 /* The UX15/25's sheet with records at 0400, its ring full and at its ends. */
 static void records_of_ux(uint16_t count, uint16_t words_each)
 {
@@ -190,6 +199,8 @@ static void records_of_ux(uint16_t count, uint16_t words_each)
     add_and_read(&records, (uint16_t)(count - 1), count);
     add_and_read(&records, (uint16_t)(count < 2 ? 0 : count - 2), count);
     set_word(ring.bytes, 1, (uint16_t)(count / 2 + 1));
+    for (n = 0; n <= 2u * words_each + 4; n++)
+        record_of(n, 2 * (size_t)words_each);
     frames();
     for (n = 0; n < 20; n++)
         ring_of(n, ring_size(records));

@@ -535,9 +535,11 @@ static void write_many(uint16_t address, uint16_t words)
     meter_frame(&meter, frame, 9 + 2 * (size_t)words, 0);
 }
 
+/* The mark is set, so that a clear that is done is seen. */
 static void writes(void)
 {
     start_with_two(0x0117);
+    expect_number(CEDARSKEIN_DONE, call_set_mark(&meter, 1), "set_mark");
     ask("06 at a record", 6, 0x0117, 0);
     expect_error(2, CEDARSKEIN_ADDRESS, 0x0117);
     ask("05 at a record", 5, 0x0117, 0);

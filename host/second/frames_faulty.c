@@ -78,6 +78,10 @@ static uint32_t open_start(const struct making *making, bool write)
  * at a record's is another matter. */
 static bool closed_start(const struct making *making, bool write, uint32_t *start)
 {
+    if (write && making->made->records.is && chance(40)) {
+        *start = some_record(making->made, making->stored);
+        return true;
+    }
     for (int tries = 0; tries < MOST_TRIES; tries++) {
         *start = some_address(making->made);
         if (run_length(making->made, *start, write) == 0
@@ -85,6 +89,24 @@ static bool closed_start(const struct making *making, bool write, uint32_t *star
             return true;
     }
     return false;
+}
+
+/* A run up to the first record and further, of which all in front is open; false
+ * if nothing is open right there. */
+static bool run_to_records(struct making *making, bool write, uint32_t *start, uint32_t *count)
+{
+    uint32_t first = making->made->records.first;
+    uint32_t back = 1 + below(3);
+    if (!making->made->records.is || first < back)
+        return false;
+    if (run_length(making->made, first - back, write) != back)
+        back = 1;
+    if (run_length(making->made, first - back, write) != back)
+        return false;
+    *start = first - back;
+    *count = back + 1 + below(2);
+    making->closed = first;
+    return true;
 }
 
 /* The start of a run of at most so many addresses, and how many it has. */
@@ -95,7 +117,9 @@ static uint32_t make_run(struct making *making, bool write, uint32_t most, uint3
     *count = 1 + below(run < most ? run : most);
     if (!wants(making, REASON_ADDRESS))
         return start;
-    if (run < most && chance(70)) {
+    if (most > 1 && chance(90) && run_to_records(making, write, &start, count)) {
+        put_in(making, REASON_ADDRESS);
+    } else if (run < most && chance(70)) {
         *count = run + 1 + below(most - run < 3 ? most - run : 3);
         making->closed = start + run;
         put_in(making, REASON_ADDRESS);
@@ -245,7 +269,9 @@ static size_t faulty_clear(struct making *making, uint8_t *frame)
     uint32_t start = making->made->clear;
     uint32_t value = 0;
     if (wants(making, REASON_ADDRESS)) {
-        start = (start + ONE_OF(1, 0xFFFF, 1 + below(0xFFFF))) & 0xFFFF;
+        start = making->made->records.is && chance(30)
+            ? some_record(making->made, making->stored)
+            : (start + ONE_OF(1, 0xFFFF, 1 + below(0xFFFF))) & 0xFFFF;
         making->closed = start;
         put_in(making, REASON_ADDRESS);
     }

@@ -395,7 +395,7 @@ uint32_t some_record(const struct made *made, uint32_t stored)
 
 static uint32_t some_record_count(void)
 {
-    return chance(70) ? 1
+    return chance(62) ? 1
         : ONE_OF(0, 0, 0, 2, 2, 2, 3, 46, 47, 47, 47, 48, 48, 49, 0x0101, 0xFFFF);
 }
 
@@ -410,7 +410,16 @@ static size_t body_record(const struct made *made, uint32_t stored, uint8_t *fra
     return put_start(frame, 0x03, start, count);
 }
 
-/* From the area in front of the records into them: a read or a write. */
+/* A write of several whose count is sometimes not that of its bytes. */
+static void put_counts(uint8_t *frame, uint32_t count)
+{
+    frame[6] = (uint8_t)(2 * count);
+    if (chance(20))
+        put16(frame + 4, 0, count + ONE_OF(0, 1, 0x80, 0x0100, 0x10000 - count));
+}
+
+/* From the area in front of the records, if there is one, into them: a read or a
+ * write. */
 static size_t body_into_records(const struct made *made, uint8_t *frame)
 {
     uint32_t back = 1 + below(3);
@@ -418,10 +427,10 @@ static size_t body_into_records(const struct made *made, uint8_t *frame)
         back = 1;
     uint32_t start = made->records.first - back;
     uint32_t count = back + 1 + below(2);
-    if (chance(40))
+    if (chance(36))
         return put_start(frame, 0x03, start, count);
     size_t n = put_start(frame, 0x10, start, count) + 1;
-    frame[6] = (uint8_t)(2 * count);
+    put_counts(frame, count);
     put_words(made, frame + n, start, count, 100);
     return n + 2 * (size_t)count;
 }
@@ -431,24 +440,26 @@ static size_t body_on_record(const struct made *made, uint32_t stored, uint8_t *
 {
     uint32_t start = some_record(made, stored);
     uint32_t count = 1 + below(3);
-    switch (below(3)) {
+    switch (below(4)) {
     case 0: return put_start(frame, 0x05, start, chance(60) ? 0 : ONE_OF(1, 0xFF00));
     case 1: return put_start(frame, 0x06, start, below(0x10000));
     default: break;
     }
     size_t n = put_start(frame, 0x10, start, count) + 1;
-    frame[6] = (uint8_t)(2 * count);
+    put_counts(frame, count);
     noise_fill(frame + n, 2 * (size_t)count);
     return n + 2 * (size_t)count;
 }
 
+/* Into the records mostly where an area lies right in front of them. */
 static size_t body_of_records(const struct made *made, uint32_t stored, uint8_t *frame)
 {
     bool next = made_area_of(made, made->records.first - 1) >= 0;
     uint32_t sort = below(20);
-    if (sort < 11 || (sort < 17 && !next))
-        return body_record(made, stored, frame);
-    return sort < 17 ? body_into_records(made, frame) : body_on_record(made, stored, frame);
+    if (sort < 4)
+        return body_on_record(made, stored, frame);
+    return made->records.first > 0 && sort < (next ? 17 : 6) ? body_into_records(made, frame)
+                                                             : body_record(made, stored, frame);
 }
 
 /* ---- Frames ---- */
@@ -480,7 +491,7 @@ static make_body *some_body(void)
 /* About records, where there are any, in so many of a hundred. */
 static size_t put_body(const struct made *made, uint32_t stored, uint8_t *frame)
 {
-    if (made->records.is && chance(48))
+    if (made->records.is && chance(50))
         return body_of_records(made, stored, frame);
     return some_body()(made, frame);
 }

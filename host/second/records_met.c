@@ -49,6 +49,59 @@ static bool has_ring(const struct call *call)
         || call->sort == CALL_ADD_RECORD;
 }
 
+/* ---- Runs of addresses ---- */
+
+/* How many addresses a frame is about, from its start on. */
+static uint32_t run_of(const uint8_t *frame)
+{
+    return frame[1] == 0x03 || frame[1] == 0x10 ? get16(frame + 4, 0) : 1;
+}
+
+/* Whether the call's frame gets to the records from in front of them. */
+static bool runs_into_records(const struct call *call)
+{
+    struct records records = records_of(call);
+    const uint8_t *frame = call->part[PART_BYTES];
+    if (!records.is || call->part_n[PART_BYTES] < 8)
+        return false;
+    uint32_t start = get16(frame + 2, 0);
+    return start < records.first && records.first < start + run_of(frame);
+}
+
+/* Whether some area lets a function have an address: a read any, a write one of
+ * access 3. */
+static bool is_open(const uint8_t *sheet, uint8_t function, uint32_t address)
+{
+    for (size_t row = 12; row < get16(sheet, 4); row += 4)
+        if (get16(sheet, row) <= address && address <= get16(sheet, row + 1))
+            return function == 0x03 || get16(sheet, row + 3) == 3;
+    return false;
+}
+
+/* Of a frame at a record or on its way there, the first address that is not
+ * open: the first record's at the latest. */
+static uint32_t first_shut(const struct call *call, const struct records *records)
+{
+    const uint8_t *frame = call->part[PART_BYTES];
+    uint32_t address = get16(frame + 2, 0);
+    while (address < records->first && is_open(call->part[PART_SHEET], frame[1], address))
+        address++;
+    return address;
+}
+
+/* Whether a 10 has no count, or not two bytes for each word. */
+static bool counts_differ(const uint8_t *frame)
+{
+    return frame[1] == 0x10 && (get16(frame + 4, 0) == 0 || frame[6] != 2 * get16(frame + 4, 0));
+}
+
+static bool is_closed_function(const struct call *call)
+{
+    static const uint8_t bit_of[17] = { [0x03] = 1, [0x05] = 2, [0x06] = 4, [0x10] = 8 };
+    uint8_t function = call->part[PART_BYTES][1];
+    return function > 0x10 || (get16(call->part[PART_SHEET], 6) & bit_of[function]) == 0;
+}
+
 /* ---- A sheet that is taken ---- */
 
 /* Two runs of addresses share one if the first address of either is in the
@@ -143,7 +196,21 @@ static const char *read_breach(const struct call *call, const struct records *re
     return NULL;
 }
 
-/* What no frame that starts at a record does, whatever its function. */
+/* The reply to a write or a clear at a record, and to a run from outside into the
+ * records. */
+static const char *shut_breach(const struct call *call, const struct outcome *outcome)
+{
+    if (counts_differ(call->part[PART_BYTES]))
+        return is_error(3, outcome) ? NULL
+            : "a write to records whose counts do not agree was not met with error 03";
+    if (is_error(2, outcome))
+        return NULL;
+    return starts_at_record(call) ? "a write or clear at a record was not met with error 02"
+                                  : "a run into the records was not met with error 02";
+}
+
+/* What no frame does that starts at a record or gets there, whatever its
+ * function. */
 static const char *rest_breach(const struct call *call, const struct outcome *outcome)
 {
     size_t n = outcome->length;
@@ -161,33 +228,23 @@ static const char *rest_breach(const struct call *call, const struct outcome *ou
 static const char *reply_breach(const struct call *call, const struct records *records,
                                 const struct outcome *outcome)
 {
-    static const uint8_t bit_of[17] = { [0x03] = 1, [0x05] = 2, [0x06] = 4, [0x10] = 8 };
-    uint8_t function = call->part[PART_BYTES][1];
-    if (!starts_at_record(call))
+    if (!starts_at_record(call) && !runs_into_records(call))
         return NULL;
     if (rest_breach(call, outcome) != NULL)
         return rest_breach(call, outcome);
-    if (function > 0x10 || (get16(call->part[PART_SHEET], 6) & bit_of[function]) == 0)
+    if (is_closed_function(call))
         return is_error(1, outcome) ? NULL : "a closed function at a record got no error 01";
-    if (function == 0x03)
+    if (call->part[PART_BYTES][1] == 0x03 && starts_at_record(call))
         return read_breach(call, records, outcome);
-    if (function != 0x10 && !is_error(2, outcome))
-        return "a write or clear at a record was not met with error 02";
-    if (function == 0x10 && !is_error(2, outcome) && !is_error(3, outcome))
-        return "a write at a record was not met with an error";
-    return NULL;
+    return shut_breach(call, outcome);
 }
 
-/* The reason for what a read that starts at a record gets, if that is behind
- * the frame's length. */
-static const char *reason_breach(const struct call *call, const struct records *records,
-                                 const struct outcome *outcome)
+/* The reason for what a read that starts at a record gets. */
+static const char *read_reason_breach(const struct call *call, const struct records *records,
+                                      const struct outcome *outcome)
 {
     const uint8_t *frame = call->part[PART_BYTES];
     uint32_t reason = outcome->reason;
-    if (!starts_at_record(call) || frame[1] != 0x03
-        || (REASON_TOO_SHORT <= reason && reason <= REASON_BODY_LENGTH))
-        return NULL;
     uint32_t start = get16(frame + 2, 0);
     if (get16(frame + 4, 0) != 1)
         return reason == REASON_BAD_COUNT ? NULL : "the reason for not one record is not the count";
@@ -195,6 +252,59 @@ static const char *reason_breach(const struct call *call, const struct records *
     if (!stored && (reason != REASON_ADDRESS || outcome->address != start))
         return "the reason for a record not stored is not its address";
     return stored && reason != REASON_NONE ? "there is a reason against a stored record" : NULL;
+}
+
+/* The reason for what a write or a clear at a record gets, or a run from outside
+ * into the records. A wrong count comes first, of a read one of more than 47. */
+static const char *shut_reason_breach(const struct call *call, const struct records *records,
+                                      const struct outcome *outcome)
+{
+    const uint8_t *frame = call->part[PART_BYTES];
+    if (counts_differ(frame) || (frame[1] == 0x03 && get16(frame + 4, 0) > 47))
+        return outcome->reason == REASON_BAD_COUNT ? NULL
+            : "the reason for a wrong count, at or into records, is not the count";
+    if (outcome->reason != REASON_ADDRESS)
+        return "the reason for a run into records, or a write there, is not an address";
+    if (outcome->address != first_shut(call, records))
+        return "the address of a run into records, or a write there, is not the first shut";
+    return NULL;
+}
+
+/* The reason for a frame that starts at a record or gets there, if the reason is
+ * behind the frame's length. */
+static const char *reason_breach(const struct call *call, const struct records *records,
+                                 const struct outcome *outcome)
+{
+    if ((!starts_at_record(call) && !runs_into_records(call))
+        || (REASON_TOO_SHORT <= outcome->reason && outcome->reason <= REASON_BODY_LENGTH))
+        return NULL;
+    if (is_closed_function(call))
+        return "the reason for a closed function at a record is behind the function";
+    if (call->part[PART_BYTES][1] == 0x03 && starts_at_record(call))
+        return read_reason_breach(call, records, outcome);
+    return shut_reason_breach(call, records, outcome);
+}
+
+/* ---- Posting ---- */
+
+/* Whether one of the posted words, of which there are some, would go to a
+ * record. */
+static bool posts_to_record(const struct call *call, const struct records *records)
+{
+    size_t n = call->part_n[PART_BYTES];
+    uint64_t end = (uint64_t)call->value + n / 2;
+    return records->is && n > 0 && n % 2 == 0 && records->first < end
+        && call->value < records->first + records->count;
+}
+
+static const char *post_breach(const struct call *call, const struct records *records,
+                               const struct outcome *outcome)
+{
+    if (!posts_to_record(call, records))
+        return NULL;
+    if (outcome->number != NUMBER_POSTED_ADDRESS)
+        return "words posted at a record, or into the records, were not met with 6";
+    return bank_changed(call) ? "words posted at a record have changed the bank" : NULL;
 }
 
 /* ---- Adding ---- */
@@ -262,10 +372,12 @@ const char *record_breach(const struct call *call, const struct outcome *outcome
     if (outcome->number == NUMBER_SHEET)
         return NULL;
     const char *breach = sheet_breach(call);
-    if (breach != NULL || !has_ring(call) || outcome->number == NUMBER_BANK_SIZE
+    if (breach != NULL || outcome->number == NUMBER_BANK_SIZE
         || outcome->number == NUMBER_BANK_SOUND)
         return breach;
-    return ring_breach(call, &records, outcome);
+    if (call->sort == CALL_POST)
+        return post_breach(call, &records, outcome);
+    return has_ring(call) ? ring_breach(call, &records, outcome) : NULL;
 }
 
 /* ---- The list of records by their age ----
@@ -573,29 +685,35 @@ static void count_not_read(struct counts *counts, const struct call *call,
     met(counts, SPECIAL_RECORD_OF_NONE, count == 1 && stored == 0);
 }
 
-/* Whether the first address that is not open to the frame is this one. */
-static bool stops_at(const struct call *call, uint32_t address)
-{
-    uint32_t reason, told;
-    second_why(call->part[PART_SHEET], call->part_n[PART_SHEET], call->part[PART_BANK],
-               call->part_n[PART_BANK], call->part[PART_RING], call->part_n[PART_RING],
-               call->part[PART_BYTES], call->part_n[PART_BYTES], &reason, &told);
-    return reason == REASON_ADDRESS && told == address;
-}
-
 /* A frame that got error 02, at a record or on its way to the records. */
 static void count_closed(struct counts *counts, const struct call *call,
                          const struct records *records)
 {
-    const uint8_t *frame = call->part[PART_BYTES];
-    uint32_t start = get16(frame + 2, 0);
-    bool at = has_address(records, start);
-    bool into = start < records->first && stops_at(call, records->first);
-    met(counts, SPECIAL_READ_INTO_RECORDS, into && frame[1] == 0x03);
-    met(counts, SPECIAL_WRITE_INTO_RECORDS, into && frame[1] == 0x10);
-    met(counts, SPECIAL_CLEAR_AT_RECORD, at && frame[1] == 0x05);
-    met(counts, SPECIAL_WRITE_ONE_RECORD, at && frame[1] == 0x06);
-    met(counts, SPECIAL_WRITE_MANY_RECORD, at && frame[1] == 0x10);
+    uint8_t function = call->part[PART_BYTES][1];
+    bool at = starts_at_record(call);
+    bool into = runs_into_records(call) && first_shut(call, records) == records->first;
+    met(counts, SPECIAL_READ_INTO_RECORDS, into && function == 0x03);
+    met(counts, SPECIAL_WRITE_INTO_RECORDS, into && function == 0x10);
+    met(counts, SPECIAL_CLEAR_AT_RECORD, at && function == 0x05);
+    met(counts, SPECIAL_WRITE_ONE_RECORD, at && function == 0x06);
+    met(counts, SPECIAL_WRITE_MANY_RECORD, at && function == 0x10);
+}
+
+/* The same frames, where the address is the reason. */
+static void count_shut(struct counts *counts, const struct call *call,
+                       const struct outcome *outcome)
+{
+    struct records records = records_of(call);
+    uint8_t function = call->part[PART_BYTES][1];
+    bool at = starts_at_record(call);
+    bool into = runs_into_records(call);
+    bool reached = into && outcome->address == records.first;
+    met(counts, SPECIAL_WHY_READ_INTO_RECORDS, reached && function == 0x03);
+    met(counts, SPECIAL_WHY_WRITE_INTO_RECORDS, reached && function == 0x10);
+    met(counts, SPECIAL_WHY_SHUT_IN_FRONT, into && !reached);
+    met(counts, SPECIAL_WHY_CLEAR_AT_RECORD, at && function == 0x05);
+    met(counts, SPECIAL_WHY_WRITE_ONE_RECORD, at && function == 0x06);
+    met(counts, SPECIAL_WHY_WRITE_MANY_RECORD, at && function == 0x10);
 }
 
 static void count_answer(struct counts *counts, const struct call *call,
@@ -611,6 +729,8 @@ static void count_answer(struct counts *counts, const struct call *call,
         count_not_read(counts, call, &records);
     else if (is_error(2, outcome))
         count_closed(counts, call, &records);
+    if (is_error(3, outcome) && counts_differ(call->part[PART_BYTES]))
+        met(counts, SPECIAL_COUNTS_AT_RECORD, starts_at_record(call) || runs_into_records(call));
 }
 
 /* ---- Counting the rest ---- */
@@ -660,4 +780,6 @@ void count_records(struct counts *counts, const struct call *call,
         count_add(counts, call, outcome);
     if (call->sort == CALL_ANSWER && outcome->number == NUMBER_DONE)
         count_answer(counts, call, outcome);
+    if (call->sort == CALL_WHY && outcome->reason == REASON_ADDRESS)
+        count_shut(counts, call, outcome);
 }

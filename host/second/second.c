@@ -43,7 +43,7 @@ static uint32_t address_place(const struct sheet *sheet) { return sheet_word(she
 static uint32_t rate_place(const struct sheet *sheet) { return sheet_word(sheet, 9); }
 static uint32_t clear_address(const struct sheet *sheet) { return sheet_word(sheet, 10); }
 
-/* Word 11 says whether there is a record area. */
+/* rule S11: word 11 says whether there is a record area. */
 static bool has_records(const struct sheet *sheet) { return sheet_word(sheet, 11) == 1; }
 
 /* rule S20: the words of an area row */
@@ -169,7 +169,7 @@ static size_t area_of_address(const struct sheet *sheet, uint64_t address)
     return area;
 }
 
-/* The three words of a record area, behind the item rows. */
+/* rule S80: the three words of a record area, behind the item rows. */
 static uint32_t records_word(const struct sheet *sheet, size_t column)
 {
     return sheet_word(sheet, 12 + 4 * (size_t)area_count(sheet) + 6 * (size_t)item_count(sheet)
@@ -180,14 +180,14 @@ static uint32_t records_first(const struct sheet *sheet) { return records_word(s
 static uint32_t record_count(const struct sheet *sheet) { return records_word(sheet, 1); }
 static uint32_t record_words(const struct sheet *sheet) { return records_word(sheet, 2); }
 
-/* The address behind the last record; it is above FFFF where the area ends
- * there or beyond. */
+/* rule S86: the address behind the last record; it is above FFFF where the area
+ * ends there or beyond. */
 static uint32_t records_end(const struct sheet *sheet)
 {
     return records_first(sheet) + record_count(sheet);
 }
 
-/* False for every address where the sheet has no record area. */
+/* rule S86; false for every address where the sheet has no record area. */
 static bool is_record_address(const struct sheet *sheet, uint32_t address)
 {
     return has_records(sheet) && records_first(sheet) <= address && address < records_end(sheet);
@@ -499,24 +499,27 @@ static bool keeps_rate_range(const struct sheet *sheet)
 
 enum { MOST_RECORDS = 6600, MOST_RECORD_WORDS = 47 };
 
+/* rule S81 */
 static bool keeps_record_count(const struct sheet *sheet)
 {
     return !has_records(sheet)
         || (1 <= record_count(sheet) && record_count(sheet) <= MOST_RECORDS);
 }
 
+/* rule S82 */
 static bool keeps_record_words(const struct sheet *sheet)
 {
     return !has_records(sheet)
         || (1 <= record_words(sheet) && record_words(sheet) <= MOST_RECORD_WORDS);
 }
 
+/* rule S83 */
 static bool keeps_records_end(const struct sheet *sheet)
 {
     return !has_records(sheet) || records_end(sheet) <= 0x10000;
 }
 
-/* A record area of no records has no address to share. */
+/* rule S84, of one area. A record area of no records has no address to share. */
 static bool records_share(const struct sheet *sheet, size_t area)
 {
     return area_length(sheet, area) > 0 && record_count(sheet) > 0
@@ -524,6 +527,7 @@ static bool records_share(const struct sheet *sheet, size_t area)
         && area_first(sheet, area) < records_end(sheet);
 }
 
+/* rule S84 */
 static bool keeps_records_apart(const struct sheet *sheet)
 {
     for (size_t area = 0; has_records(sheet) && area < area_count(sheet); area++)
@@ -532,6 +536,7 @@ static bool keeps_records_apart(const struct sheet *sheet)
     return true;
 }
 
+/* rule S85 */
 static bool keeps_clear_off_records(const struct sheet *sheet)
 {
     return !clear_allowed(sheet) || !is_record_address(sheet, clear_address(sheet));
@@ -703,27 +708,30 @@ uint32_t second_bank_fresh(const uint8_t *sheet, size_t sheet_n,
 
 enum { RING_HEAD = 4 };
 
+/* rule T1 */
 static uint32_t ring_newest(const uint8_t *ring) { return word_at(ring, 0); }
 static uint32_t ring_stored(const uint8_t *ring) { return word_at(ring, 1); }
 
+/* rule S80: a record's words, as bytes. */
 static size_t record_bytes(const struct sheet *sheet)
 {
     return 2 * (size_t)record_words(sheet);
 }
 
+/* rules T2 and T14 */
 static size_t ring_size(const struct sheet *sheet)
 {
     return has_records(sheet) ? RING_HEAD + record_count(sheet) * record_bytes(sheet) : 0;
 }
 
-/* Where the record of a place begins in the ring. */
+/* rule T2: where the record of a place begins in the ring. */
 static size_t record_offset(const struct sheet *sheet, uint32_t place)
 {
     return RING_HEAD + place * record_bytes(sheet);
 }
 
-/* Of a ring of the right size. What the records' room holds is free, and so is
- * the newest one's place unless nothing is stored. */
+/* rules T11 to T13, of a ring of the right size. What the records' room holds is
+ * free, and so is the newest one's place unless nothing is stored. */
 static bool ring_sound(const struct sheet *sheet, const uint8_t *ring)
 {
     if (ring_newest(ring) >= record_count(sheet) || ring_stored(ring) > record_count(sheet))
@@ -731,7 +739,7 @@ static bool ring_sound(const struct sheet *sheet, const uint8_t *ring)
     return ring_stored(ring) > 0 || ring_newest(ring) == 0;
 }
 
-/* Whether 8 is told of a ring, of a sound sheet. */
+/* rule N8, of a sound sheet: rules T10 and T14. */
 static bool ring_refused(const struct sheet *sheet, const uint8_t *ring, size_t ring_n)
 {
     if (ring_n != ring_size(sheet))
@@ -739,20 +747,21 @@ static bool ring_refused(const struct sheet *sheet, const uint8_t *ring, size_t 
     return has_records(sheet) && !ring_sound(sheet, ring);
 }
 
-/* The place of a record by its number; 1 is the newest, and each next one lies
- * in front of the one before, round from place 0 to the last. */
+/* rule T20: the place of a record by its number; 1 is the newest, and each next
+ * one lies in front of the one before, round from place 0 to the last. */
 static uint32_t place_of_record(const struct sheet *sheet, const uint8_t *ring, uint32_t number)
 {
     return (ring_newest(ring) + record_count(sheet) - (number - 1)) % record_count(sheet);
 }
 
-/* Where the next record goes: the first to place 0, every other behind the
- * newest. In a full ring that is the oldest one's room. */
+/* rule T30: where the next record goes, the first to place 0, every other behind
+ * the newest. In a full ring that is the oldest one's room. */
 static uint32_t next_place(const struct sheet *sheet, const uint8_t *ring)
 {
     return ring_stored(ring) == 0 ? 0 : (ring_newest(ring) + 1) % record_count(sheet);
 }
 
+/* rules N50 and N51, here 2 and 8. */
 uint32_t second_ring_check(const uint8_t *sheet, size_t sheet_n,
                            const uint8_t *ring, size_t ring_n)
 {
@@ -762,7 +771,8 @@ uint32_t second_ring_check(const uint8_t *sheet, size_t sheet_n,
     return ring_refused(&rows, ring, ring_n) ? NUMBER_RING : NUMBER_DONE;
 }
 
-/* To a sheet without a record area nothing can be added, whatever the ring. */
+/* rules T30 to T33, and N50 with 2, 8 and 7. To a sheet without a record area
+ * nothing can be added, whatever the ring. */
 uint32_t second_add_record(const uint8_t *sheet, size_t sheet_n,
                            uint8_t *ring, size_t ring_n,
                            const uint8_t *record, size_t record_n)
@@ -782,7 +792,7 @@ uint32_t second_add_record(const uint8_t *sheet, size_t sheet_n,
     return NUMBER_DONE;
 }
 
-/* The refusals ahead of a frame, 2, 3, 4 and 8. */
+/* rules N50 and N51: the refusals ahead of a frame, 2, 3, 4 and 8. */
 static uint32_t refuse_ring(const struct sheet *sheet, const uint8_t *bank, size_t bank_n,
                             const uint8_t *ring, size_t ring_n)
 {
@@ -910,13 +920,13 @@ static bool is_write(const struct query *query)
     return function_of(query) == WRITE_ONE || function_of(query) == WRITE_MANY;
 }
 
-/* Whether the frame is a read that starts in the record area. */
+/* rules J53 and J66: whether the frame is a read that starts in the record area. */
 static bool reads_records(const struct query *query)
 {
     return function_of(query) == READ && is_record_address(&query->sheet, start_of(query));
 }
 
-/* The number of the record that such a read asks for. */
+/* rule S86: the number of the record that such a read asks for. */
 static uint32_t record_asked(const struct query *query)
 {
     return start_of(query) - records_first(&query->sheet) + 1;
@@ -993,7 +1003,7 @@ static enum second_step step_4(const struct query *query)
     return GOES_ON;
 }
 
-/* step 5: rules J50 to J52, and one record at a time, however many are stored */
+/* step 5: rules J50 to J53; of records one at a time, however many are stored. */
 static enum second_step step_5(const struct query *query)
 {
     uint32_t count = count_or_value_of(query);
@@ -1031,7 +1041,7 @@ static enum second_step step_6_run(const struct query *query)
     return step;
 }
 
-/* step 6: rules J60 to J65, and the number of a record */
+/* step 6: rules J60 to J66 */
 static enum second_step step_6(const struct query *query)
 {
     if (reads_records(query))
@@ -1192,7 +1202,7 @@ static uint32_t reply_words(const struct query *query, uint8_t *out)
     return 3 + 2 * count;
 }
 
-/* A whole record, as it was added. */
+/* rules R9 and T21: a whole record, as it was added. */
 static uint32_t reply_record(const struct query *query, uint8_t *out)
 {
     const struct sheet *sheet = &query->sheet;
@@ -1352,7 +1362,7 @@ static bool has_other_length(const struct query *query)
     return query->n != 8;
 }
 
-/* How many registers a read may ask for: of records, one. */
+/* How many registers a read may ask for: rule J64, and of records one, rule J53. */
 static uint32_t most_read(const struct query *query)
 {
     return is_record_address(&query->sheet, start_of(query)) ? 1 : 47;
@@ -1377,8 +1387,8 @@ static uint32_t addresses_of(const struct query *query)
     return function == READ || function == WRITE_MANY ? count_or_value_of(query) : 1;
 }
 
-/* Whether a read may have an address: one of an area, or the address of a
- * stored record if that is where the read starts. */
+/* Whether a read may have an address: one of an area, rule J60, or the address of
+ * a stored record, rule J66, if that is where the read starts. */
 static bool is_open_to_read(const struct query *query, uint32_t address)
 {
     const struct sheet *sheet = &query->sheet;

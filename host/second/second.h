@@ -42,7 +42,7 @@ uint32_t second_add_record(const uint8_t *sheet, size_t sheet_n,
                            uint8_t *ring, size_t ring_n,
                            const uint8_t *record, size_t record_n);
 
-/* The numbers of the rules N0 to N7, and that of a ring. */
+/* The numbers of the rules N0 to N8. */
 enum second_number {
     NUMBER_DONE = 0,
     NUMBER_SILENCE = 1,
@@ -56,8 +56,8 @@ enum second_number {
     NUMBER_COUNT
 };
 
-/* The rules of a sheet, in their order: rules S0 to S64, and those of a record
- * area. */
+/* The rules of a sheet, in their order: rules S0 to S64, and rules S81 to S85 of
+ * a record area. */
 enum second_rule {
     RULE_NONE,
     RULE_HEADER,
