@@ -1,4 +1,4 @@
--- What the customer's demands suppose of a call with one frame, and what he sees of it. The ring is lent to be read, so that it is as it was (rule D26).
+-- What the customer's demands suppose of a call with one frame, and what he sees of it. The ring is only read, and stays as it was (rule D26).
 -- Assumes nothing.
 use mathlib.Core.Path.{_≡_}
 use mathlib.Core.Bool.{true}

@@ -17,7 +17,7 @@ pub const WRITES_ONE: u8 = 0x06;
 
 pub const WRITES_MANY: u8 = 0x10;
 
-// The most words that a read has room for in the longest frame.
+// The most words that the reply to a read has room for in the longest frame.
 pub const MOST_READ: u16 = 47;
 
 // How many bytes an error and an echo have with their check.
@@ -116,7 +116,7 @@ fn lay_words(source: &[u8], buffer: &mut [u8], first: u32, many: u32)
     }
 }
 
-// Rules R1 and R6. The words are those of a source, from a place on.
+// Rules R1, R6 and R9. The words are those of a source, from a place on.
 pub fn reply_read(source: &[u8], frame: &[u8], buffer: &mut [u8], first: u32, many: u32) -> u32
     ensures { λ r. ⌜ fill r (now (buffer .exit)) ≡ layReply (withCheck (readReply (now (source .entry)) (now (frame .entry)) first many)) (now (buffer .entry)) ⌝ }
 {

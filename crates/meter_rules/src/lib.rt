@@ -25,7 +25,7 @@ pub enum Judgement {
     Stops(Judged),
 }
 
-// What a call with one frame answers. An error is a reply too: the five bytes of its code.
+// What a call with one frame answers. An error is a reply too: five bytes, by its code.
 pub enum Answered {
     Reply { length: u32, rate: u16 },
     Error { code: u8, rate: u16 },

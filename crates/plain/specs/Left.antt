@@ -100,7 +100,7 @@ pub record Stored (given : Lent) (frame : List ℕ) (k place : ℕ) : Type 0 whe
   pub inFront : (kind first low high value : ℕ) → ItemRow (given .sheet) kind first low high → Touches (given .sheet) frame kind first
       → ValueWouldBe given frame first value kind → (Within kind low high value → ⊥) → place < first
 
--- rule K8, a good clear sets the mark, the word behind the bank's B words (header word 5)
+-- rule K8, a good clear makes the mark 0, the word behind the bank's B words (header word 5)
 abbrev pub Clears : Lent → List ℕ → ℕ → Type 0
 Clears given frame place = Gets given frame good × (byte frame 1 ≡ 0x05) × (place ≡ word (given .sheet) 10)
 

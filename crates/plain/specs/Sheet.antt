@@ -1,5 +1,5 @@
--- The rows of a sheet by the bytes that they stand at, and what lies at an address. Header word n is at byte 2n; four words of an area row
--- stand from word 12 on, six words of an item row behind the area rows. Assumes nothing.
+-- The rows of a sheet by the bytes that they stand at, and what lies at an address. Header word n is at byte 2n. From word 12 on stand
+-- the area rows, of four words each, and behind them the item rows, of six. Assumes nothing.
 use mathlib.Core.Path.{_≡_}
 use mathlib.Core.List.{List}
 use Prim.Native.Nat.{ℕ, _+_, _-_, _*_, _≤_, _<_}

@@ -1,4 +1,4 @@
--- What a promise of the door comes to on the kit's model machine: what is handed to a call lies in its memory, numbers passed aside, and from every
+-- What a promise of the door comes to on the kit's model machine: what is handed to a call, but for numbers, lies in its memory, and from every
 -- such memory the call ends, hands back and leaves what is promised, and touches nothing else. (`Satisfies` is the kit's: the memory is σ, and the
 -- assertion holds beside it. `sep` says that two things lie apart.) Definitions alone.
 use mathlib.Core.Path.{_≡_}

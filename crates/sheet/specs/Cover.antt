@@ -22,8 +22,8 @@ placesLeft sheet cover =
     upFrom (cover .next) (cover .end - cover .next)
     ++ writablePlaces (rows (areaAt sheet) (cover .area) (areaCount sheet - cover .area))
 
--- a cover that is under way: a pair at a place that is left of the area at hand lies within one area just where the next place is left
--- of that area too
+-- a cover that is under way: a pair at one of the places that the area at hand has left lies within one area just where the next place is one of
+-- them too
 pub record UnderWay (sheet : List ℕ) (cover : Cover) : Type 0 where
   pub order : each firstLastRule (areas sheet) ≡ true
   pub follow : placesFollow 0 (areas sheet) ≡ true

@@ -1,4 +1,5 @@
--- The rules of a sheet, each a definition, in their order. Each has its answer on any bytes, whatever the others say. Assumes nothing.
+-- The rules of a sheet, each a definition: of the header, the areas, the items, address and rate, and the record area. Each has its answer on any bytes,
+-- whatever the others say. Assumes nothing.
 use Prim.Native.Nat.{ℕ, _+_, _-_, _*_, _/_, _%_}
 use mathlib.Core.Bool.{Bool, true, not, _&&_, _||_, cond}
 use mathlib.Core.List.{List, [], _∷_, _++_}

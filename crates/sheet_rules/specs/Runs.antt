@@ -1,4 +1,5 @@
--- What a run of addresses is for, whether each address of it is open to that, and how far it is. Assumes nothing.
+-- What a run of addresses is for, whether each address of it is open to that, and how far the open addresses go: rules J60, J61 and J63.
+-- Assumes nothing.
 use Prim.Native.Nat.{ℕ, _+_}
 use mathlib.Core.Bool.{Bool, false, cond, _&&_}
 use mathlib.Core.List.{List, [], _∷_}

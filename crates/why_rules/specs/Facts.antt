@@ -33,7 +33,7 @@ checkDiffers frame = not (checkAgrees frame)
 abbrev pub readsTooMany : List ℕ → List ℕ → Bool
 readsTooMany sheet frame = eqb (function frame) reads && ltb mostRead (second frame) && not (startsInRecords sheet frame)
 
--- rule Y16: what step 5 tests, and that
+-- rule Y16: what step 5 tests, or a read of too many
 abbrev pub badCount : List ℕ → List ℕ → Bool
 badCount sheet frame = wrongCount sheet frame || readsTooMany sheet frame
 
