@@ -45,10 +45,14 @@ def asked_with_ring(data, sheet="history_example"):
     return lambda why: why.run(sheet, "-r", why.file("ring", data), "-f", sealed("02 03 04 00 00 01"))
 
 
+def asked_with_words(sheet, word_11):
+    """A sheet whose word 7 has its length, and word 11 what is given."""
+    return lambda why: why.sheet(sheet[:14] + bytes_of((len(sheet) // 2,)) + sheet[16:22] + bytes_of((word_11,)) + sheet[24:])
+
+
 def asked_with_sheet(functions, records, word_11=1):
     """A sheet that has a bad record area."""
-    sheet = sheet_of(functions, IN_ONE_AREA, records=records)
-    return lambda why: why.sheet(sheet[:22] + bytes_of((word_11,)) + sheet[24:])
+    return asked_with_words(sheet_of(functions, IN_ONE_AREA, records=records), word_11)
 
 
 def bad_area(first, records, words):
@@ -56,6 +60,12 @@ def bad_area(first, records, words):
             "1 to 47 words, at addresses up to FFFF that nothing else has")
 
 
+def bad_word_11(word):
+    return (f"status 2: sheet: no sheet: its word 11 is {word}; by request W3 of document 02 it is the number of record areas at the sheet's end, "
+            "0 or 1")
+
+
+BREAKS_01 = "status 2: sheet: no sheet: it breaks a rule of document 01"
 ONE_AT_A_TIME = "Error 03: a history record is read one at a time, with a count of 1; the frame has a count of"
 FOR_TWO = "Silence: the frame is for station 2; this meter is station 1"
 NO_HISTORY = "this meter's sheet has no history, so there is none to keep: leave RING out"
@@ -130,10 +140,16 @@ SHEETS = [
     ("a history at a register", asked_with_sheet(15, (0x0012, 3, 2)), bad_area(0x0012, 3, 2)),
     ("a history around the registers", asked_with_sheet(15, (0x0000, 64, 2)), bad_area(0x0000, 64, 2)),
     ("a history at the clear address", asked_with_sheet(15, (0x02FE, 3, 2)), bad_area(0x02FE, 3, 2)),
-    ("word 11 is 0, and a record area follows", asked_with_sheet(15, SMALL, 0), "status 2: sheet: no sheet: it breaks a rule of document 01"),
-    ("word 11 is 2", asked_with_sheet(15, SMALL, 2), "status 2: sheet: no sheet: it breaks a rule of document 01"),
-    ("word 11 is 1, and no record area follows", lambda why: why.sheet(sheet_of(15, IN_ONE_AREA)[:22] + b"\0\1" + sheet_of(15, IN_ONE_AREA)[24:]),
-     "status 2: sheet: no sheet: it breaks a rule of document 01"),
+    ("word 11 is 0, and a record area follows", asked_with_sheet(15, SMALL, 0), bad_word_11(0)),
+    ("word 11 is 2, and a record area follows", asked_with_sheet(15, SMALL, 2), bad_word_11(2)),
+    ("word 11 is 65535, and a bad record area follows", asked_with_sheet(15, (0x0400, 0, 2), 65535), bad_word_11(65535)),
+    ("word 11 is 1, and no record area follows", asked_with_words(sheet_of(15, IN_ONE_AREA), word_11=1), bad_word_11(1)),
+    ("word 11 is 2, and no record area follows", asked_with_words(sheet_of(15, IN_ONE_AREA), word_11=2), bad_word_11(2)),
+    ("word 11 is 2, and two record areas follow", asked_with_words(sheet_of(15, IN_ONE_AREA, records=SMALL) + bytes_of((0x0500, 3, 2)), word_11=2),
+     bad_word_11(2)),
+    ("word 11 is 0, a record area follows, and a rule of document 01 is broken", asked_with_sheet(16, SMALL, 0), BREAKS_01),
+    ("word 11 is 1, a record area follows, and a rule of document 01 is broken", asked_with_sheet(16, SMALL), BREAKS_01),
+    ("a file that has another number of words than word 7 says", lambda why: why.sheet(b"a letter, and no sheet. "), BREAKS_01),
 ]
 
 OF_WHY = [*READS, *RINGS, *SHEETS]
