@@ -203,11 +203,84 @@ def cut(bench):
         wait_for_records(bench, 2)
         meter.kill()
         meter.wait()
-    bench.write("ring.new", b"cut off")
+    bench.write("ring.a1B2c3", b"cut off")
     before = stored_in(bench)
-    with bench.running("-r", "ring", "-e1"):
+    with bench.running("-r", "ring", "-e1") as meter:
         wait_for_records(bench, before + 1)
-        return f"stored {before >= 2}, and one more {stored_in(bench) == before + 1}, left {sorted(os.listdir(bench.folder))}"
+        more = stored_in(bench) == before + 1
+        end_of(meter, signal.SIGTERM)
+    return f"stored {before >= 2}, and one more {more}, left {sorted(os.listdir(bench.folder))}"
+
+
+KINDS = {"a link": os.path.islink, "a folder": os.path.isdir, "a file": os.path.isfile}
+
+
+def beside(lay):
+    """A meter whose file has a neighbour that is the user's own, laid from a letter to ring.new."""
+    def trial(bench):
+        bench.write("letter", b"mine")
+        lay(bench.path("letter"), bench.path("ring.new"))
+        with bench.running("-r", "ring", "-e1") as meter:
+            wait_for_records(bench, 2)
+            end_of(meter, signal.SIGTERM)
+        kind = next((name for name, holds in KINDS.items() if holds(bench.path("ring.new"))), "nothing")
+        return f"stored {stored_in(bench) >= 2}; ring.new is {kind}, the letter holds {bench.read('letter').decode()}"
+    return trial
+
+
+def mode_kept(bench, mode):
+    bench.write("ring", ring_of(2, 3))
+    os.chmod(bench.path("ring"), mode)
+    with bench.running("-r", "ring", "-e1"):
+        wait_for_records(bench, 4)
+    return f"stored {stored_in(bench) >= 4}, mode {os.stat(bench.path('ring')).st_mode & 0o7777:o}"
+
+
+def without_room(bench):
+    """From here on a meter can write a part of a ring, as on a disk that fills up."""
+    bench.command = ["sh", "-c", 'ulimit -S -f 100; exec "$@"', "sh", *bench.command]
+
+
+def wait_for_words(bench, words):
+    deadline = time.monotonic() + 10
+    while words not in bench.read("screen").decode() and time.monotonic() < deadline:
+        time.sleep(0.02)
+
+
+def told(bench):
+    """What the meter's screen has behind the line that it is on."""
+    lines = bench.read("screen").decode().replace(bench.folder + "/", "").splitlines()
+    return "; ".join(lines[[line[:8] for line in lines].index("meter on") + 1:])
+
+
+def full_disk(bench):
+    """It is told once, though it holds for several records, and what was written of a new file is gone."""
+    before = ring_of(2, 3)
+    bench.write("ring", before)
+    without_room(bench)
+    with bench.running("-r", "ring", "-e1") as meter:
+        wait_for_words(bench, "not kept")
+        time.sleep(2.2)
+        ended = end_of(meter, signal.SIGTERM)
+    return f"{told(bench)}; {ended}, unchanged {bench.read('ring') == before}, left {sorted(os.listdir(bench.folder))}"
+
+
+def full_disk_at_first(bench):
+    without_room(bench)
+    said = bench.refused("-l", "line", "-r", "ring")
+    return f"{said}; {len(bench.read('ring'))} bytes, left {sorted(os.listdir(bench.folder))}"
+
+
+def folder_gone(bench):
+    """The ring's folder is moved away and back."""
+    os.mkdir(bench.path("here"))
+    with bench.running("-r", "here/ring", "-e1") as meter:
+        os.rename(bench.path("here"), bench.path("there"))
+        wait_for_words(bench, "not kept")
+        os.rename(bench.path("there"), bench.path("here"))
+        wait_for_words(bench, "again")
+        end_of(meter, signal.SIGTERM)
+    return told(bench)
 
 
 def never_torn(bench):
@@ -256,6 +329,7 @@ def bad_every(text):
 
 
 AT = "history at 0400 to 1DC7, 22 words to a record, the newest at 0400"
+GOES_ON = "The meter goes on; if it is switched off now, its newest records are lost"
 AS_IT_WAS = f"{LEFT}; unchanged True, link left False"
 SECONDS = "EVERY takes a number of seconds, 1 to 86400, and not"
 OF_METER = [
@@ -263,7 +337,20 @@ OF_METER = [
      f"the ring is empty, and kept in a ring; {AT}; stored: 0; one more every 5 seconds; {RING_SIZE} bytes, empty True; "
      f"then the ring is the one that a ring keeps; {AT}; stored: 0; one more every 60 seconds"),
     ("a ring that is not kept", with_history(not_kept), f"{AT}; stored: 0; one more every 1 second; files ['screen']"),
-    ("a meter that is killed", with_history(cut), "stored True, and one more True, left ['ring', 'screen']"),
+    ("a meter that is killed", with_history(cut), "stored True, and one more True, left ['ring', 'ring.a1B2c3', 'screen']"),
+    ("a file of the user's own beside the ring's", with_history(beside(os.link)), "stored True; ring.new is a file, the letter holds mine"),
+    ("a link of the user's own beside the ring's file", with_history(beside(os.symlink)), "stored True; ring.new is a link, the letter holds mine"),
+    ("a folder of the user's own beside the ring's file", with_history(beside(lambda _, path: os.mkdir(path))),
+     "stored True; ring.new is a folder, the letter holds mine"),
+    ("a ring's file for one reader", with_history(lambda bench: mode_kept(bench, 0o600)), "stored True, mode 600"),
+    ("a ring's file for all", with_history(lambda bench: mode_kept(bench, 0o666)), "stored True, mode 666"),
+    ("a disk that is full", with_history(full_disk),
+     f"the ring is not kept in ring: File too large. {GOES_ON}; meter off after 0 frames; status 0, unchanged True, left ['ring', 'screen']"),
+    ("a disk that is full at first", with_history(full_disk_at_first),
+     f"status 1: the ring's file ring: no ring can be kept in it: File too large. {LEFT}; 0 bytes, left ['ring']"),
+    ("a folder that is gone for a while", with_history(folder_gone),
+     f"the ring is not kept in here/ring: No such file or directory. {GOES_ON}; the ring is kept in here/ring again, with every record; "
+     "meter off after 0 frames"),
     ("a full ring, and one record more", with_history(never_torn),
      "the old one as it was True; the new one: 00 00 19 c8, the other records as they were True"),
     ("a link to the ring's file", with_history(through_link), "still a link True, stored True"),
