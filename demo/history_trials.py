@@ -45,10 +45,14 @@ def asked_with_ring(data, sheet="history_example"):
     return lambda why: why.run(sheet, "-r", why.file("ring", data), "-f", sealed("02 03 04 00 00 01"))
 
 
+def asked_with_words(sheet, word_11):
+    """A sheet whose word 7 has its length, and word 11 what is given."""
+    return lambda why: why.sheet(sheet[:14] + bytes_of((len(sheet) // 2,)) + sheet[16:22] + bytes_of((word_11,)) + sheet[24:])
+
+
 def asked_with_sheet(functions, records, word_11=1):
     """A sheet that has a bad record area."""
-    sheet = sheet_of(functions, IN_ONE_AREA, records=records)
-    return lambda why: why.sheet(sheet[:22] + bytes_of((word_11,)) + sheet[24:])
+    return asked_with_words(sheet_of(functions, IN_ONE_AREA, records=records), word_11)
 
 
 def bad_area(first, records, words):
@@ -56,6 +60,12 @@ def bad_area(first, records, words):
             "1 to 47 words, at addresses up to FFFF that nothing else has")
 
 
+def bad_word_11(word):
+    return (f"status 2: sheet: no sheet: its word 11 is {word}; by request W3 of document 02 it is the number of record areas at the sheet's end, "
+            "0 or 1")
+
+
+BREAKS_01 = "status 2: sheet: no sheet: it breaks a rule of document 01"
 ONE_AT_A_TIME = "Error 03: a history record is read one at a time, with a count of 1; the frame has a count of"
 FOR_TWO = "Silence: the frame is for station 2; this meter is station 1"
 NO_HISTORY = "this meter's sheet has no history, so there is none to keep: leave RING out"
@@ -130,10 +140,16 @@ SHEETS = [
     ("a history at a register", asked_with_sheet(15, (0x0012, 3, 2)), bad_area(0x0012, 3, 2)),
     ("a history around the registers", asked_with_sheet(15, (0x0000, 64, 2)), bad_area(0x0000, 64, 2)),
     ("a history at the clear address", asked_with_sheet(15, (0x02FE, 3, 2)), bad_area(0x02FE, 3, 2)),
-    ("word 11 is 0, and a record area follows", asked_with_sheet(15, SMALL, 0), "status 2: sheet: no sheet: it breaks a rule of document 01"),
-    ("word 11 is 2", asked_with_sheet(15, SMALL, 2), "status 2: sheet: no sheet: it breaks a rule of document 01"),
-    ("word 11 is 1, and no record area follows", lambda why: why.sheet(sheet_of(15, IN_ONE_AREA)[:22] + b"\0\1" + sheet_of(15, IN_ONE_AREA)[24:]),
-     "status 2: sheet: no sheet: it breaks a rule of document 01"),
+    ("word 11 is 0, and a record area follows", asked_with_sheet(15, SMALL, 0), bad_word_11(0)),
+    ("word 11 is 2, and a record area follows", asked_with_sheet(15, SMALL, 2), bad_word_11(2)),
+    ("word 11 is 65535, and a bad record area follows", asked_with_sheet(15, (0x0400, 0, 2), 65535), bad_word_11(65535)),
+    ("word 11 is 1, and no record area follows", asked_with_words(sheet_of(15, IN_ONE_AREA), word_11=1), bad_word_11(1)),
+    ("word 11 is 2, and no record area follows", asked_with_words(sheet_of(15, IN_ONE_AREA), word_11=2), bad_word_11(2)),
+    ("word 11 is 2, and two record areas follow", asked_with_words(sheet_of(15, IN_ONE_AREA, records=SMALL) + bytes_of((0x0500, 3, 2)), word_11=2),
+     bad_word_11(2)),
+    ("word 11 is 0, a record area follows, and a rule of document 01 is broken", asked_with_sheet(16, SMALL, 0), BREAKS_01),
+    ("word 11 is 1, a record area follows, and a rule of document 01 is broken", asked_with_sheet(16, SMALL), BREAKS_01),
+    ("a file that has another number of words than word 7 says", lambda why: why.sheet(b"a letter, and no sheet. "), BREAKS_01),
 ]
 
 OF_WHY = [*READS, *RINGS, *SHEETS]
@@ -187,11 +203,84 @@ def cut(bench):
         wait_for_records(bench, 2)
         meter.kill()
         meter.wait()
-    bench.write("ring.new", b"cut off")
+    bench.write("ring.a1B2c3", b"cut off")
     before = stored_in(bench)
-    with bench.running("-r", "ring", "-e1"):
+    with bench.running("-r", "ring", "-e1") as meter:
         wait_for_records(bench, before + 1)
-        return f"stored {before >= 2}, and one more {stored_in(bench) == before + 1}, left {sorted(os.listdir(bench.folder))}"
+        more = stored_in(bench) == before + 1
+        end_of(meter, signal.SIGTERM)
+    return f"stored {before >= 2}, and one more {more}, left {sorted(os.listdir(bench.folder))}"
+
+
+KINDS = {"a link": os.path.islink, "a folder": os.path.isdir, "a file": os.path.isfile}
+
+
+def beside(lay):
+    """A meter whose file has a neighbour that is the user's own, laid from a letter to ring.new."""
+    def trial(bench):
+        bench.write("letter", b"mine")
+        lay(bench.path("letter"), bench.path("ring.new"))
+        with bench.running("-r", "ring", "-e1") as meter:
+            wait_for_records(bench, 2)
+            end_of(meter, signal.SIGTERM)
+        kind = next((name for name, holds in KINDS.items() if holds(bench.path("ring.new"))), "nothing")
+        return f"stored {stored_in(bench) >= 2}; ring.new is {kind}, the letter holds {bench.read('letter').decode()}"
+    return trial
+
+
+def mode_kept(bench, mode):
+    bench.write("ring", ring_of(2, 3))
+    os.chmod(bench.path("ring"), mode)
+    with bench.running("-r", "ring", "-e1"):
+        wait_for_records(bench, 4)
+    return f"stored {stored_in(bench) >= 4}, mode {os.stat(bench.path('ring')).st_mode & 0o7777:o}"
+
+
+def without_room(bench):
+    """From here on a meter can write a part of a ring, as on a disk that fills up."""
+    bench.command = ["sh", "-c", 'ulimit -S -f 100; exec "$@"', "sh", *bench.command]
+
+
+def wait_for_words(bench, words):
+    deadline = time.monotonic() + 10
+    while words not in bench.read("screen").decode() and time.monotonic() < deadline:
+        time.sleep(0.02)
+
+
+def told(bench):
+    """What the meter's screen has behind the line that it is on."""
+    lines = bench.read("screen").decode().replace(bench.folder + "/", "").splitlines()
+    return "; ".join(lines[[line[:8] for line in lines].index("meter on") + 1:])
+
+
+def full_disk(bench):
+    """It is told once, though it holds for several records, and what was written of a new file is gone."""
+    before = ring_of(2, 3)
+    bench.write("ring", before)
+    without_room(bench)
+    with bench.running("-r", "ring", "-e1") as meter:
+        wait_for_words(bench, "not kept")
+        time.sleep(2.2)
+        ended = end_of(meter, signal.SIGTERM)
+    return f"{told(bench)}; {ended}, unchanged {bench.read('ring') == before}, left {sorted(os.listdir(bench.folder))}"
+
+
+def full_disk_at_first(bench):
+    without_room(bench)
+    said = bench.refused("-l", "line", "-r", "ring")
+    return f"{said}; {len(bench.read('ring'))} bytes, left {sorted(os.listdir(bench.folder))}"
+
+
+def folder_gone(bench):
+    """The ring's folder is moved away and back."""
+    os.mkdir(bench.path("here"))
+    with bench.running("-r", "here/ring", "-e1") as meter:
+        os.rename(bench.path("here"), bench.path("there"))
+        wait_for_words(bench, "not kept")
+        os.rename(bench.path("there"), bench.path("here"))
+        wait_for_words(bench, "again")
+        end_of(meter, signal.SIGTERM)
+    return told(bench)
 
 
 def never_torn(bench):
@@ -240,6 +329,7 @@ def bad_every(text):
 
 
 AT = "history at 0400 to 1DC7, 22 words to a record, the newest at 0400"
+GOES_ON = "The meter goes on; if it is switched off now, its newest records are lost"
 AS_IT_WAS = f"{LEFT}; unchanged True, link left False"
 SECONDS = "EVERY takes a number of seconds, 1 to 86400, and not"
 OF_METER = [
@@ -247,7 +337,20 @@ OF_METER = [
      f"the ring is empty, and kept in a ring; {AT}; stored: 0; one more every 5 seconds; {RING_SIZE} bytes, empty True; "
      f"then the ring is the one that a ring keeps; {AT}; stored: 0; one more every 60 seconds"),
     ("a ring that is not kept", with_history(not_kept), f"{AT}; stored: 0; one more every 1 second; files ['screen']"),
-    ("a meter that is killed", with_history(cut), "stored True, and one more True, left ['ring', 'screen']"),
+    ("a meter that is killed", with_history(cut), "stored True, and one more True, left ['ring', 'ring.a1B2c3', 'screen']"),
+    ("a file of the user's own beside the ring's", with_history(beside(os.link)), "stored True; ring.new is a file, the letter holds mine"),
+    ("a link of the user's own beside the ring's file", with_history(beside(os.symlink)), "stored True; ring.new is a link, the letter holds mine"),
+    ("a folder of the user's own beside the ring's file", with_history(beside(lambda _, path: os.mkdir(path))),
+     "stored True; ring.new is a folder, the letter holds mine"),
+    ("a ring's file for one reader", with_history(lambda bench: mode_kept(bench, 0o600)), "stored True, mode 600"),
+    ("a ring's file for all", with_history(lambda bench: mode_kept(bench, 0o666)), "stored True, mode 666"),
+    ("a disk that is full", with_history(full_disk),
+     f"the ring is not kept in ring: File too large. {GOES_ON}; meter off after 0 frames; status 0, unchanged True, left ['ring', 'screen']"),
+    ("a disk that is full at first", with_history(full_disk_at_first),
+     f"status 1: the ring's file ring: no ring can be kept in it: File too large. {LEFT}; 0 bytes, left ['ring']"),
+    ("a folder that is gone for a while", with_history(folder_gone),
+     f"the ring is not kept in here/ring: No such file or directory. {GOES_ON}; the ring is kept in here/ring again, with every record; "
+     "meter off after 0 frames"),
     ("a full ring, and one record more", with_history(never_torn),
      "the old one as it was True; the new one: 00 00 19 c8, the other records as they were True"),
     ("a link to the ring's file", with_history(through_link), "still a link True, stored True"),

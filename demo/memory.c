@@ -94,7 +94,18 @@ static int only_records_are_bad(const struct meter *meter)
     return cedarskein_sheet_check(without.sheet, without.sheet_n) == CEDARSKEIN_DONE;
 }
 
-/* AS-WE sheets from before version 1.3 have stations 0 to 255 and no other fault, which is worth its own words; so is a record area. */
+/* Whether a sheet of the length that it tells has more record areas than one, or would be good with the other number of 0 and 1. */
+static int number_of_histories_is_bad(const struct meter *meter)
+{
+    struct meter mended = *meter;
+    if (meter->sheet_n < 2 * HEADER || meter->sheet_n != 2 * (size_t)word_at(meter->sheet, SHEET_WORDS))
+        return 0;
+    store_word(mended.sheet, HAS_RECORDS, !has_history(meter));
+    return word_at(meter->sheet, HAS_RECORDS) > 1 || cedarskein_sheet_check(mended.sheet, mended.sheet_n) == CEDARSKEIN_DONE;
+}
+
+/* AS-WE sheets from before version 1.3 have stations 0 to 255 and no other fault, which is worth its own words; so is a record area, which is not of
+   document 01. */
 static int refuse_sheet(const struct meter *meter, const char *path)
 {
     struct item stations;
@@ -108,6 +119,11 @@ static int refuse_sheet(const struct meter *meter, const char *path)
         struct record_area area = history_of(meter);
         snprintf(why, sizeof why, "no sheet: its history is %u records of %u words from %04X on; it must be 1 to %d records of 1 to %d words, at "
                  "addresses up to FFFF that nothing else has", area.records, area.words, area.first, MOST_RECORDS, LONGEST_RECORD);
+        return refuse(path, why);
+    }
+    if (number_of_histories_is_bad(meter)) {
+        snprintf(why, sizeof why, "no sheet: its word %d is %u; by request W3 of document 02 it is the number of record areas at the sheet's end, 0 or 1",
+                 HAS_RECORDS, word_at(meter->sheet, HAS_RECORDS));
         return refuse(path, why);
     }
     return refuse(path, "no sheet: it breaks a rule of document 01");

@@ -32,6 +32,8 @@ struct simulation {
     unsigned frames;
     /* The seconds from one record to the next. */
     unsigned every;
+    /* The error for which the ring's file is behind the ring; 0 where it is not. */
+    int ring_error;
 };
 
 static volatile sig_atomic_t switched_off;
@@ -55,6 +57,8 @@ static void heed_signals(void)
         if (signals[k] == SIGHUP && before.sa_handler == SIG_IGN)
             sigaction(signals[k], &before, NULL);
     }
+    /* A file that may not get longer is told of like a disk that is full. */
+    signal(SIGXFSZ, SIG_IGN);
 }
 
 /* A terminal that is closed sends its signal to the one process that leads it, which need not pass it on: make does not. */
@@ -102,6 +106,19 @@ static void hear_frame(struct simulation *simulation, const uint8_t *frame, size
         printf("noise: not sent at %s\n", bit_rate(rate));
 }
 
+/* The meter goes on without its file, and answers with records that the file does not have. So it is told on the screen, when it begins and when it
+   is over. */
+static void keep_records(struct simulation *simulation)
+{
+    int error = keep_ring(&simulation->ring);
+    if (error != 0 && error != simulation->ring_error)
+        printf("the ring is not kept in %s: %s. The meter goes on; if it is switched off now, its newest records are lost\n", simulation->ring.name,
+               strerror(error));
+    else if (error == 0 && simulation->ring_error != 0)
+        printf("the ring is kept in %s again, with every record\n", simulation->ring.name);
+    simulation->ring_error = error;
+}
+
 static void pass_second(struct simulation *simulation, struct readings *readings)
 {
     post_next_second(readings, &simulation->meter);
@@ -109,7 +126,7 @@ static void pass_second(struct simulation *simulation, struct readings *readings
     if (readings->second % SECONDS_OF_AN_HOUR == 0)
         keep_bank_readings(&simulation->bank);
     if (has_history(&simulation->meter) && readings->second % simulation->every == 0 && add_next_record(readings, &simulation->meter) == 0)
-        keep_ring(&simulation->ring);
+        keep_records(simulation);
 }
 
 static void run(struct simulation *simulation)

@@ -1,4 +1,5 @@
-/* The history of the simulated meter: made-up records in the shape of document 004's table. */
+/* The history of the simulated meter: made-up records in the shape of document 004's table. No register shows what they hold: a sheet with a history
+   is no maker's, and the readings of such a sheet count seconds. */
 #define _XOPEN_SOURCE 700
 #include "records.h"
 

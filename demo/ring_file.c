@@ -1,7 +1,8 @@
 /* The file that keeps the history of the simulated meter. It is never written where it lies: a new one is, and takes its place when it is whole on
-   the disk. So a cut at any time leaves the one or the other, and who only reads finds a whole one too. (A board has no files to put in place of
-   others, and keeps its ring otherwise.) */
-#define _DEFAULT_SOURCE
+   the disk. So a cut at any time leaves the one or the other, and who only reads finds a whole one too. The new one has a name that no file had, so
+   that nobody's file is lost, and what a cut leaves of it is in nobody's way. (A board has no files to put in place of others, and keeps its ring
+   otherwise.) */
+#define _GNU_SOURCE
 #include "ring_file.h"
 
 #include <errno.h>
@@ -81,8 +82,65 @@ static int take_file(struct ring_file *ring, off_t *size)
         return refused(ring, strerror(errno));
     if (locked != 0 || !is_still_there(ring, &status))
         return refused(ring, "another meter has it in use");
-    snprintf(ring->next, sizeof ring->next, "%s.new", ring->path);
     *size = status.st_size;
+    return 0;
+}
+
+/* All of it, or the error: a disk that fills up takes a part of the bytes, and has no error before it is asked again. */
+static int write_all(int file, const uint8_t *bytes, size_t n)
+{
+    while (n > 0) {
+        ssize_t taken = write(file, bytes, n);
+        if (taken < 0 && errno == EINTR)
+            continue;
+        if (taken == 0)
+            errno = ENOSPC;
+        if (taken <= 0)
+            return -1;
+        bytes += taken;
+        n -= (size_t)taken;
+    }
+    return 0;
+}
+
+/* With the old one's mode, this meter's alone, and all of it on the disk, before it takes the other's place. */
+static int put_in_place(const struct ring_file *ring, int file, const char *next)
+{
+    struct stat old;
+    if (fstat(ring->file, &old) != 0 || fchmod(file, old.st_mode & 07777) != 0 || flock(file, LOCK_EX | LOCK_NB) != 0)
+        return -1;
+    return write_all(file, ring->meter->ring, ring->meter->ring_n) == 0 && fdatasync(file) == 0 && rename(next, ring->path) == 0 ? 0 : -1;
+}
+
+int keep_ring(struct ring_file *ring)
+{
+    char next[PATH_MAX + sizeof ".XXXXXX"];
+    if (!ring->name)
+        return 0;
+    snprintf(next, sizeof next, "%s.XXXXXX", ring->path);
+    int file = mkostemp(next, O_CLOEXEC);
+    if (file < 0)
+        return errno;
+    if (put_in_place(ring, file, next) == 0) {
+        close(ring->file);
+        ring->file = file;
+        return 0;
+    }
+    int why = errno;
+    unlink(next);
+    close(file);
+    return why;
+}
+
+static int begin_file(struct ring_file *ring)
+{
+    char why[WHY_ROOM];
+    int error = keep_ring(ring);
+    if (error != 0) {
+        snprintf(why, sizeof why, "no ring can be kept in it: %s", strerror(error));
+        return refused(ring, why);
+    }
+    printf("the ring is empty, and kept in %s\n", ring->name);
     return 0;
 }
 
@@ -97,40 +155,12 @@ int open_ring(struct ring_file *ring, struct meter *meter, const char *name)
         return refused(ring, NO_HISTORY);
     if (take_file(ring, &size) != 0)
         return -1;
-    if (size == 0) {
-        printf("the ring is empty, and kept in %s\n", ring->name);
-        return keep_ring(ring);
-    }
+    if (size == 0)
+        return begin_file(ring);
     if (take_bytes(meter, ring->file, why) != 0)
         return refused(ring, why);
     printf("the ring is the one that %s keeps\n", ring->name);
     return 0;
-}
-
-/* All of it on the disk, and this meter's alone, before it takes the other's place. */
-static int write_next(const struct ring_file *ring, int file)
-{
-    size_t n = ring->meter->ring_n;
-    return flock(file, LOCK_EX | LOCK_NB) == 0 && ftruncate(file, 0) == 0 && write(file, ring->meter->ring, n) == (ssize_t)n && fdatasync(file) == 0
-                   && rename(ring->next, ring->path) == 0
-               ? 0
-               : -1;
-}
-
-int keep_ring(struct ring_file *ring)
-{
-    if (!ring->name)
-        return 0;
-    int file = open(ring->next, O_WRONLY | O_CREAT | O_CLOEXEC, 0666);
-    if (file >= 0 && write_next(ring, file) == 0) {
-        close(ring->file);
-        ring->file = file;
-        return 0;
-    }
-    fprintf(stderr, "the ring is not kept in %s: %s\n", ring->name, strerror(errno));
-    if (file >= 0)
-        close(file);
-    return -1;
 }
 
 void close_ring(struct ring_file *ring)

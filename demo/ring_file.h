@@ -6,11 +6,10 @@
 
 #include "memory.h"
 
-/* A meter may have no such file: its name is then NULL, and nothing is kept. The path is where the file really lies, and that of the next one, which
-   takes its place. */
+/* A meter may have no such file: its name is then NULL, and nothing is kept. The path is where the file really lies. */
 struct ring_file {
     const char *name;
-    char path[PATH_MAX], next[PATH_MAX + 8];
+    char path[PATH_MAX];
     int file;
     const struct meter *meter;
 };
@@ -19,7 +18,7 @@ struct ring_file {
    back -1 where the file is not this meter's, is in use or cannot be had: it says why, and leaves the file as it is. */
 int open_ring(struct ring_file *ring, struct meter *meter, const char *name);
 
-/* After each record that is added. Hands back 0 where the ring is kept; else it says why it is not. */
+/* After each record that is added. Hands back 0 where the ring is kept; else the error, and the file is as it was. */
 int keep_ring(struct ring_file *ring);
 
 void close_ring(struct ring_file *ring);

@@ -1,7 +1,8 @@
-/* Four meters that break document 01, so that each step of interop.py is seen to fail. The linker puts these functions in place of the
-   library's and the line's (--wrap): one meter is silent always, one answers whatever it hears, and both leave their link behind. The third is
-   good, but that it does what is sent to the stations that no meter has, 0 and 248 to 255, and is silent about it. The fourth is good but for its
-   history: it counts the records from the wrong end, and answers whatever touches them as if it were a read of one. */
+/* Four meters that are wrong, so that each step of interop.py is seen to fail: three break document 01, and the fourth request W3 of document 02. The
+   linker puts these functions in place of the library's and the line's (--wrap): one meter is silent always, one answers whatever it hears, and both
+   leave their link behind. The third is good, but that it does what is sent to the stations that no meter has, 0 and 248 to 255, and is silent about
+   it. The fourth is good but for its history: it counts the records from the wrong end, and answers whatever touches them as if it were a read of
+   one. */
 #include <string.h>
 
 #include "cedarskein.h"
