@@ -1,15 +1,13 @@
 -- Records over the calls themselves. A good read of a record sends exactly its words; what was added last is what a read of record 1 sends, and what
 -- was record k before is what a read of record k + 1 sends then. Assumes nothing.
-use mathlib.Core.Path.{_≡_, refl, sym, ap, subst, _∙_}
-use mathlib.Core.List.{List, [], _∷_, map}
+use mathlib.Core.Path.{_≡_, sym, ap, subst, _∙_}
+use mathlib.Core.List.{List, map}
 use Prim.Native.Nat.{ℕ, zero, suc, _+_, _*_, _≤_, _<_}
 use native.Mathlib.Omega.{arith}
 use lib.ListN.{getD}
 use Rattle.lists.specs.Lists.{upFrom}
 use Rattle.words.specs.Words.{wordAt}
-use Rattle.refusals.specs.declared.Answer.{Answer}
 use Rattle.refusals.specs.declared.Answer.the-variants.{Done}
-use Rattle.refusals.specs.Answers.{answerNumber}
 use Rattle.refusals.proofs.Numbers.{number-tells}
 use Rattle.sheet_rules.specs.declared.RecordArea.{RecordArea}
 use Rattle.sheet_rules.specs.Rows.{recordArea}
@@ -20,15 +18,15 @@ use Rattle.ring_rules.specs.Calls.{addAnswer, addOutcome}
 use Rattle.ring_rules.specs.Theorems.{wordsIn}
 use Rattle.ring_rules.proofs.Calls.{add-newest, add-others}
 use Rattle.plain.specs.Numbers.{byte, word}
-use Rattle.plain.specs.Records.{RecordAt, howMany, StandsAt}
+use Rattle.plain.specs.Records.{RecordAt, howMany}
 use Rattle.plain.specs.Frame as fates
 use Rattle.plain.specs.Frame.{good, Gets}
 use Rattle.plain.specs.Left as plain
-use Rattle.plain.specs.Left.{RecordReply, HandsBack, Leaves}
+use Rattle.plain.specs.Left.{RecordReply, HandsBack}
 use Rattle.plain.proofs.Rows.{word-same}
 use Rattle.plain.proofs.Records.{so-record, record-once, its-place}
 use Rattle.plain.proofs.Fates.{one-fate}
-use Rattle.cedarskein.specs.Door.{RingTold, ringToldOf, Handed}
+use Rattle.cedarskein.specs.Door.{RingTold, Handed}
 use Rattle.demands.specs.Seen.{Accepted, leftBy}
 use Rattle.demands.proofs.Calls.{Adds, Answers, adds-is, answers-bytes}
 use Rattle.demands.proofs.Frames.{frame-leaves}

@@ -8,7 +8,7 @@ use Prim.Native.Nat.{ℕ, _*_}
 use lib.Dec.{eqb}
 use lib.ListN.{length, take, drop, replicate}
 use Rattle.words.specs.Words.{wordAt, withWord, bytesOf}
-use Rattle.words.specs.Changes.{Change, at, changed}
+use Rattle.words.specs.Changes.{at, changed}
 use Rattle.check_value.specs.Check.{valueOf}
 use Rattle.check_value.specs.Frame.{passes}
 use Rattle.range.specs.Range.{inRange}

@@ -1,22 +1,21 @@
 -- A read that starts in the record area: its count is 1 where step 5 lets it through, and its address lies in no area. Assumes nothing.
-use mathlib.Core.Path.{_≡_, refl, sym, ap, ap₂, _∙_}
+use mathlib.Core.Path.{_≡_, refl, sym, ap, _∙_}
 use mathlib.Core.Bool.{Bool, true, false, not, _&&_, _||_, true≢false}
-use mathlib.Core.List.{List, [], _∷_}
+use mathlib.Core.List.{List}
 use Prim.Native.Nat.{ℕ, _+_, _≤_}
 use native.Mathlib.Omega.{arith}
 use lib.Dec.{eqb}
-use borrow.Author.Tests.{eqb-true, eq-eqb}
+use borrow.Author.Tests.{eqb-true}
 use Rattle.lists.specs.Lists.{each, upFrom}
 use Rattle.lists.proofs.Among.{up-among, each-among}
 use Rattle.sheet_rules.specs.Rows.{areas, recordArea}
 use Rattle.sheet_rules.specs.Rules.{sound, inRecords}
 use Rattle.sheet_rules.specs.Lookup.{liesIn}
 use Rattle.sheet_rules.specs.declared.Lies.{Lies}
-use Rattle.sheet_rules.specs.declared.Purpose.{Purpose}
 use Rattle.sheet_rules.specs.declared.Purpose.the-variants.{Read}
 use Rattle.sheet_rules.specs.Runs.{opens, allOpen}
 use Rattle.sheet_rules.proofs.Records.{record-nowhere}
-use Rattle.frame.specs.Frame.{reads, writesMany, function, start, second, byteCount, count, run}
+use Rattle.frame.specs.Frame.{reads, function, start, second, count, run}
 use Rattle.meter_rules.specs.Steps.{startsInRecords, wrongCount}
 use Rattle.meter_rules.proofs.Order.{asks-for, many-is}
 

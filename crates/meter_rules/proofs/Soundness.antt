@@ -4,7 +4,7 @@ use mathlib.Core.Bool.{Bool, true, false, not, cond, _&&_, _||_, true≢false}
 use mathlib.Core.List.{List, [], _∷_}
 use Prim.Native.Nat.{ℕ, _+_, _≤_}
 use native.Mathlib.Omega.{arith}
-use lib.Dec.{ltb, eqb}
+use lib.Dec.{eqb}
 use borrow.Author.Tests.{eq-eqb, eqb-false, ltb-false}
 use Rattle.sheet_rules.specs.Rows.{items, clearAddress, recordArea}
 use Rattle.lists.proofs.Tests.{first-of}
@@ -15,8 +15,8 @@ use Rattle.bank_rules.proofs.Changes.{Passed}
 use Rattle.lists.specs.Cases.{when, firstCase}
 use Rattle.meter_rules.specs.declared.Judged.{Judged}
 use Rattle.meter_rules.specs.declared.Judged.the-variants.{FailsCheck, OtherStation, FunctionNotAllowed, WrongLength, WrongCount, WrongAddress, WrongValue, BadItem, GoodRead, GoodRecord, GoodClear, GoodWrite}
-use Rattle.sheet_rules.specs.declared.Purpose.the-variants.{Read, Write}
-use Rattle.frame.specs.Frame.{reads, clears, writesOne, writesMany, function, start, second, isWrite, count, run, mostRead}
+use Rattle.sheet_rules.specs.declared.Purpose.the-variants.{Write}
+use Rattle.frame.specs.Frame.{reads, clears, writesOne, writesMany, function, start, isWrite, count, run}
 use Rattle.meter_rules.specs.Steps.{startsInRecords, askedStart, wrongRead, goodRead, functionAllowed, failsCheck, otherStation, wrongLength, wrongCount, wrongAddress, wrongValue, badWrite, goodFrame, judgedFrame}
 use Rattle.sheet_rules.specs.Runs.{allOpen}
 use Rattle.meter_rules.specs.Write.{firstPlace, someBad, stopIn, stopPlace, runStores}

@@ -1,6 +1,6 @@
 -- Damage in plain numbers is damage as the check value's law has it, both ways, and a frame so sent passes. Assumes nothing.
 use mathlib.Core.Path.{_≡_, refl, sym, ap, ap₂, subst, _∙_}
-use mathlib.Core.Bool.{Bool, true, false, xor, cond, true≢false, false≢true}
+use mathlib.Core.Bool.{Bool, true, false, xor, cond, false≢true}
 use mathlib.Core.Logic.{_⊎_, inl, inr}
 use mathlib.Core.List.{List, [], _∷_, _++_}
 use Prim.Native.Nat.{ℕ, zero, suc, _+_, _-_, _*_, _/_, _%_, _^_, _≤_, _<_}

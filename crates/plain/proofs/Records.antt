@@ -5,14 +5,14 @@ use mathlib.Core.List.{List}
 use mathlib.Core.Logic.{_⊎_, inl, inr}
 use Prim.Native.Nat.{ℕ, _+_, _-_, _*_, _≤_, _<_}
 use native.Mathlib.Omega.{arith}
-use lib.Dec.{leb, ltb, eqb}
+use lib.Dec.{leb, ltb}
 use borrow.Author.Tests.{eqb-true, eq-eqb, le-leb, lt-ltb, ltb-true, ltb-false}
 use Rattle.words.specs.Words.{wordAt}
 use Rattle.sheet_rules.specs.declared.RecordArea.{RecordArea}
-use Rattle.sheet_rules.specs.Rows.{areaCount, itemCount, recordAreas, rowsEnd, hasRecords, recordRow, recordArea}
+use Rattle.sheet_rules.specs.Rows.{recordAreas, rowsEnd, recordRow, recordArea}
 use Rattle.sheet_rules.specs.Rules.{recordsEnd, inRecords}
 use Rattle.sheet_rules.specs.Lookup.{recordNumber}
-use Rattle.sheet_rules.proofs.Records.{records-read, InRecords, in-records, in-records-has}
+use Rattle.sheet_rules.proofs.Records.{records-read, in-records, in-records-has}
 use Rattle.ring_rules.specs.Ring.{newestPlace, placeOf}
 use Rattle.ring_rules.specs.Calls.{ringFits}
 use Rattle.ring_rules.proofs.Places.{back-straight, back-round}

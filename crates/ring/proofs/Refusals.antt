@@ -1,7 +1,7 @@
 -- What adding a record answers by its tests in their order, and what it leaves: nothing is stored where it refuses, and the record's stores where it is
 -- done. Assumes nothing.
 use mathlib.Core.Path.{_≡_, sym, ap, _∙_}
-use mathlib.Core.Bool.{Bool, true, false, not}
+use mathlib.Core.Bool.{true, false, not}
 use mathlib.Core.List.{List, [], _∷_, map}
 use Prim.Native.Nat.{ℕ, _*_}
 use lib.ListN.{length}

@@ -2,10 +2,9 @@
 -- this file. Assumes nothing.
 use Prim.Native.Nat.{ℕ, _+_, _-_, _≤_, _<_}
 use mathlib.Core.Path.{_≡_}
-use mathlib.Core.Bool.{Bool, true, _&&_, cond}
+use mathlib.Core.Bool.{true, cond}
 use mathlib.Core.List.{List, _++_}
 use lib.Dec.{ltb}
-use Rattle.sheet_rules.specs.declared.Area.{Area}
 use Rattle.sheet_rules.specs.declared.Item.{Item}
 use Rattle.sheet.specs.declared.item_rows.Cover.{Cover}
 use Rattle.sheet_rules.specs.Rows.{areaCount, areaAt, areas}

@@ -1,23 +1,23 @@
 -- The record area of a sheet: what its words say, and what a sound sheet says of it. None of its addresses lies in an area. Assumes nothing.
 use mathlib.Core.Path.{_≡_, refl, sym, ap, _∙_}
-use mathlib.Core.Bool.{Bool, true, false, not, cond, _&&_, _||_, and-false, true≢false}
+use mathlib.Core.Bool.{Bool, true, false, not, cond, _&&_, _||_, and-false}
 use mathlib.Core.List.{List}
 use mathlib.Core.Logic.{_⊎_, inl, inr, ⊎-elim}
 use Prim.Native.Nat.{ℕ, _+_, _≤_, _<_}
 use native.Mathlib.Omega.{arith}
-use lib.Dec.{leb, ltb, eqb}
+use lib.Dec.{leb, ltb}
 use borrow.Author.Tests.{leb-true, ltb-true, le-ltb}
-use Rattle.lists.specs.Lists.{between, each}
+use Rattle.lists.specs.Lists.{each}
 use Rattle.lists.proofs.Tests.{first-of, second-of}
-use Rattle.lists.proofs.Among.{Among, each-among}
+use Rattle.lists.proofs.Among.{each-among}
 use Rattle.sheet_rules.specs.declared.Area.{Area}
 use Rattle.sheet_rules.specs.declared.Lies.{Lies}
 use Rattle.sheet_rules.specs.declared.Lies.the-variants.{At, Nowhere}
 use Rattle.sheet_rules.specs.declared.RecordArea.{RecordArea}
-use Rattle.sheet_rules.specs.Rows.{areas, recordAreas, hasRecords, recordRow, noRecords, recordArea, clearAddress}
+use Rattle.sheet_rules.specs.Rows.{areas, hasRecords, recordRow, noRecords, recordArea, clearAddress}
 use Rattle.sheet_rules.specs.Rules.{allowed, bitOf05, recordCountRule, recordWordsRule, recordsEndRule, recordsEnd, inRecords, apartRule, recordClearRule, recordsSound, sound}
 use Rattle.sheet_rules.specs.Lookup.{liesIn}
-use Rattle.sheet_rules.proofs.Addresses.{Found, lies-found}
+use Rattle.sheet_rules.proofs.Addresses.{lies-found}
 use Rattle.sheet_rules.proofs.Sound.{sound-parts, between-low, between-high}
 
 -- ---- the words of it

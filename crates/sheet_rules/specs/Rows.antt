@@ -1,8 +1,8 @@
 -- The words of a sheet's header, its area and item rows, and its record area, read from the bytes. Total on any bytes: a word past the end is 0. Assumes
 -- nothing.
-use Prim.Native.Nat.{ℕ, zero, suc, _+_, _*_, _-_}
+use Prim.Native.Nat.{ℕ, _+_, _*_, _-_}
 use mathlib.Core.Bool.{Bool, cond}
-use mathlib.Core.List.{List, [], _∷_}
+use mathlib.Core.List.{List}
 use lib.Dec.{eqb}
 use Rattle.words.specs.Words.{wordAt}
 use Rattle.sheet_rules.specs.declared.Area.{Area}

@@ -3,7 +3,7 @@
 use mathlib.Core.Path.{_≡_, refl}
 use mathlib.Core.List.{List, [], _∷_}
 use Prim.Native.Nat.{ℕ}
-use Rattle.words.specs.Words.{byteAt, wordAt, wordBytes, bytesOf, withByte, withWord}
+use Rattle.words.specs.Words.{byteAt, wordAt, bytesOf, withByte, withWord}
 
 abbrev three : List ℕ
 three = 0x81 ∷ 0x02 ∷ 0xF3 ∷ []

@@ -1,6 +1,5 @@
 -- `bank_steps::empty_or_odd` meets its contract. Assumes nothing.
 use borrow.Author.Tests.{eq-eqb, ne-eqb}
-use borrow.Author.Needs.{needs}
 use Rattle.bank_steps.proofs.empty_or_odd.Statement.{statement}
 use Rattle.bank_steps.proofs.empty_or_odd.Tie as tie
 

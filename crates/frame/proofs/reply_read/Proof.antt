@@ -1,11 +1,10 @@
 -- `frame::reply_read` meets its contract: three bytes, the words and their check, laid one after another. Assumes nothing.
 use native.Mathlib.Omega.{arith}
-use Prim.Native.Nat.{ℕ, _+_, _*_, _<_, _≤_}
+use Prim.Native.Nat.{ℕ, _+_, _*_}
 use mathlib.Core.Path.{_≡_, refl, _∙_, sym, ap}
 use mathlib.Core.List.{List, [], _∷_, _++_}
 use denote.Ref.{now}
 use lib.ListN.{length, take}
-use Rattle.check_value.specs.Frame.{longest}
 use Rattle.words.specs.Words.{withByte, bytesOf}
 use Rattle.frame.specs.Frame.{reads, station}
 use Rattle.frame.specs.Reply.{wordsFrom, readReply, withCheck, laid}

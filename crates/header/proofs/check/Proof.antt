@@ -1,7 +1,6 @@
 -- `header::check` meets its contract. Assumes nothing.
 use mathlib.Core.Path.{sym, ap, _∙_}
 use denote.Ref.{now}
-use Rattle.header.specs.declared.Checked.{Checked}
 use Rattle.header.specs.declared.Checked.the-variants.{Sound, Broken}
 use Rattle.lists.proofs.Tests.{refused, passed}
 use Rattle.sheet_rules.specs.Rows.{headerOf}

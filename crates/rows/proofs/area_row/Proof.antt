@@ -1,7 +1,5 @@
 -- `rows::area_row` meets its contract, inside the sheet and past its end. Assumes nothing.
-use native.Mathlib.Omega.{arith}
-use mathlib.Core.Path.{ap, _∙_}
-use Prim.Native.Nat.{ℕ}
+use mathlib.Core.Path.{ap}
 use denote.Ref.{now}
 use Rattle.sheet_rules.specs.declared.Item.{Item}
 use Rattle.sheet_rules.specs.Rows.{itemFrom}

@@ -1,5 +1,5 @@
 -- `meter::stages::judged_read` meets its contract: steps 5 and 6 for a read of registers. Assumes nothing.
-use Prim.Native.Nat.{ℕ, _≤_}
+use Prim.Native.Nat.{ℕ}
 use native.Mathlib.Omega.{arith}
 use mathlib.Core.Path.{_≡_, _∙_, ap, sym}
 use mathlib.Core.Bool.{true, false, not, _||_}

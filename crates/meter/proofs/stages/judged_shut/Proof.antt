@@ -1,6 +1,6 @@
 -- `meter::stages::judged_shut` meets its contract: each return by the tests that led there. Assumes nothing.
 use mathlib.Core.Path.{_≡_, refl, sym, ap, ap₂, _∙_}
-use mathlib.Core.Bool.{Bool, true, false, cond}
+use mathlib.Core.Bool.{Bool, false, cond}
 use mathlib.Core.List.{List}
 use Prim.Native.Nat.{ℕ}
 use lib.Dec.{eqb}
@@ -11,7 +11,6 @@ use Rattle.sheet_rules.specs.declared.RecordArea.{RecordArea}
 use Rattle.sheet_rules.specs.Rows.{recordArea}
 use Rattle.sheet_rules.specs.Rules.{inRecords}
 use Rattle.sheet_rules.proofs.Records.{none-in-records}
-use Rattle.meter_rules.specs.declared.Judged.{Judged}
 use Rattle.meter_rules.specs.declared.Judged.the-variants.{WrongCount, WrongAddress}
 use Rattle.meter.specs.Stages.{judgedRecord, judgedShut}
 use borrow.Author.Needs.{needs}
