@@ -1,16 +1,22 @@
 #!/bin/sh
-# Every door of breaches.c makes one of the tests fail; and with no breach, through the same wrappers, none does.
-#   breaches.sh FOLDER RUN..    the folder with the tests that are linked with breaches.c, and what runs them
+# Every door of breaches.c makes one of the tests fail; and with no breach, through the same wrappers, none does. As many doors are tried at once as there
+# are processors.
+#   breaches.sh FOLDER RUN..                the folder with the tests that are linked with breaches.c, and what runs them
+#   breaches.sh --door NAME FOLDER RUN..    one door alone
+door=
+[ "$1" != --door ] || { door=$2; shift 2; }
 folder=$1
 shift
 host=$(dirname "$0")
+said=$folder/broken_door_$door.txt
+written=$folder/broken_door_$door.out
 
 # Runs a test, and says its name where it fails. A test that fails says where, also with its output in a file.
 try() {
     name=$1
     shift
-    "$@" >"$folder/broken.txt" 2>&1 && return
-    if grep -q '^FAILED: .' "$folder/broken.txt"; then printf ' %s' "$name"; else printf ' %s(wordless)' "$name"; fi
+    "$@" >"$said" 2>&1 && return
+    if grep -q '^FAILED: .' "$said"; then printf ' %s' "$name"; else printf ' %s(wordless)' "$name"; fi
 }
 
 # The tests that fail, by name.
@@ -18,21 +24,24 @@ failing() {
     for test in refusals buffers check_values edges power_cut stations records ring_power_cut; do
         try "$test" "$@" "$folder/broken_$test"
     done
-    try set_p "$@" "$folder/broken_rows" "$folder/broken.out" "case set P" <"$host/set_p.rows"
-    try reasons "$@" "$folder/broken_rows" "$folder/broken.out" "the reasons" <"$host/reasons.rows"
-    try cases "$@" "$folder/broken_rows" "$folder/broken.out" "cases" <"$host/../crates/cases/stdin"
+    try set_p "$@" "$folder/broken_rows" "$written" "case set P" <"$host/set_p.rows"
+    try reasons "$@" "$folder/broken_rows" "$written" "the reasons" <"$host/reasons.rows"
+    try cases "$@" "$folder/broken_rows" "$written" "cases" <"$host/../crates/cases/stdin"
 }
 
 unset BREACH
+if [ -n "$door" ]; then
+    caught=$(BREACH=$door; export BREACH; failing "$@")
+    rm -f "$said" "$written"
+    [ -n "$caught" ] || { echo "FAILED: no test sees the breach $door"; exit 1; }
+    case $caught in *wordless*) echo "FAILED: at the breach $door a test fails and does not say where:$caught"; exit 1 ;; esac
+    [ -z "$VERBOSE" ] || echo "$door:$caught"
+    exit 0
+fi
+
 caught=$(failing "$@")
 [ -z "$caught" ] || { echo "FAILED: no breach, and yet:$caught"; exit 1; }
-count=0
-for breach in $(sed -n 's/.*breach_is("\([a-z0-9_]*\)").*/\1/p' "$host/breaches.c"); do
-    caught=$(BREACH=$breach; export BREACH; failing "$@")
-    [ -n "$caught" ] || { echo "FAILED: no test sees the breach $breach"; exit 1; }
-    case $caught in *wordless*) echo "FAILED: at the breach $breach a test fails and does not say where:$caught"; exit 1 ;; esac
-    [ -z "$VERBOSE" ] || echo "$breach:$caught"
-    count=$((count + 1))
-done
-[ $count -gt 0 ] || { echo "FAILED: breaches.c has no breach"; exit 1; }
-echo "$count doors that break their promise in one way each: every one is caught"
+doors=$(sed -n 's/.*breach_is("\([a-z0-9_]*\)").*/\1/p' "$host/breaches.c")
+[ -n "$doors" ] || { echo "FAILED: breaches.c has no breach"; exit 1; }
+printf '%s\n' "$doors" | xargs -P "$(nproc)" -I DOOR "$0" --door DOOR "$folder" "$@" || exit 1
+echo "$(printf '%s\n' "$doors" | wc -l) doors that break their promise in one way each: every one is caught"
