@@ -19,18 +19,24 @@ pub struct Check {
     pub state: u16,
 }
 
+// What goes in front of a byte with an odd number of ones: bit 8, and bits 26 to 31.
+const ODD: u32 = 0xFC00_0100;
+
 // What eight shifts make of a state that is below 256. The one function that knows how a byte is shifted out: for this polynomial
-// the byte itself at bits 6 and 7 and, where it has an odd number of ones, C001. That is cheaper here than a table of the 256
-// results, which the back end would build on the stack at each call.
+// the byte itself at bits 6 and 7 and, where it has an odd number of ones, C001. A byte and its double, turned left by 6 places among
+// 32, are both at once: of what stands in front of an odd byte the two leave bits 8, 9 and 26, and the turn makes these 14, 15 and 0.
+// Of the forms that were measured this one takes the fewest instructions, and no more room than any other.
 fn eight_shifts(low: u8) -> u16
     ensures { λ r. ⌜ r ≡ shiftedTimes bitsOfByte low ⌝ }
 {
-    let byte = low as u16;
-    let twice = byte * 64 ^ byte * 128;
-    if u8::count_ones(low) % 2 == 1 {
-        return twice ^ 0xC001;
-    }
-    twice
+    let byte = low as u32;
+    let marked = if u32::count_ones(byte) % 2 == 1 {
+        byte + ODD
+    } else {
+        byte
+    };
+    let both = marked ^ marked % 0x8000_0000 * 2;
+    (both % 1024 * 64 + both / 0x400_0000) as u16
 }
 
 impl Check {

@@ -1,42 +1,70 @@
--- `check_value::eight_shifts` meets its contract: one test, computed over all 256 bytes, says that the closed form is eight shifts.
+-- `check_value::eight_shifts` meets its contract: one test, computed over all 256 bytes, says that the turned byte is eight shifts.
 -- Assumes nothing.
-use mathlib.Core.Path.{_≡_, refl, sym, ap, _∙_}
+use mathlib.Core.Path.{_≡_, refl, sym, ap, subst, _∙_}
+use mathlib.Core.Logic.{⊎-elim}
 use native.Mathlib.Omega.{arith}
-use Prim.Native.Nat.{ℕ, _*_, _%_, _<_}
-use lib.Bits.{bitXor, xor-zero-r}
+use Prim.Native.Nat.{ℕ, _+_, _*_, _/_, _%_, _^_, _<_}
+use lib.Bits.{bitXor}
 use lib.Count.{ones}
 use Rattle.check_value.specs.Check.{bitsOfByte, shiftedTimes}
 use Rattle.check_value.proofs.Entries.{entries, rules-agree}
+use Rattle.check_value.proofs.Shift.{times-below}
 use borrow.Author.Needs.{needs}
 use Rattle.check_value.proofs.eight_shifts.Statement.{statement}
 use Rattle.check_value.proofs.eight_shifts.Tie as tie
+use Rattle.check_value.proofs.eight_shifts.Reads as reads
+use Rattle.check_value.proofs.eight_shifts.Lts as lts
 
--- the closed form: the byte at bits 6 and 7, and C001 for each of its ones, which cancel in pairs
-closed-form : (low : ℕ) → low < 256 → bitXor (bitXor (low * 64) (low * 128)) (ones low % 2 * 0xC001) ≡ shiftedTimes bitsOfByte low
+-- the code's last two lines: a number with its double, and the sixteen bits that a turn of these leaves
+abbrev both : ℕ → ℕ
+both marked = bitXor marked (marked % 0x80000000 * 2)
+
+abbrev turned : ℕ → ℕ
+turned marked = both marked % 1024 * 64 + both marked / 0x4000000
+
+closed-form : (low : ℕ) → low < 256 → turned (low + ones low % 2 * 0xFC000100) ≡ shiftedTimes bitsOfByte low
 unfolding entries shiftedTimes ones
-closed-form = rules-agree (λ (low : ℕ). bitXor (bitXor (low * 64) (low * 128)) (ones low % 2 * 0xC001)) (shiftedTimes bitsOfByte) 256 refl
+closed-form = rules-agree (λ (low : ℕ). turned (low + ones low % 2 * 0xFC000100)) (shiftedTimes bitsOfByte) 256 refl
 
--- src/lib.rt:19:17
-mul-twice : tie.Need-mul-twice
-mul-twice c = search needs
+-- what the code has turned at its end, by either way to it
+at-end : (c : lts.After-row-known reads.Pre reads.Post) → turned (c .before .if1 .marked) ≡ shiftedTimes bitsOfByte (c .before .before .args .low)
+at-end c =
+    let low : ℕ = c .before .before .args .low in
+    let marked : c .before .if1 .marked ≡ low + ones low % 2 * 0xFC000100 =
+    ⊎-elim (λ w. omega (arith, w .0 .taken, w .1)) (λ w. omega (arith, w .0 .left, w .1)) (c .before .if1 .came) in
+    ap turned marked ∙ closed-form low (c .before .before .fits .low .fits)
 
--- src/lib.rt:19:29
-mul-twice-2 : tie.Need-mul-twice-2
-mul-twice-2 c = search needs
+-- it is below 65536, as what it equals is
+fits-at-end : (c : lts.After-row-known reads.Pre reads.Post) → turned (c .before .if1 .marked) < 2 ^ 16
+fits-at-end c =
+    let low : ℕ = c .before .before .args .low in
+    let small : low < 256 = c .before .before .fits .low .fits in
+    subst (λ (n : ℕ). n < 2 ^ 16) (sym (at-end c)) (times-below bitsOfByte low (omega arith))
 
--- src/lib.rt:21:9
+-- src/lib.rt:34:9
+add-marked : tie.Need-add-marked
+add-marked c = search needs
+
+-- src/lib.rt:38:25
+mul-both : tie.Need-mul-both
+mul-both c = search needs
+
+-- src/lib.rt:39:6
+mul-result : tie.Need-mul-result
+mul-result c = search needs
+
+-- src/lib.rt:39:6
+add-result : tie.Need-add-result
+add-result c = omega (arith, fits-at-end c)
+
+-- src/lib.rt:39:5
+cast-result : tie.Need-cast-result
+cast-result c = omega (arith, fits-at-end c)
+
+-- src/lib.rt:29:1
 returns : tie.Need-returns
-returns c =
-    let low : ℕ = c .before .args .low in
-    ap (λ (odd : ℕ). bitXor (bitXor (low * 64) (low * 128)) (odd * 0xC001)) (sym (c .if1 .taken)) ∙ closed-form low (c .before .fits .low .fits)
-
--- src/lib.rt:15:1
-returns-2 : tie.Need-returns-2
-returns-2 c =
-    let low : ℕ = c .before .args .low in
-    let even : ones low % 2 ≡ 0 = omega (arith, c .if1 .left) in
-    sym (xor-zero-r (bitXor (low * 64) (low * 128)))
-    ∙ ap (λ (odd : ℕ). bitXor (bitXor (low * 64) (low * 128)) (odd * 0xC001)) (sym even) ∙ closed-form low (c .before .fits .low .fits)
+returns c = at-end c
 
 pub eight-shifts-spec : {M : Type 1} → statement M
-eight-shifts-spec = tie.close (tie.spec mul-twice mul-twice-2 returns returns-2)
+eight-shifts-spec =
+    tie.close (tie.spec add-marked mul-both mul-result add-result cast-result returns)
