@@ -8,6 +8,18 @@
 
 /* ---- Who is called ---- */
 
+static uint16_t empty_take(uint16_t state, uint8_t byte)
+{
+    (void)state, (void)byte;
+    return 0;
+}
+
+static uint16_t empty_value(const uint8_t *bytes, size_t n)
+{
+    (void)bytes, (void)n;
+    return 0;
+}
+
 static uint32_t empty_check(const uint8_t *sheet, size_t n)
 {
     (void)sheet;
@@ -46,9 +58,10 @@ static uint32_t empty_add(const uint8_t *sheet, size_t sheet_n, uint8_t *ring, s
 }
 
 static const struct side sides[] = {
-    { "archive", cedarskein_sheet_check, cedarskein_answer, cedarskein_why, cedarskein_ring_check, cedarskein_add_record },
-    { "fast", fast_sheet_check, fast_answer, fast_why, fast_ring_check, fast_add_record },
-    { "empty", empty_check, empty_answer, empty_why, empty_ring_check, empty_add },
+    { "archive", cedarskein_check_take, cedarskein_check_value, cedarskein_sheet_check, cedarskein_answer, cedarskein_why,
+      cedarskein_ring_check, cedarskein_add_record },
+    { "fast", fast_check_take, fast_check_value, fast_sheet_check, fast_answer, fast_why, fast_ring_check, fast_add_record },
+    { "empty", empty_take, empty_value, empty_check, empty_answer, empty_why, empty_ring_check, empty_add },
 };
 
 const struct side *side_named(const char *name)
@@ -70,6 +83,8 @@ static uint32_t called(const struct side *side, struct row *row)
                          &row->reason, &row->address);
     case RING_CHECK: return side->ring_check(row->sheet, row->sheet_n, row->ring, row->ring_n);
     case ADD_RECORD: return side->add_record(row->sheet, row->sheet_n, row->ring, row->ring_n, row->record, row->record_n);
+    case CHECK_TAKE: return side->check_take(0xFFFF, row->frame[0]);
+    case CHECK_VALUE: return side->check_value(row->frame, row->frame_n);
     default: return side->sheet_check(row->sheet, row->sheet_n);
     }
 }
@@ -256,10 +271,16 @@ static void write_frame(struct row *row, uint32_t start, uint32_t count, uint32_
     seal(row, 7 + 2 * (size_t)count);
 }
 
-static void bad_check(struct row *row, size_t n)
+static void count_up(struct row *row, size_t n)
 {
     for (size_t k = 0; k < n; k++)
         row->frame[k] = (uint8_t)(k + 1);
+    row->frame_n = n;
+}
+
+static void bad_check(struct row *row, size_t n)
+{
+    count_up(row, n);
     seal(row, n - 2);
     row->frame[n - 1] ^= 1;
 }
@@ -273,7 +294,7 @@ const char *const row_names[] = {
     "items_2_read", "items_8_read", "items_32_read", "items_64_read",
     "areas_1_check", "areas_2_check", "areas_4_check", "areas_8_check",
     "areas_1_read", "areas_2_read", "areas_4_read", "areas_8_read",
-    "ux_bad_check_50", "ux_bad_check_100",
+    "ux_bad_check_50", "ux_bad_check_100", "check_take_1", "check_value_8", "check_value_50", "check_value_100",
     "why_ux_bad_check_8", "why_ux_other_station", "why_ux_read_2", "why_ux_read_24", "why_ux_write_2",
     "why_largest_read_47", "why_largest_write_45", "why_largest_last_bad",
     "records_1_check", "records_6600_check", "records_1_read", "records_6600_read", "records_1_add", "records_6600_add",
@@ -346,6 +367,21 @@ static int make_records(struct row *row, const char *name)
     return 1;
 }
 
+/* The check value of so many bytes, or one byte more of its running state. No sheet is in the call. */
+static int make_check(struct row *row, const char *name)
+{
+    unsigned n;
+    if (sscanf(name, "check_take_%u", &n) == 1)
+        row->called = CHECK_TAKE;
+    else if (sscanf(name, "check_value_%u", &n) == 1)
+        row->called = CHECK_VALUE;
+    else
+        return 0;
+    use_ux(row);
+    count_up(row, n);
+    return 1;
+}
+
 static int make_named(struct row *row, const char *name)
 {
     if (strncmp(name, "ux_", 3) == 0) {
@@ -355,7 +391,7 @@ static int make_named(struct row *row, const char *name)
         use_sheet(row, NULL, 0);
         make_largest_frame(row, name + 8);
     } else {
-        return make_records(row, name) || make_growth(row, name);
+        return make_check(row, name) || make_records(row, name) || make_growth(row, name);
     }
     return 1;
 }

@@ -10,6 +10,8 @@ enum { SHEET_ROOM = 1024, BANK_ROOM = 1024, FRAME_ROOM = 128, OUT_ROOM = 128, RE
 /* Who is called. */
 struct side {
     const char *name;
+    uint16_t (*check_take)(uint16_t, uint8_t);
+    uint16_t (*check_value)(const uint8_t *, size_t);
     uint32_t (*sheet_check)(const uint8_t *, size_t);
     uint32_t (*answer)(const uint8_t *, size_t, uint8_t *, size_t, const uint8_t *, size_t, const uint8_t *, size_t, uint8_t *,
                        size_t, uint32_t *, uint32_t *);
@@ -19,7 +21,7 @@ struct side {
     uint32_t (*add_record)(const uint8_t *, size_t, uint8_t *, size_t, const uint8_t *, size_t);
 };
 
-enum called { SHEET_CHECK, ANSWER, WHY, RING_CHECK, ADD_RECORD };
+enum called { SHEET_CHECK, ANSWER, WHY, RING_CHECK, ADD_RECORD, CHECK_TAKE, CHECK_VALUE };
 
 struct row {
     uint8_t sheet[SHEET_ROOM], bank[BANK_ROOM], ring[RING_ROOM], frame[FRAME_ROOM], out[OUT_ROOM], record[RECORD_ROOM];

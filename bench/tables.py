@@ -31,12 +31,15 @@ RECORDS = [("records_1_read", "03 of a record of 22 words, ring of 1 record"),
            ("records_1_check", "the ring check, ring of 1 record"), ("records_6600_check", "the ring check, ring of 6,600 records"),
            ("why_records_1_read", "why, 03 of a record of 22 words, ring of 1 record"),
            ("why_records_6600_read", "why, 03 of a record of 22 words, ring of 6,600 records")]
-CALLS = UX + LARGEST + WHY + RECORDS
+CHECK = [("check_value_8", "the check value of 8 bytes"), ("check_value_100", "the check value of 100 bytes"),
+         ("check_take_1", "the check value, one byte more")]
+CALLS = UX + LARGEST + WHY + RECORDS + CHECK
 GROWTH = [("items", "sheet check, 1 area, items: {}", "items_{}_check", (2, 8, 32, 64)),
           ("items", "03 of 2 words, 1 area, items: {}", "items_{}_read", (2, 8, 32, 64)),
           ("areas", "sheet check, 8 items, areas: {}", "areas_{}_check", (1, 2, 4, 8)),
           ("areas", "03 of 8 words, 8 items, areas: {}", "areas_{}_read", (1, 2, 4, 8)),
           ("bytes", "UX, a bad check, {} bytes", "ux_bad_check_{}", (8, 50, 100)),
+          ("bytes", "the check value alone, {} bytes", "check_value_{}", (8, 50, 100)),
           ("words", "03 of a record, words: {}", "record_words_{}_read", (1, 22, 47)),
           ("words", "a record added, words: {}", "record_words_{}_add", (1, 22, 47))]
 PROFILED = ["ux_read_2", "ux_write", "ux_sheet_check", "largest_write_45", "largest_sheet_check", "why_ux_read_2",

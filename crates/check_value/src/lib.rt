@@ -19,13 +19,13 @@ pub struct Check {
     pub state: u16,
 }
 
-// What goes in front of a byte with an odd number of ones: bit 8, and bits 26 to 31.
+// What is added to a byte with an odd number of ones: bits 8 and 26 to 31.
 const ODD: u32 = 0xFC00_0100;
 
 // What eight shifts make of a state that is below 256. The one function that knows how a byte is shifted out: for this polynomial
-// the byte itself at bits 6 and 7 and, where it has an odd number of ones, C001. A byte and its double, turned left by 6 places among
-// 32, are both at once: of what stands in front of an odd byte the two leave bits 8, 9 and 26, and the turn makes these 14, 15 and 0.
-// Of the forms that were measured this one takes the fewest instructions, and no more room than any other.
+// the byte itself at bits 6 and 7 and, where it has an odd number of ones, C001. One rotation of 32 bits to the left by 6 does all of
+// that, of the byte combined with its double: of what is added to an odd byte these two leave bits 8, 9 and 26, which become 14, 15
+// and 0. No form that was measured takes fewer instructions without taking more room (docs/BENCH.md, "Forms of the check value").
 fn eight_shifts(low: u8) -> u16
     ensures { λ r. ⌜ r ≡ shiftedTimes bitsOfByte low ⌝ }
 {

@@ -1,4 +1,4 @@
--- `check_value::eight_shifts` meets its contract: one test, computed over all 256 bytes, says that the turned byte is eight shifts.
+-- `check_value::eight_shifts` meets its contract: one test, computed over all 256 bytes, says that the rotation is eight shifts.
 -- Assumes nothing.
 use mathlib.Core.Path.{_≡_, refl, sym, ap, subst, _∙_}
 use mathlib.Core.Logic.{⊎-elim}
@@ -15,27 +15,27 @@ use Rattle.check_value.proofs.eight_shifts.Tie as tie
 use Rattle.check_value.proofs.eight_shifts.Reads as reads
 use Rattle.check_value.proofs.eight_shifts.Lts as lts
 
--- the code's last two lines: a number with its double, and the sixteen bits that a turn of these leaves
+-- the code's last two lines: a number combined with its double, and the lowest sixteen bits of that, rotated
 abbrev both : ℕ → ℕ
 both marked = bitXor marked (marked % 0x80000000 * 2)
 
-abbrev turned : ℕ → ℕ
-turned marked = both marked % 1024 * 64 + both marked / 0x4000000
+abbrev rotated : ℕ → ℕ
+rotated marked = both marked % 1024 * 64 + both marked / 0x4000000
 
-closed-form : (low : ℕ) → low < 256 → turned (low + ones low % 2 * 0xFC000100) ≡ shiftedTimes bitsOfByte low
+closed-form : (low : ℕ) → low < 256 → rotated (low + ones low % 2 * 0xFC000100) ≡ shiftedTimes bitsOfByte low
 unfolding entries shiftedTimes ones
-closed-form = rules-agree (λ (low : ℕ). turned (low + ones low % 2 * 0xFC000100)) (shiftedTimes bitsOfByte) 256 refl
+closed-form = rules-agree (λ (low : ℕ). rotated (low + ones low % 2 * 0xFC000100)) (shiftedTimes bitsOfByte) 256 refl
 
--- what the code has turned at its end, by either way to it
-at-end : (c : lts.After-row-known reads.Pre reads.Post) → turned (c .before .if1 .marked) ≡ shiftedTimes bitsOfByte (c .before .before .args .low)
+-- what the code gives at its end, by either way to it
+at-end : (c : lts.After-row-known reads.Pre reads.Post) → rotated (c .before .if1 .marked) ≡ shiftedTimes bitsOfByte (c .before .before .args .low)
 at-end c =
     let low : ℕ = c .before .before .args .low in
     let marked : c .before .if1 .marked ≡ low + ones low % 2 * 0xFC000100 =
     ⊎-elim (λ w. omega (arith, w .0 .taken, w .1)) (λ w. omega (arith, w .0 .left, w .1)) (c .before .if1 .came) in
-    ap turned marked ∙ closed-form low (c .before .before .fits .low .fits)
+    ap rotated marked ∙ closed-form low (c .before .before .fits .low .fits)
 
 -- it is below 65536, as what it equals is
-fits-at-end : (c : lts.After-row-known reads.Pre reads.Post) → turned (c .before .if1 .marked) < 2 ^ 16
+fits-at-end : (c : lts.After-row-known reads.Pre reads.Post) → rotated (c .before .if1 .marked) < 2 ^ 16
 fits-at-end c =
     let low : ℕ = c .before .before .args .low in
     let small : low < 256 = c .before .before .fits .low .fits in
