@@ -33,7 +33,7 @@ uint8_t rate_of(const uint8_t *sheet, const uint8_t *bank)
 }
 
 /* One byte into the check, rules C2 and C3: written here a second time, so that the door's own value is held to it. */
-static uint16_t check_with(uint16_t value, uint8_t byte)
+uint16_t check_with(uint16_t value, uint8_t byte)
 {
     int bit;
     value ^= byte;

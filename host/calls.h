@@ -34,6 +34,7 @@ void meter_frame(struct meter *meter, const uint8_t *bytes, size_t n, size_t shi
 void seal(uint8_t *frame, size_t n);
 
 /* The check value, by the host's own reckoning. */
+uint16_t check_with(uint16_t value, uint8_t byte);
 uint16_t check_of(const uint8_t *bytes, size_t n);
 
 /* The words of a bank or a sheet, and the rate that a bank holds, as cedarskein.h says to find it. */

@@ -1,4 +1,4 @@
-/* The door's check value against the host's own, on noise of every length, as a running state and whole. */
+/* The door's check value against the host's own: each byte into each state, and noise of every length, as a running state and whole. */
 #include "calls.h"
 
 #include "cedarskein.h"
@@ -25,11 +25,34 @@ static void noise_of(size_t n)
     expect(lent_as_before(&bytes), "the bytes are as before");
 }
 
+/* What the host makes of each state that a byte has been mixed into. */
+static uint16_t shifted[0x10000];
+
+static uint32_t first_wrong_byte(uint16_t state)
+{
+    uint32_t byte = 0;
+    while (byte < 0x100 && cedarskein_check_take(state, (uint8_t)byte) == shifted[state ^ byte])
+        byte++;
+    return byte;
+}
+
+static void every_step(void)
+{
+    uint32_t state;
+    for (state = 0; state < 0x10000; state++)
+        shifted[state] = check_with((uint16_t)state, 0);
+    for (state = 0; state < 0x10000; state++) {
+        at_case("the state %04lX", (unsigned long)state);
+        expect_number(0x100, first_wrong_byte((uint16_t)state), "the first byte, if under 100, that check_take takes otherwise");
+    }
+}
+
 int main(void)
 {
     size_t n;
+    every_step();
     for (n = 0; n <= 300; n++)
         noise_of(n);
     noise_of(5000);
-    return told("check values of 0 to 300 and 5000 bytes of noise");
+    return told("each byte into each state of the check value; check values of 0 to 300 and 5000 bytes of noise");
 }

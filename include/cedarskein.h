@@ -181,8 +181,8 @@ extern "C" {
 
 #define CEDARSKEIN_VERSION_MAJOR 2
 #define CEDARSKEIN_VERSION_MINOR 0
-#define CEDARSKEIN_VERSION_PATCH 0
-#define CEDARSKEIN_VERSION "2.0.0"
+#define CEDARSKEIN_VERSION_PATCH 1
+#define CEDARSKEIN_VERSION "2.0.1"
 
 #define CEDARSKEIN_LONGEST_FRAME 100 /* bytes, its check included; a longer frame gets silence */
 #define CEDARSKEIN_LEAST_OUT 100     /* bytes that out must have at least, for the longest reply */
