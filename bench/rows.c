@@ -367,7 +367,8 @@ static int make_records(struct row *row, const char *name)
     return 1;
 }
 
-/* The check value of so many bytes, or one byte more of its running state. No sheet is in the call. */
+/* The check value of so many bytes, or one byte more into its running state. No sheet is in the call; the UX sheet is there for the
+ * fresh bank that every row has. */
 static int make_check(struct row *row, const char *name)
 {
     unsigned n;

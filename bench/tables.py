@@ -32,7 +32,7 @@ RECORDS = [("records_1_read", "03 of a record of 22 words, ring of 1 record"),
            ("why_records_1_read", "why, 03 of a record of 22 words, ring of 1 record"),
            ("why_records_6600_read", "why, 03 of a record of 22 words, ring of 6,600 records")]
 CHECK = [("check_value_8", "the check value of 8 bytes"), ("check_value_100", "the check value of 100 bytes"),
-         ("check_take_1", "the check value, one byte more")]
+         ("check_take_1", "one byte into a running state")]
 CALLS = UX + LARGEST + WHY + RECORDS + CHECK
 GROWTH = [("items", "sheet check, 1 area, items: {}", "items_{}_check", (2, 8, 32, 64)),
           ("items", "03 of 2 words, 1 area, items: {}", "items_{}_read", (2, 8, 32, 64)),

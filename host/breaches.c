@@ -22,7 +22,7 @@ uint32_t __real_cedarskein_ring_check(const uint8_t *sheet, size_t sheet_n, cons
 uint32_t __real_cedarskein_add_record(const uint8_t *sheet, size_t sheet_n, uint8_t *ring, size_t ring_n, const uint8_t *record,
                                       size_t record_n);
 
-/* The environment is asked once: a test makes some hundred thousand calls, and each asks for every breach of its door. */
+/* The environment is asked once: a test makes a hundred thousand calls and more, and each asks for every breach of its door. */
 static int breach_is(const char *name)
 {
     static const char *breach;

@@ -23,9 +23,10 @@ pub struct Check {
 const ODD: u32 = 0xFC00_0100;
 
 // What eight shifts make of a state that is below 256. The one function that knows how a byte is shifted out: for this polynomial
-// the byte itself at bits 6 and 7 and, where it has an odd number of ones, C001. One rotation of 32 bits to the left by 6 does all of
-// that, of the byte combined with its double: of what is added to an odd byte these two leave bits 8, 9 and 26, which become 14, 15
-// and 0. No form that was measured takes fewer instructions without taking more room (docs/BENCH.md, "Forms of the check value").
+// the byte itself at bits 6 and 7 and, where it has an odd number of ones, C001. One rotation of 32 bits to the left by 6 gives all of
+// that: of the byte, with ODD added where its ones are odd in number, combined with its own double in 32 bits. Of ODD that leaves
+// bits 8, 9 and 26, which become 14, 15 and 0. No form that was measured takes fewer instructions without taking more room
+// (docs/BENCH.md, "Forms of the check value").
 fn eight_shifts(low: u8) -> u16
     ensures { λ r. ⌜ r ≡ shiftedTimes bitsOfByte low ⌝ }
 {

@@ -15,7 +15,7 @@ use Rattle.check_value.proofs.eight_shifts.Tie as tie
 use Rattle.check_value.proofs.eight_shifts.Reads as reads
 use Rattle.check_value.proofs.eight_shifts.Lts as lts
 
--- the code's last two lines: a number combined with its double, and the lowest sixteen bits of that, rotated
+-- the code's last two lines: a number combined with its double in 32 bits, and of that, rotated by six, the lowest sixteen bits
 abbrev both : ℕ → ℕ
 both marked = bitXor marked (marked % 0x80000000 * 2)
 
@@ -41,27 +41,27 @@ fits-at-end c =
     let small : low < 256 = c .before .before .fits .low .fits in
     subst (λ (n : ℕ). n < 2 ^ 16) (sym (at-end c)) (times-below bitsOfByte low (omega arith))
 
--- src/lib.rt:34:9
+-- src/lib.rt:35:9
 add-marked : tie.Need-add-marked
 add-marked c = search needs
 
--- src/lib.rt:38:25
+-- src/lib.rt:39:25
 mul-both : tie.Need-mul-both
 mul-both c = search needs
 
--- src/lib.rt:39:6
+-- src/lib.rt:40:6
 mul-result : tie.Need-mul-result
 mul-result c = search needs
 
--- src/lib.rt:39:6
+-- src/lib.rt:40:6
 add-result : tie.Need-add-result
 add-result c = omega (arith, fits-at-end c)
 
--- src/lib.rt:39:5
+-- src/lib.rt:40:5
 cast-result : tie.Need-cast-result
 cast-result c = omega (arith, fits-at-end c)
 
--- src/lib.rt:29:1
+-- src/lib.rt:30:1
 returns : tie.Need-returns
 returns c = at-end c
 
