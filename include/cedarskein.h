@@ -95,15 +95,23 @@
  *   calls are new, cedarskein_ring_check and cedarskein_add_record, and one number, 8; a board whose sheet has no record
  *   area gets it only for a ring that is not 0 bytes.
  *
+ * A board from version 2
+ *
+ *   From 3.0 on cedarskein_why takes one pointer more, behind the address: the side at which an item's value misses its
+ *   range. A program that is compiled with this header shows each place to change; compile anew everything that calls it.
+ *   An object that was compiled with version 2's header links without a word, and its call lets the side be written to
+ *   wherever the last argument would lie: that goes wrong. Every other call, sheets, banks, rings and replies are as they
+ *   were.
+ *
  * What the caller owes
  *
  *   The proofs hold for any bytes in the buffers, and for calls that keep to this:
  *
  *   - each pointer is valid for the number of bytes given with it; it may be null only where that number is 0;
- *   - the pointers length, rate, reason and address are valid and aligned; byte buffers may start at any address;
- *   - what a call writes (bank, out, *length, *rate, *reason, *address, and the ring, which only cedarskein_add_record
- *     writes) overlaps nothing else that the call is lent: a frame is not answered in its own buffer, and a record that is
- *     added does not lie in the ring;
+ *   - the pointers length, rate, reason, address and side are valid and aligned; byte buffers may start at any address;
+ *   - what a call writes (bank, out, *length, *rate, *reason, *address, *side, and the ring, which only
+ *     cedarskein_add_record writes) overlaps nothing else that the call is lent: a frame is not answered in its own buffer,
+ *     and a record that is added does not lie in the ring;
  *   - while a call runs nobody else writes what it is lent, or reads what it writes: one bank is not used by two tasks,
  *     or a task and an interrupt, at once, and no record is added while a frame is answered from the ring. Calls on
  *     different banks may run at once, on one sheet and on one ring too.
@@ -179,10 +187,10 @@
 extern "C" {
 #endif
 
-#define CEDARSKEIN_VERSION_MAJOR 2
+#define CEDARSKEIN_VERSION_MAJOR 3
 #define CEDARSKEIN_VERSION_MINOR 0
-#define CEDARSKEIN_VERSION_PATCH 1
-#define CEDARSKEIN_VERSION "2.0.1"
+#define CEDARSKEIN_VERSION_PATCH 0
+#define CEDARSKEIN_VERSION "3.0.0"
 
 #define CEDARSKEIN_LONGEST_FRAME 100 /* bytes, its check included; a longer frame gets silence */
 #define CEDARSKEIN_LEAST_OUT 100     /* bytes that out must have at least, for the longest reply */
@@ -240,6 +248,13 @@ enum cedarskein_reason {
     CEDARSKEIN_ITEM = 10          /* an item would be out of its range: error 03 */
 };
 
+/* At which end of its range the value is missed that an item would have. */
+enum cedarskein_side {
+    CEDARSKEIN_NO_SIDE = 0,  /* the reason is no item */
+    CEDARSKEIN_TOO_LOW = 1,  /* the value would be below the item's low bound */
+    CEDARSKEIN_TOO_HIGH = 2  /* the value would be above the item's high bound */
+};
+
 /* The check value as a running state: the state before any byte. Touches no memory. */
 uint16_t cedarskein_check_start(void);
 
@@ -286,15 +301,19 @@ uint32_t cedarskein_answer(const uint8_t *sheet, size_t sheet_n, uint8_t *bank, 
                            uint32_t *length, uint32_t *rate);
 
 /* Tells why cedarskein_answer gives silence or an error to a frame, with the bank and the ring as they are before the frame.
- * Gives back 0, else the first of 2, 3, 4 and 8. With 0, *reason is a number of enum cedarskein_reason, and *address is
+ * Gives back 0, else the first of 2, 3, 4 and 8. With 0, *reason is a number of enum cedarskein_reason, *side one of enum
+ * cedarskein_side, and *address is
  *   for CEDARSKEIN_ADDRESS: the lowest address of the frame's run that is in none of the areas (a record's is in none), not
  *      open to its function, or above FFFF (it can be 10000 hexadecimal); for a clear elsewhere than at the clear address,
  *      and for a record that is not stored, the frame's own;
  *   for CEDARSKEIN_ITEM: the first address of the first bad item, also where the frame writes only its lower half;
  *   for every other reason: 0.
- * *reason and *address are written by every call, zeros with a refusal. All that is lent is only read. */
+ * *side is 1 or 2 for CEDARSKEIN_ITEM, by the value that this item would have: its word, with a sign for kind 1; of a pair
+ * both words, also where the frame sends one of them and the other is the bank's. For every other reason it is 0.
+ * *reason, *address and *side are written by every call, zeros with a refusal. All that is lent is only read. */
 uint32_t cedarskein_why(const uint8_t *sheet, size_t sheet_n, const uint8_t *bank, size_t bank_n, const uint8_t *ring,
-                        size_t ring_n, const uint8_t *frame, size_t frame_n, uint32_t *reason, uint32_t *address);
+                        size_t ring_n, const uint8_t *frame, size_t frame_n, uint32_t *reason, uint32_t *address,
+                        uint32_t *side);
 
 /* Takes a sheet and what may be a ring of it, as at start-up. Gives back 0 where the ring is sound, else the first of 2 and
  * 8. What the records hold is not looked at. Writes nothing. */

@@ -19,12 +19,8 @@ fn sound(sheet: &[u8], bank: &[u8]) -> bool
     let mut k = 0;
     while rows::item_end(areas, k) <= sheet.len() {
         let item = rows::item_row(sheet, areas, k);
-        if !range::in_range(
-            item.kind,
-            item.low,
-            item.high,
-            bank_steps::value_in(bank, item),
-        ) {
+        let value = bank_steps::value_in(bank, item);
+        if !range::inside(range::side_of(item.kind, item.low, item.high, value)) {
             return false;
         }
         k += 1;

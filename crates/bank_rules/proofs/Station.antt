@@ -7,6 +7,7 @@ use native.Mathlib.Omega.{arith}
 use lib.Dec.{leb}
 use borrow.Author.Tests.{leb-true}
 use Rattle.range.specs.Range.{unsignedWord, numberOf, notAbove, inRange}
+use Rattle.range.proofs.Sides.{in-range-between}
 use Rattle.sheet_rules.specs.Rules.{lowestStation, highestStation, sound}
 use Rattle.lists.proofs.Tests.{first-of, second-of}
 use Rattle.bank_rules.specs.Stores.{wordOf}
@@ -16,13 +17,14 @@ use Rattle.bank_rules.proofs.Values.{setting-value, sound-items}
 
 -- a word without sign that is in its range lies between its bounds
 plain-between : (low high value : ℕ) → inRange unsignedWord low high value ≡ true → (low ≤ value) × (value ≤ high)
-unfolding inRange notAbove numberOf
-plain-between low high value e =
+unfolding notAbove numberOf
+plain-between low high value is =
+    let e = sym (in-range-between unsignedWord low high value) ∙ is in
     (leb-true low value (first-of (leb low value) (leb value high) e), leb-true value high (second-of (leb low value) (leb value high) e))
 
 pub station-within : (sheet bank : List ℕ) → sound sheet ≡ true → bankSound sheet bank ≡ true
     → (lowestStation ≤ stationOf sheet bank) × (stationOf sheet bank ≤ highestStation)
-unfolding goodBy
+unfolding goodBy inRange
 station-within sheet bank keeps whole =
     let address = address-item sheet keeps in
     let item = address .item in

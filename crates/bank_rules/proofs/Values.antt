@@ -12,6 +12,7 @@ use lib.IntN.{ℤ, pos, negsuc}
 use lib.Signed.{leZ}
 use borrow.Author.Tests.{le-leb, eqb-true, eq-eqb, ne-eqb}
 use Rattle.range.specs.Range.{unsignedPair, numberOf, notAbove, inRange}
+use Rattle.range.proofs.Sides.{in-range-between}
 use Rattle.sheet_rules.specs.declared.Item.{Item}
 use Rattle.sheet_rules.specs.Rows.{items}
 use Rattle.lists.specs.Lists.{each}
@@ -39,7 +40,7 @@ module _ (at by : ℕ → ℕ) (item : Item) (same : (place : ℕ) → holds ite
       go false e = first
 
   pub good-same : goodBy at item ≡ goodBy by item
-  unfolding goodBy
+  unfolding goodBy inRange
   good-same = ap (inRange (item .kind) (item .low) (item .high)) value-same
 
 -- ---- an item that is stored at a value
@@ -116,6 +117,7 @@ pub good-low : (at : ℕ → ℕ) (item : Item) → valueBy at item ≡ item .lo
 unfolding goodBy inRange
 good-low at item low ordered =
     ap (inRange (item .kind) (item .low) (item .high)) low
+    ∙ in-range-between (item .kind) (item .low) (item .high) (item .low)
     ∙ ap₂ _&&_ (not-above-itself (item .kind) (item .low)) ordered
 
 -- the address's and the rate's value is the word at its place
@@ -130,7 +132,7 @@ setting-value at setting =
 
 -- the address or the rate at 1
 pub good-one : {sheet : List ℕ} {place : ℕ} (at : ℕ → ℕ) (setting : SettingItem sheet place) → at place ≡ 1 → goodBy at (setting .item) ≡ true
-unfolding goodBy
+unfolding goodBy inRange
 good-one at setting one =
     ap (inRange (item .kind) (item .low) (item .high)) (setting-value at setting ∙ one) ∙ setting .one
   where

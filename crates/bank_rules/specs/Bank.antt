@@ -6,7 +6,8 @@ use mathlib.Core.List.{List, [], _∷_, _++_, map}
 use lib.Dec.{leb, eqb}
 use lib.ListN.{length}
 use Rattle.words.specs.Words.{wordAt}
-use Rattle.range.specs.Range.{inRange}
+use Rattle.range.specs.declared.Side.{Side}
+use Rattle.range.specs.Range.{sideOf, inside}
 use Rattle.sheet_rules.specs.declared.Item.{Item}
 use Rattle.sheet_rules.specs.declared.Lies.{Lies}
 use Rattle.sheet_rules.specs.declared.Lies.the-variants.{At, Nowhere}
@@ -31,9 +32,14 @@ markPlace sheet = bankWords sheet
 abbrev pub valueBy : (ℕ → ℕ) → Item → ℕ
 valueBy at item = cond (isPair item) (at (item .place) * 65536 + at (item .place + 1)) (at (item .place))
 
+-- rule B13, at which side of its range an item's value lies, where `at` gives the word at each place
+unfoldable pub sideBy : (ℕ → ℕ) → Item → Side
+sideBy at item = sideOf (item .kind) (item .low) (item .high) (valueBy at item)
+
 -- rule B10, of one item, where `at` gives the word at each place
 unfoldable pub goodBy : (ℕ → ℕ) → Item → Bool
-goodBy at item = inRange (item .kind) (item .low) (item .high) (valueBy at item)
+unfolding sideBy
+goodBy at item = inside (sideBy at item)
 
 -- rules B10 to B12
 unfoldable pub bankSound : List ℕ → List ℕ → Bool

@@ -80,7 +80,7 @@ module _ (frame : List ℕ) (small : Bytes frame) where
   reply-bytes WrongCount bank ring held kept fits = closed-bytes (errorReply frame 3) (error-bytes 3 (omega arith))
   reply-bytes WrongAddress bank ring held kept fits = closed-bytes (errorReply frame 2) (error-bytes 2 (omega arith))
   reply-bytes WrongValue bank ring held kept fits = closed-bytes (errorReply frame 3) (error-bytes 3 (omega arith))
-  reply-bytes (BadItem first stop) bank ring held kept fits = closed-bytes (errorReply frame 3) (error-bytes 3 (omega arith))
+  reply-bytes (BadItem first stop side) bank ring held kept fits = closed-bytes (errorReply frame 3) (error-bytes 3 (omega arith))
   reply-bytes (GoodRead first many) bank ring held kept fits =
       closed-bytes (readReply bank frame first many) (read-bytes bank held first many (leb-true many mostRead fits))
   reply-bytes (GoodRecord first many) bank ring held kept fits =
@@ -106,7 +106,7 @@ module _ (frame : List ℕ) (small : Bytes frame) where
   stored-bytes WrongCount sheet bank held = held
   stored-bytes WrongAddress sheet bank held = held
   stored-bytes WrongValue sheet bank held = held
-  stored-bytes (BadItem first stop) sheet bank held = run-bytes first (upFrom 0 (stop - first)) bank held
+  stored-bytes (BadItem first stop side) sheet bank held = run-bytes first (upFrom 0 (stop - first)) bank held
   stored-bytes (GoodRead first many) sheet bank held = held
   stored-bytes (GoodRecord first many) sheet bank held = held
   stored-bytes GoodClear sheet bank held = bytes-stored bank (2 * markPlace sheet) 0 (omega arith) held

@@ -7,6 +7,7 @@ use native.Mathlib.Omega.{arith}
 use lib.ListN.{length}
 use borrow.Author.Tests.{leb-true, le-leb, ltb-false, eqb-true}
 use Rattle.check_value.specs.Frame.{passes}
+use Rattle.range.specs.declared.Side.{Side}
 use Rattle.meter_rules.specs.declared.Judged.{Judged}
 use Rattle.meter_rules.specs.declared.Judged.the-variants.{FailsCheck, OtherStation, FunctionNotAllowed, WrongLength, WrongCount, WrongAddress, WrongValue, BadItem, GoodRead, GoodRecord, GoodClear, GoodWrite}
 use Rattle.bank_rules.specs.Calls.{Lent}
@@ -25,7 +26,7 @@ use Rattle.meter_rules.specs.Answer.{leastBuffer}
 use lib.Dec.{leb, ltb, eqb}
 use Rattle.frame.proofs.Laying.{has-room}
 use Rattle.sheet_rules.specs.Runs.{allOpen}
-use Rattle.meter_rules.specs.Write.{firstPlace, stopPlace}
+use Rattle.meter_rules.specs.Write.{firstPlace, stopPlace, stopSide}
 use Rattle.meter_rules.proofs.Order.{asks-for, read-address, registers-wrong}
 
 -- a good read is of at most 47 words, so that its reply has room
@@ -37,26 +38,26 @@ readFits WrongLength = true
 readFits WrongCount = true
 readFits WrongAddress = true
 readFits WrongValue = true
-readFits (BadItem first stop) = true
+readFits (BadItem first stop side) = true
 readFits (GoodRead first many) = leb many mostRead
 readFits (GoodRecord first many) = leb many mostRead
 readFits GoodClear = true
 readFits (GoodWrite first many) = true
 
 module _ (given : Lent) (frame : List ℕ) where
-  fits : (a₁ a₂ a₃ a₄ a₅ a₆ a₇ a₈ : Bool) (first stop : ℕ) (good : Judged) → (a₆ ≡ false → readFits good ≡ true)
+  fits : (a₁ a₂ a₃ a₄ a₅ a₆ a₇ a₈ : Bool) (first stop : ℕ) (side : Side) (good : Judged) → (a₆ ≡ false → readFits good ≡ true)
       → readFits (firstCase (when a₁ FailsCheck ∷ when a₂ OtherStation ∷ when a₃ FunctionNotAllowed ∷ when a₄ WrongLength ∷ when a₅ WrongCount
-      ∷ when a₆ WrongAddress ∷ when a₇ WrongValue ∷ when a₈ (BadItem first stop) ∷ []) good) ≡ true
+      ∷ when a₆ WrongAddress ∷ when a₇ WrongValue ∷ when a₈ (BadItem first stop side) ∷ []) good) ≡ true
   unfolding firstCase
-  fits true a₂ a₃ a₄ a₅ a₆ a₇ a₈ first stop good h = refl
-  fits false true a₃ a₄ a₅ a₆ a₇ a₈ first stop good h = refl
-  fits false false true a₄ a₅ a₆ a₇ a₈ first stop good h = refl
-  fits false false false true a₅ a₆ a₇ a₈ first stop good h = refl
-  fits false false false false true a₆ a₇ a₈ first stop good h = refl
-  fits false false false false false true a₇ a₈ first stop good h = refl
-  fits false false false false false false true a₈ first stop good h = refl
-  fits false false false false false false false true first stop good h = refl
-  fits false false false false false false false false first stop good h = h refl
+  fits true a₂ a₃ a₄ a₅ a₆ a₇ a₈ first stop side good h = refl
+  fits false true a₃ a₄ a₅ a₆ a₇ a₈ first stop side good h = refl
+  fits false false true a₄ a₅ a₆ a₇ a₈ first stop side good h = refl
+  fits false false false true a₅ a₆ a₇ a₈ first stop side good h = refl
+  fits false false false false true a₆ a₇ a₈ first stop side good h = refl
+  fits false false false false false true a₇ a₈ first stop side good h = refl
+  fits false false false false false false true a₈ first stop side good h = refl
+  fits false false false false false false false true first stop side good h = refl
+  fits false false false false false false false false first stop side good h = h refl
 
   good-fits : sound (given .sheet) ≡ true → wrongAddress given frame ≡ false → readFits (goodFrame given frame) ≡ true
   good-fits keeps p = go (eqb (function frame) reads) (eqb (function frame) clears) (startsInRecords (given .sheet) frame) refl refl
@@ -89,7 +90,7 @@ module _ (given : Lent) (frame : List ℕ) where
   judged-fits keeps =
       fits (failsCheck frame) (otherStation given frame) (functionNotAllowed (given .sheet) frame) (wrongLength frame) (wrongCount (given .sheet) frame)
       (wrongAddress given frame) (wrongValue frame) (badWrite given frame) (firstPlace (given .sheet) frame) (stopPlace given frame)
-      (goodFrame given frame) (good-fits keeps)
+      (stopSide given frame) (goodFrame given frame) (good-fits keeps)
 
 -- a reply that is not none is closed
 reply-closed : (judged : Judged) (bank ring frame : List ℕ) → readFits judged ≡ true → (replyTo judged bank ring frame ≡ [] → ⊥)
@@ -102,7 +103,7 @@ reply-closed WrongLength bank ring frame fits some = absurd (some refl)
 reply-closed WrongCount bank ring frame fits some = error-closed frame 3
 reply-closed WrongAddress bank ring frame fits some = error-closed frame 2
 reply-closed WrongValue bank ring frame fits some = error-closed frame 3
-reply-closed (BadItem first stop) bank ring frame fits some = error-closed frame 3
+reply-closed (BadItem first stop side) bank ring frame fits some = error-closed frame 3
 reply-closed (GoodRead first many) bank ring frame fits some =
     closing (readReply bank frame first many) (omega (arith, read-length bank frame first many))
     (omega (arith, read-length bank frame first many, leb-true many mostRead fits))

@@ -25,9 +25,10 @@ use Rattle.bank_rules.proofs.Values.{good-same, sound-bank, sound-items, sound-
 use Rattle.sheet_rules.specs.declared.Purpose.the-variants.{Write}
 use Rattle.frame.specs.Frame.{start, count, run, sent}
 use Rattle.sheet_rules.specs.Runs.{allOpen}
-use Rattle.meter_rules.specs.Write.{firstPlace, inRun, wouldBe, touched, badItem, stopIn, stopPlace, runStores}
+use Rattle.meter_rules.specs.Write.{firstPlace, inRun, wouldBe, touched, badItem, stopIn, stopOf, runStores}
+use Rattle.meter_rules.specs.declared.Stop.the-variants.{NoBadItem}
 use Rattle.meter_rules.proofs.Judging.{run-above}
-use Rattle.meter_rules.proofs.Stopping.{run-below, stop-bound}
+use Rattle.meter_rules.proofs.Stopping.{run-below, storesTo, stopsAt, stop-bound}
 use Rattle.meter_rules.proofs.Written.{run-inside, run-store, words-written}
 
 -- ---- an item and its places
@@ -94,18 +95,19 @@ module _ (first many : ℕ) where
 
     -- ---- the stop
 
-    -- it is the end of the run, or the first place of a bad item
-    pub stop-at : (l : List Item) → (stopIn first many bank frame l ≡ first + many)
-        ⊎ ((item : Item) × Among item l × (badItem first many bank frame item ≡ true) × (item .place ≡ stopIn first many bank frame l))
+    -- there is none, or it is at a bad item, with the side of the value that this item would have
+    pub stop-at : (l : List Item) → (stopIn first many bank frame l ≡ NoBadItem)
+        ⊎ ((item : Item) × Among item l × (badItem first many bank frame item ≡ true) × (stopsAt first many bank frame item ≡ stopIn first many bank frame l))
     unfolding stopIn
     stop-at [] = inl refl
     stop-at (item ∷ behind) = go (badItem first many bank frame item) refl (stop-at behind)
       where
-        go : (bad : Bool) → badItem first many bank frame item ≡ bad → (stopIn first many bank frame behind ≡ first + many)
-            ⊎ ((other : Item) × Among other behind × (badItem first many bank frame other ≡ true) × (other .place ≡ stopIn first many bank frame behind))
-            → (cond bad (item .place) (stopIn first many bank frame behind) ≡ first + many)
+        go : (bad : Bool) → badItem first many bank frame item ≡ bad → (stopIn first many bank frame behind ≡ NoBadItem)
+            ⊎ ((other : Item) × Among other behind × (badItem first many bank frame other ≡ true)
+            × (stopsAt first many bank frame other ≡ stopIn first many bank frame behind))
+            → (cond bad (stopsAt first many bank frame item) (stopIn first many bank frame behind) ≡ NoBadItem)
             ⊎ ((other : Item) × Among other (item ∷ behind) × (badItem first many bank frame other ≡ true)
-            × (other .place ≡ cond bad (item .place) (stopIn first many bank frame behind)))
+            × (stopsAt first many bank frame other ≡ cond bad (stopsAt first many bank frame item) (stopIn first many bank frame behind)))
         go true says rest = inr (item, here, says, refl)
         go false says (inl e) = inl e
         go false says (inr found) = inr (found .0, there (found .1), found .2, found .3)
@@ -113,7 +115,7 @@ module _ (first many : ℕ) where
     -- no bad item stands in front of it, where items ascend
     stop-front : (row : ℕ → Item) (from count : ℕ) → ((i j : ℕ) → i < j → j < from + count → row i .place < row j .place)
         → (k : ℕ) → from ≤ k → k < from + count → badItem first many bank frame (row k) ≡ true
-        → stopIn first many bank frame (rows row from count) ≤ row k .place
+        → storesTo (first + many) (stopIn first many bank frame (rows row from count)) ≤ row k .place
     unfolding stopIn rows
     stop-front row from zero ascend k low high bad = absurd (omega arith)
     stop-front row from (suc count) ascend k low high bad =
@@ -127,8 +129,9 @@ module _ (first many : ℕ) where
             omega (arith, ap (λ (n : ℕ). row n .place) same)
 
         go : (this : Bool) → badItem first many bank frame (row from) ≡ this
-            → (suc from ≤ k → stopIn first many bank frame (rows row (suc from) count) ≤ row k .place)
-            → cond this (row from .place) (stopIn first many bank frame (rows row (suc from) count)) ≤ row k .place
+            → (suc from ≤ k → storesTo (first + many) (stopIn first many bank frame (rows row (suc from) count)) ≤ row k .place)
+            → storesTo (first + many) (cond this (stopsAt first many bank frame (row from)) (stopIn first many bank frame (rows row (suc from) count)))
+            ≤ row k .place
         go true e rest = not-below (ltb from k) refl
         go false e rest = rest (above (ltb from k) refl)
           where
@@ -156,14 +159,15 @@ module _ (given : Lent) (frame : List ℕ) (passed : Passed given) (all : allOpe
   abbrev first : ℕ
   first = firstPlace (given .sheet) frame
 
-  abbrev stop : ℕ
-  stop = stopPlace given frame
+  -- up to where the write stores
+  abbrev pub stop : ℕ
+  stop = storesTo (firstPlace (given .sheet) frame + count frame) (stopOf given frame)
 
   abbrev after : List ℕ
   after = stored (given .bank) (runStores frame first stop)
 
   pub bound : stop ≤ first + count frame
-  unfolding stopPlace
+  unfolding stopOf
   bound = stop-bound first (count frame) (given .bank) frame (items (given .sheet))
 
   below-bank : (k : ℕ) → k < stop - first → first + k < bankWords (given .sheet)
@@ -187,7 +191,7 @@ module _ (given : Lent) (frame : List ℕ) (passed : Passed given) (all : allOpe
 
   -- an item in front of the stop is not bad
   pub front-fine : {item : Item} → Among item (items (given .sheet)) → item .place < stop → badItem first (count frame) (given .bank) frame item ≡ false
-  unfolding stopPlace items
+  unfolding stopOf items
   front-fine {item} m less = go (badItem first (count frame) (given .bank) frame item) refl
     where
       go : (bad : Bool) → badItem first (count frame) (given .bank) frame item ≡ bad → bad ≡ false
@@ -205,21 +209,25 @@ module _ (given : Lent) (frame : List ℕ) (passed : Passed given) (all : allOpe
   -- its places stand in front of the stop, too, or the write stops nowhere
   front-places : {item : Item} → Among item (items (given .sheet)) → item .place < stop → (place : ℕ) → holds item place ≡ true
       → (stop ≡ first + count frame) ⊎ (place < stop)
-  unfolding stopPlace
+  unfolding stopOf
   front-places {item} m less place held = go (stop-at first (count frame) (given .bank) frame (items (given .sheet)))
     where
-      go : (stop ≡ first + count frame)
-          ⊎ ((other : Item) × Among other (items (given .sheet)) × (badItem first (count frame) (given .bank) frame other ≡ true) × (other .place ≡ stop))
+      go : (stopOf given frame ≡ NoBadItem)
+          ⊎ ((other : Item) × Among other (items (given .sheet)) × (badItem first (count frame) (given .bank) frame other ≡ true)
+          × (stopsAt first (count frame) (given .bank) frame other ≡ stopOf given frame))
           → (stop ≡ first + count frame) ⊎ (place < stop)
-      go (inl e) = inl e
+      go (inl e) = inl (ap (storesTo (first + count frame)) e)
       go (inr found) = inr (in-front (ltb place stop) refl)
         where
+          there-stops : found .0 .place ≡ stop
+          there-stops = ap (storesTo (first + count frame)) (found .3)
+
           in-front : (b : Bool) → ltb place stop ≡ b → place < stop
           in-front true says = ltb-true place stop says
           in-front false says =
-              let at : found .0 .place ≡ place = omega (arith, found .3, ltb-false place stop says, held-high item place held) in
+              let at : found .0 .place ≡ place = omega (arith, there-stops, ltb-false place stop says, held-high item place held) in
               let same = holder-alone (given .sheet) (passed .right) place m held (found .1) (holds-first (found .0) place at) in
-              absurd (omega (arith, found .3, ap (λ (i : Item). i .place) same))
+              absurd (omega (arith, there-stops, ap (λ (i : Item). i .place) same))
 
   item-good : (item : Item) → Among item (items (given .sheet)) → goodBy (wordOf after) item ≡ true
   item-good item m =
@@ -244,7 +252,7 @@ module _ (given : Lent) (frame : List ℕ) (passed : Passed given) (all : allOpe
           )))
           ∙ sound-items (given .sheet) (given .bank) (passed .whole) m
 
-  pub write-sound : bankSound (given .sheet) (stored (given .bank) (runStores frame (firstPlace (given .sheet) frame) (stopPlace given frame))) ≡ true
+  pub write-sound : bankSound (given .sheet) after ≡ true
   write-sound =
       sound-bank (given .sheet) after item-good (ap (λ (n : ℕ). leb n 1) mark-kept ∙ sound-mark (given .sheet) (given .bank) (passed .whole))
 

@@ -1,13 +1,14 @@
 -- A sound bank stays sound, whatever the call answers and whatever frame comes. Assumes nothing.
 use mathlib.Core.Path.{_≡_, refl, sym, ap, _∙_}
-use mathlib.Core.Bool.{Bool, true, false, not, cond, _&&_, _||_, true≢false}
+use mathlib.Core.Bool.{Bool, true, false, not, cond, _&&_, _||_, false≢true, true≢false}
 use mathlib.Core.List.{List, [], _∷_}
-use Prim.Native.Nat.{ℕ, _+_, _≤_}
-use native.Mathlib.Omega.{arith}
+use Prim.Native.Nat.{ℕ, _+_}
 use lib.Dec.{eqb}
-use borrow.Author.Tests.{eq-eqb, eqb-false, ltb-false}
+use borrow.Author.Tests.{eq-eqb, eqb-false}
 use Rattle.sheet_rules.specs.Rows.{items, clearAddress, recordArea}
-use Rattle.lists.proofs.Tests.{first-of}
+use Rattle.meter_rules.specs.declared.Stop.{Stop}
+use Rattle.meter_rules.specs.declared.Stop.the-variants.{StopsAt, NoBadItem}
+use Rattle.lists.proofs.Tests.{first-of, second-of}
 use Rattle.bank_rules.specs.Stores.{stored}
 use Rattle.bank_rules.specs.Bank.{bankSound}
 use Rattle.bank_rules.specs.Calls.{Lent}
@@ -19,11 +20,11 @@ use Rattle.sheet_rules.specs.declared.Purpose.the-variants.{Write}
 use Rattle.frame.specs.Frame.{reads, clears, writesOne, writesMany, function, start, isWrite, count, run}
 use Rattle.meter_rules.specs.Steps.{startsInRecords, askedStart, wrongRead, goodRead, functionAllowed, failsCheck, otherStation, wrongLength, wrongCount, wrongAddress, wrongValue, badWrite, goodFrame, judgedFrame}
 use Rattle.sheet_rules.specs.Runs.{allOpen}
-use Rattle.meter_rules.specs.Write.{firstPlace, someBad, stopIn, stopPlace, runStores}
+use Rattle.meter_rules.specs.Write.{firstPlace, someBad, stopOf, placeOfStop, stopPlace, stopSide, runStores}
 use Rattle.meter_rules.specs.Reply.{storesOf}
 use Rattle.meter_rules.specs.Answer.{actedOn, answerOutcome}
 use Rattle.meter_rules.proofs.Order.{last-function}
-use Rattle.meter_rules.proofs.Stopping.{stop-some, stop-bound}
+use Rattle.meter_rules.proofs.Stopping.{stops, storesTo, stop-some}
 use Rattle.meter_rules.proofs.Outcomes.{quiet, quiet-changes-nothing, outcome-cases}
 use Rattle.meter_rules.proofs.Keeping.{write-sound, clear-sound}
 
@@ -63,7 +64,7 @@ module _ (sheet frame : List ℕ) where
 module _ (given : Lent) (frame : List ℕ) where
   -- what holds of each judgement that stores nothing, of a write with a bad item, of a good clear and of a good write holds of the frame's
   pub judged-cases : (P : Judged → Type 0) → ((judged : Judged) → quiet judged ≡ true → P judged)
-      → (OpenWrite (given .sheet) frame → P (BadItem (firstPlace (given .sheet) frame) (stopPlace given frame)))
+      → (OpenWrite (given .sheet) frame → someBad given frame ≡ true → P (BadItem (firstPlace (given .sheet) frame) (stopPlace given frame) (stopSide given frame)))
       → P GoodClear
       → (OpenWrite (given .sheet) frame → someBad given frame ≡ false → P (GoodWrite (firstPlace (given .sheet) frame) (count frame)))
       → P (judgedFrame given frame)
@@ -88,7 +89,7 @@ module _ (given : Lent) (frame : List ℕ) where
 
       go : (a₁ a₂ a₃ a₄ a₅ a₆ a₇ a₈ : Bool) → functionAllowed (given .sheet) frame ≡ a₃ → wrongAddress given frame ≡ a₆ → badWrite given frame ≡ a₈
           → P (firstCase (when a₁ FailsCheck ∷ when a₂ OtherStation ∷ when (not a₃) FunctionNotAllowed ∷ when a₄ WrongLength ∷ when a₅ WrongCount
-          ∷ when a₆ WrongAddress ∷ when a₇ WrongValue ∷ when a₈ (BadItem (firstPlace (given .sheet) frame) (stopPlace given frame)) ∷ [])
+          ∷ when a₆ WrongAddress ∷ when a₇ WrongValue ∷ when a₈ (BadItem (firstPlace (given .sheet) frame) (stopPlace given frame) (stopSide given frame)) ∷ [])
           (goodFrame given frame))
       go true a₂ a₃ a₄ a₅ a₆ a₇ a₈ p f h = nothing FailsCheck refl
       go false true a₃ a₄ a₅ a₆ a₇ a₈ p f h = nothing OtherStation refl
@@ -98,19 +99,31 @@ module _ (given : Lent) (frame : List ℕ) where
       go false false true false false true a₇ a₈ p f h = nothing WrongAddress refl
       go false false true false false false true a₈ p f h = nothing WrongValue refl
       go false false true false false false false true p f h =
-          stops (open-write given frame (first-of (isWrite frame) (someBad given frame) h) f)
+          stops (open-write given frame (first-of (isWrite frame) (someBad given frame) h) f) (second-of (isWrite frame) (someBad given frame) h)
       go false false true false false false false false p f h =
           good (eqb (function frame) reads) (eqb (function frame) clears) refl refl p f h
 
-  -- a write without a bad item stops at its end
-  pub stops-at-end : someBad given frame ≡ false → stopPlace given frame ≡ firstPlace (given .sheet) frame + count frame
-  unfolding someBad stopPlace
-  stops-at-end none =
-      let end : ℕ = firstPlace (given .sheet) frame + count frame in
-      let stop : ℕ = stopIn (firstPlace (given .sheet) frame) (count frame) (given .bank) frame (items (given .sheet)) in
-      let low : end ≤ stop = ltb-false stop end (stop-some (firstPlace (given .sheet) frame) (count frame) (given .bank) frame (items (given .sheet)) ∙ none) in
-      let high : stop ≤ end = stop-bound (firstPlace (given .sheet) frame) (count frame) (given .bank) frame (items (given .sheet)) in
-      omega (arith, low, high)
+  some-stops : stops (stopOf given frame) ≡ someBad given frame
+  unfolding someBad stopOf
+  some-stops = stop-some (firstPlace (given .sheet) frame) (count frame) (given .bank) frame (items (given .sheet))
+
+  -- a write with a bad item stores up to its stop, and one without up to its end
+  pub stores-to-stop : someBad given frame ≡ true → storesTo (firstPlace (given .sheet) frame + count frame) (stopOf given frame) ≡ stopPlace given frame
+  unfolding stopPlace
+  stores-to-stop one = go (stopOf given frame) (some-stops ∙ one)
+    where
+      go : (stop : Stop) → stops stop ≡ true → storesTo (firstPlace (given .sheet) frame + count frame) stop ≡ placeOfStop stop
+      go (StopsAt place side) e = refl
+      go NoBadItem e = absurd (false≢true e)
+
+  pub stores-to-end : someBad given frame ≡ false
+      → storesTo (firstPlace (given .sheet) frame + count frame) (stopOf given frame) ≡ firstPlace (given .sheet) frame + count frame
+  stores-to-end none = go (stopOf given frame) (some-stops ∙ none)
+    where
+      go : (stop : Stop) → stops stop ≡ false
+          → storesTo (firstPlace (given .sheet) frame + count frame) stop ≡ firstPlace (given .sheet) frame + count frame
+      go (StopsAt place side) e = absurd (true≢false e)
+      go NoBadItem e = refl
 
 -- ---- a sound bank stays sound
 
@@ -120,10 +133,12 @@ unfolding actedOn storesOf
 acted-sound given frame buffer passed =
     judged-cases given frame (λ judged. bankSound (given .sheet) (actedOn judged given frame buffer .bank) ≡ true)
     (λ judged silent. ap (bankSound (given .sheet)) (quiet-changes-nothing judged given frame buffer silent) ∙ passed .whole)
-    (λ opened. write-sound given frame passed (opened .all))
+    (λ opened one. ap (λ (stop : ℕ). bankSound (given .sheet) (stored (given .bank) (runStores frame (firstPlace (given .sheet) frame) stop)))
+    (sym (stores-to-stop given frame one))
+    ∙ write-sound given frame passed (opened .all))
     (clear-sound given passed)
     (λ opened none. ap (λ (stop : ℕ). bankSound (given .sheet) (stored (given .bank) (runStores frame (firstPlace (given .sheet) frame) stop)))
-    (sym (stops-at-end given frame none))
+    (sym (stores-to-end given frame none))
     ∙ write-sound given frame passed (opened .all))
 
 pub stays-sound : (given : Lent) (frame buffer : List ℕ) → bankSound (given .sheet) (given .bank) ≡ true

@@ -17,7 +17,7 @@ use Rattle.sheet_rules.specs.Lookup.{recordNumber}
 use Rattle.sheet_rules.specs.declared.Purpose.the-variants.{Read, Write}
 use Rattle.sheet_rules.specs.Runs.{allOpen}
 use Rattle.ring_rules.specs.Ring.{storedCount, placeOf, recordStart}
-use Rattle.meter_rules.specs.Write.{firstPlace, someBad, stopPlace}
+use Rattle.meter_rules.specs.Write.{firstPlace, someBad, stopPlace, stopSide}
 
 -- step 1: rule J10
 abbrev pub failsCheck : List ℕ → Bool
@@ -95,7 +95,7 @@ steps given frame =
     ∷ when (wrongCount (given .sheet) frame) WrongCount
     ∷ when (wrongAddress given frame) WrongAddress
     ∷ when (wrongValue frame) WrongValue
-    ∷ when (badWrite given frame) (BadItem (firstPlace (given .sheet) frame) (stopPlace given frame))
+    ∷ when (badWrite given frame) (BadItem (firstPlace (given .sheet) frame) (stopPlace given frame) (stopSide given frame))
     ∷ []
 
 -- rules T2 and T20: the word of the ring at which the record begins that a read asks for

@@ -1,17 +1,21 @@
--- A write, item by item: the places of a run, the item that a write stops at, and what it stores (rules K1 to K6). Assumes nothing.
+-- A write, item by item: the places of a run, the item that a write stops at, and what it stores (rules K1 to K6 and K12). Assumes nothing.
 use Prim.Native.Nat.{ℕ, _+_, _-_}
 use mathlib.Core.Bool.{Bool, not, cond, _&&_, _||_}
 use mathlib.Core.List.{List, [], _∷_, map}
 use lib.Dec.{leb, ltb}
+use Rattle.range.specs.declared.Side.{Side}
+use Rattle.range.specs.declared.Side.the-variants.{InRange}
 use Rattle.sheet_rules.specs.declared.Item.{Item}
 use Rattle.sheet_rules.specs.Rows.{areas, items}
 use Rattle.lists.specs.Lists.{some, upFrom}
 use Rattle.sheet_rules.specs.Rules.{isPair}
 use Rattle.sheet_rules.specs.Lookup.{liesIn, placeIn}
 use Rattle.bank_rules.specs.Stores.{Store, wordOf}
-use Rattle.bank_rules.specs.Bank.{goodBy}
+use Rattle.bank_rules.specs.Bank.{sideBy, goodBy}
 use Rattle.bank_rules.specs.Calls.{Lent}
 use Rattle.frame.specs.Frame.{start, count, sent}
+use Rattle.meter_rules.specs.declared.Stop.{Stop}
+use Rattle.meter_rules.specs.declared.Stop.the-variants.{StopsAt, NoBadItem}
 
 -- the place of the run's first address; the places of a run of addresses that all lie in areas follow each other from there
 abbrev pub firstPlace : List ℕ → List ℕ → ℕ
@@ -37,14 +41,33 @@ badItem first many bank frame item = touched first many item && not (goodBy (wou
 unfoldable pub someBad : Lent → List ℕ → Bool
 someBad given frame = some (badItem (firstPlace (given .sheet) frame) (count frame) (given .bank) frame) (items (given .sheet))
 
--- rule K5, the first place of the first bad item; the end of the run where no item is bad
-unfoldable pub stopIn : ℕ → ℕ → List ℕ → List ℕ → List Item → ℕ
-stopIn first many bank frame [] = first + many
+-- rules K5 and K12, where a write stops: at the first place of the first bad item, with the side at which the value that it would have misses its
+-- range; or that no item is bad
+unfoldable pub stopIn : ℕ → ℕ → List ℕ → List ℕ → List Item → Stop
+stopIn first many bank frame [] = NoBadItem
 stopIn first many bank frame (item ∷ behind) =
-    cond (badItem first many bank frame item) (item .place) (stopIn first many bank frame behind)
+    cond (badItem first many bank frame item) (StopsAt (item .place) (sideBy (wouldBe first many bank frame) item))
+    (stopIn first many bank frame behind)
+
+unfoldable pub stopOf : Lent → List ℕ → Stop
+stopOf given frame = stopIn (firstPlace (given .sheet) frame) (count frame) (given .bank) frame (items (given .sheet))
+
+-- the place and the side of a stop; 0 and in range where no item is bad
+abbrev pub placeOfStop : Stop → ℕ
+placeOfStop (StopsAt place side) = place
+placeOfStop NoBadItem = 0
+
+abbrev pub sideOfStop : Stop → Side
+sideOfStop (StopsAt place side) = side
+sideOfStop NoBadItem = InRange
 
 unfoldable pub stopPlace : Lent → List ℕ → ℕ
-stopPlace given frame = stopIn (firstPlace (given .sheet) frame) (count frame) (given .bank) frame (items (given .sheet))
+unfolding stopOf
+stopPlace given frame = placeOfStop (stopOf given frame)
+
+unfoldable pub stopSide : Lent → List ℕ → Side
+unfolding stopOf
+stopSide given frame = sideOfStop (stopOf given frame)
 
 -- the k-th word sent, at its place
 abbrev pub runStore : List ℕ → ℕ → ℕ → Store

@@ -1,2 +1,4 @@
 pub mod Numbers
+pub mod Sides
+pub mod SideCases
 pub mod Determined

@@ -1,10 +1,12 @@
--- The kinds of items, the number that a value stands for, and the judgement of a value between its bounds: rules S41, S43, S44, B10 and H3.
+-- The kinds of items, the number that a value stands for, and the judgement of a value by its bounds: rules S41, S43, S44, B10, B13 and H3.
 -- A value is the item's word or, for a pair, the upper word * 65536 + the lower word (rule B3). Assumes nothing.
 use Prim.Native.Nat.{ℕ, zero, suc}
-use mathlib.Core.Bool.{Bool, _&&_, cond}
+use mathlib.Core.Bool.{Bool, true, false, not, cond}
 use lib.Dec.{ltb}
 use lib.IntN.{ℤ, pos, _-ℤ_}
 use lib.Signed.{leZ}
+use Rattle.range.specs.declared.Side.{Side}
+use Rattle.range.specs.declared.Side.the-variants.{InRange, TooLow, TooHigh}
 
 -- rule S41: the kinds
 abbrev pub unsignedWord : ℕ
@@ -32,7 +34,29 @@ unfoldable pub notAbove : ℕ → ℕ → ℕ → Bool
 unfolding numberOf
 notAbove kind a b = leZ (numberOf kind a) (numberOf kind b)
 
--- rule B10, a value of a kind is between a low and a high bound: low ≤ value ≤ high
-unfoldable pub inRange : ℕ → ℕ → ℕ → ℕ → Bool
+-- one value of a kind is below another, as numbers
+unfoldable pub below : ℕ → ℕ → ℕ → Bool
 unfolding notAbove
-inRange kind low high value = notAbove kind low value && notAbove kind value high
+below kind a b = not (notAbove kind b a)
+
+-- rules B10 and B13, at which side of its range a value of a kind lies: below the low bound it is too low, above the high bound too high, and
+-- else in range
+unfoldable pub sideOf : ℕ → ℕ → ℕ → ℕ → Side
+unfolding below
+sideOf kind low high value = cond (below kind value low) TooLow (cond (below kind high value) TooHigh InRange)
+
+-- the same as yes or no
+abbrev pub inside : Side → Bool
+inside InRange = true
+inside TooLow = false
+inside TooHigh = false
+
+unfoldable pub inRange : ℕ → ℕ → ℕ → ℕ → Bool
+unfolding sideOf
+inRange kind low high value = inside (sideOf kind low high value)
+
+-- rule Y23: the number by which a side is told
+abbrev pub sideNumber : Side → ℕ
+sideNumber InRange = 0
+sideNumber TooLow = 1
+sideNumber TooHigh = 2

@@ -1,7 +1,7 @@
-// The judgement of a value between its bounds, one for the three kinds of item.
+// The judgement of a value by its bounds, one for the three kinds of item.
 ghost use mathlib.Core.Path.{_≡_};
 ghost use lib.IntN.{pos, _+ℤ_};
-ghost use Rattle.range.specs.Range.{signedWord, numberOf, notAbove, inRange};
+ghost use Rattle.range.specs.Range.{signedWord, numberOf, notAbove, sideOf, inside, inRange};
 
 // The number that a value of a kind stands for.
 pub fn number(kind: u16, value: u32) -> i64
@@ -36,12 +36,40 @@ pub fn not_above(kind: u16, a: u32, b: u32) -> bool
     a <= b
 }
 
-// Whether a value of a kind lies between its bounds.
+// At which side of its range a value lies: in it, below the low bound, or above the high one.
+pub enum Side {
+    InRange,
+    TooLow,
+    TooHigh,
+}
+
+// The judgement of a value of a kind by its bounds. The low bound is looked at first.
+pub fn side_of(kind: u16, low: u32, high: u32, value: u32) -> Side
+    ensures { λ r. ⌜ r ≡ sideOf kind low high value ⌝ }
+{
+    if !not_above(kind, low, value) {
+        return Side::TooLow;
+    }
+    if !not_above(kind, value, high) {
+        return Side::TooHigh;
+    }
+    Side::InRange
+}
+
+// Whether a side is the inside.
+pub fn inside(side: Side) -> bool
+    ensures { λ r. ⌜ r ≡ inside side ⌝ }
+{
+    match side {
+        Side::InRange => true,
+        Side::TooLow => false,
+        Side::TooHigh => false,
+    }
+}
+
+// Whether a value of a kind lies in its range.
 pub fn in_range(kind: u16, low: u32, high: u32, value: u32) -> bool
     ensures { λ r. ⌜ r ≡ inRange kind low high value ⌝ }
 {
-    if not_above(kind, low, value) {
-        return not_above(kind, value, high);
-    }
-    false
+    inside(side_of(kind, low, high, value))
 }

@@ -3,7 +3,7 @@
 use borrow.Author.Needs.{needs}
 use native.Mathlib.Omega.{arith}
 use Prim.Native.Nat.{ℕ, _+_, _*_, _-_, _≤_}
-use mathlib.Core.Path.{_≡_, _∙_, ap}
+use mathlib.Core.Path.{_≡_, _∙_, sym, ap}
 use borrow.Author.Tests.{not-true, not-false}
 use denote.Ref.{now}
 use lib.Dec.{leb}
@@ -45,55 +45,58 @@ item-row-requires c κs = search needs
 value-in-requires : tie.Need-value-in-requires Inv-loop μ-loop
 value-in-requires c κs = search needs
 
-in-range-requires : tie.Need-in-range-requires Inv-loop μ-loop
-in-range-requires c κs = search needs
+side-of-requires : tie.Need-side-of-requires Inv-loop μ-loop
+side-of-requires c κs = search needs
+
+inside-requires : tie.Need-inside-requires Inv-loop μ-loop
+inside-requires c κs = search needs
 
 returns : tie.Need-returns Inv-loop μ-loop
 unfolding bankSound
 returns c =
-    let a = c .before .before .before .before .before .before .before .before .before .before .args in
+    let a = c .before .before .before .before .before .before .before .before .before .before .before .args in
     let s = now (a .sheet) in
-    let loop = c .before .before .before .before .before .before .loop in
-    let inside = row-counted s (c .before .before .before .before .before .before .before .before .before .before .pre) (loop .k) (c .before .before .before .before .before .before .before .area-count .ensures) (c .before .before .before .before .before .item-end .ensures) (c .before .before .before .before .if1 .taken) in
-    let item-says = c .before .before .before .item-row .ensures ∙ ap (λ (n : ℕ). itemRow s n (loop .k)) (c .before .before .before .before .before .before .before .area-count .ensures) in
+    let loop = c .before .before .before .before .before .before .before .loop in
+    let inside = row-counted s (c .before .before .before .before .before .before .before .before .before .before .before .pre) (loop .k) (c .before .before .before .before .before .before .before .before .area-count .ensures) (c .before .before .before .before .before .before .item-end .ensures) (c .before .before .before .before .before .if1 .taken) in
+    let item-says = c .before .before .before .before .item-row .ensures ∙ ap (λ (n : ℕ). itemRow s n (loop .k)) (c .before .before .before .before .before .before .before .before .area-count .ensures) in
     let count = itemCount s in
     let good = goodBy (wordOf (now (a .bank))) in
     let row = itemAt s in
     let none = each-stops good (rows row (loop .k) (count - loop .k)) (rows row (loop .k + 1) (count - (loop .k + 1))) (row (loop .k))
     (rows-on row (loop .k) count inside) (each good (items s)) (loop .inv .1)
-    (good-told (wordOf (now (a .bank))) item-says (c .before .before .value-in .ensures) (c .before .in-range .ensures) ∙ not-true (c .before .in-range .result) (c .if2 .taken)) in
+    (good-told (wordOf (now (a .bank))) item-says (c .before .before .before .value-in .ensures) (c .before .before .side-of .ensures) ∙ sym (c .before .inside .ensures) ∙ not-true (c .before .inside .result) (c .if2 .taken)) in
     simp none
 
 add-k : tie.Need-add-k Inv-loop μ-loop
 add-k c =
-    let a = c .before .before .before .before .before .before .before .before .before .before .args in
+    let a = c .before .before .before .before .before .before .before .before .before .before .before .args in
     let s = now (a .sheet) in
-    let loop = c .before .before .before .before .before .before .loop in
-    let inside = row-counted s (c .before .before .before .before .before .before .before .before .before .before .pre) (loop .k) (c .before .before .before .before .before .before .before .area-count .ensures) (c .before .before .before .before .before .item-end .ensures) (c .before .before .before .before .if1 .taken) in
-    omega (arith, inside, sound-numbers s (c .before .before .before .before .before .before .before .before .before .before .pre) .items-high)
+    let loop = c .before .before .before .before .before .before .before .loop in
+    let inside = row-counted s (c .before .before .before .before .before .before .before .before .before .before .before .pre) (loop .k) (c .before .before .before .before .before .before .before .before .area-count .ensures) (c .before .before .before .before .before .before .item-end .ensures) (c .before .before .before .before .before .if1 .taken) in
+    omega (arith, inside, sound-numbers s (c .before .before .before .before .before .before .before .before .before .before .before .pre) .items-high)
 
 loop-less : tie.Need-loop-less Inv-loop μ-loop
 loop-less c =
-    let a = c .before .before .before .before .before .before .before .before .before .before .args in
+    let a = c .before .before .before .before .before .before .before .before .before .before .before .args in
     let s = now (a .sheet) in
-    let loop = c .before .before .before .before .before .before .loop in
-    let inside = row-counted s (c .before .before .before .before .before .before .before .before .before .before .pre) (loop .k) (c .before .before .before .before .before .before .before .area-count .ensures) (c .before .before .before .before .before .item-end .ensures) (c .before .before .before .before .if1 .taken) in
+    let loop = c .before .before .before .before .before .before .before .loop in
+    let inside = row-counted s (c .before .before .before .before .before .before .before .before .before .before .before .pre) (loop .k) (c .before .before .before .before .before .before .before .before .area-count .ensures) (c .before .before .before .before .before .before .item-end .ensures) (c .before .before .before .before .before .if1 .taken) in
     omega (arith, inside)
 
 loop-again : tie.Need-loop-again Inv-loop μ-loop
 loop-again c =
-    let a = c .before .before .before .before .before .before .before .before .before .before .args in
+    let a = c .before .before .before .before .before .before .before .before .before .before .before .args in
     let s = now (a .sheet) in
-    let loop = c .before .before .before .before .before .before .loop in
-    let inside = row-counted s (c .before .before .before .before .before .before .before .before .before .before .pre) (loop .k) (c .before .before .before .before .before .before .before .area-count .ensures) (c .before .before .before .before .before .item-end .ensures) (c .before .before .before .before .if1 .taken) in
-    let item-says = c .before .before .before .item-row .ensures ∙ ap (λ (n : ℕ). itemRow s n (loop .k)) (c .before .before .before .before .before .before .before .area-count .ensures) in
+    let loop = c .before .before .before .before .before .before .before .loop in
+    let inside = row-counted s (c .before .before .before .before .before .before .before .before .before .before .before .pre) (loop .k) (c .before .before .before .before .before .before .before .before .area-count .ensures) (c .before .before .before .before .before .before .item-end .ensures) (c .before .before .before .before .before .if1 .taken) in
+    let item-says = c .before .before .before .before .item-row .ensures ∙ ap (λ (n : ℕ). itemRow s n (loop .k)) (c .before .before .before .before .before .before .before .before .area-count .ensures) in
     let count = itemCount s in
     let good = goodBy (wordOf (now (a .bank))) in
     let row = itemAt s in (
       omega (arith, inside),
       each-goes-on good (rows row (loop .k) (count - loop .k)) (rows row (loop .k + 1) (count - (loop .k + 1))) (row (loop .k))
           (rows-on row (loop .k) count inside) (each good (items s)) (loop .inv .1)
-          (good-told (wordOf (now (a .bank))) item-says (c .before .before .value-in .ensures) (c .before .in-range .ensures) ∙ not-false (c .before .in-range .result) (c .if2 .left)),
+          (good-told (wordOf (now (a .bank))) item-says (c .before .before .before .value-in .ensures) (c .before .before .side-of .ensures) ∙ sym (c .before .inside .ensures) ∙ not-false (c .before .inside .result) (c .if2 .left)),
     )
 
 bank-words-requires : tie.Need-bank-words-requires Inv-loop μ-loop
@@ -132,7 +135,8 @@ sound-spec =
     item-end-requires
     item-row-requires
     value-in-requires
-    in-range-requires
+    side-of-requires
+    inside-requires
     returns
     add-k
     loop-less
