@@ -11,5 +11,7 @@ pub mod Bytes
 pub mod Written
 pub mod Keeping
 pub mod Soundness
+pub mod WhichSide
+pub mod AsBefore
 pub mod FrameLimits
 pub mod RecordLimits

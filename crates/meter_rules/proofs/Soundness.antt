@@ -103,7 +103,7 @@ module _ (given : Lent) (frame : List ℕ) where
       go false false true false false false false false p f h =
           good (eqb (function frame) reads) (eqb (function frame) clears) refl refl p f h
 
-  some-stops : stops (stopOf given frame) ≡ someBad given frame
+  pub some-stops : stops (stopOf given frame) ≡ someBad given frame
   unfolding someBad stopOf
   some-stops = stop-some (firstPlace (given .sheet) frame) (count frame) (given .bank) frame (items (given .sheet))
 
