@@ -26,7 +26,7 @@ use Rattle.meter_rules.specs.declared.Judged.{Judged}
 use Rattle.meter_rules.specs.declared.Judged.the-variants.{FailsCheck, OtherStation, FunctionNotAllowed, WrongLength, WrongCount, WrongAddress, WrongValue, BadItem, GoodRead, GoodRecord, GoodClear, GoodWrite}
 use Rattle.sheet_rules.specs.declared.Purpose.the-variants.{Read}
 use Rattle.sheet_rules.specs.Runs.{allOpen}
-use Rattle.meter_rules.specs.Write.{firstPlace, someBad, stopPlace}
+use Rattle.meter_rules.specs.Write.{firstPlace, someBad, stopPlace, stopSide}
 use Rattle.meter_rules.specs.Steps.{startsInRecords, askedStart, goodRead, failsCheck, otherStation, codeAllowed, functionAllowed, functionNotAllowed, wrongLength, wrongCount, wrongAddress, wrongValue, badWrite, goodFrame, judgedFrame}
 use Rattle.meter_rules.proofs.Order.{step-stops, step-passes, step-none, asks-for, value-is, bad-is, write-is, many-is, last-function, asks-write, read-address, registers-wrong, record-wrong, clear-address, clear-value, write-value, write-bad}
 use Rattle.meter.specs.declared.stages.Addressed.{Addressed}
@@ -85,18 +85,18 @@ module _ (given : Lent) (frame : List ℕ) where
       sym (step-passes (when (wrongAddress given frame) WrongAddress) _ _ p ∙ step-stops (when (wrongValue frame) WrongValue) _ _ e)
 
   pub stops-item : wrongAddress given frame ≡ false → wrongValue frame ≡ false → badWrite given frame ≡ true
-      → BadItem (firstPlace (given .sheet) frame) (stopPlace given frame) ≡ judgedFrom 5 given frame
+      → BadItem (firstPlace (given .sheet) frame) (stopPlace given frame) (stopSide given frame) ≡ judgedFrom 5 given frame
   unfolding judgedFrom
   stops-item p q e =
       sym (step-passes (when (wrongAddress given frame) WrongAddress) _ _ p ∙ step-passes (when (wrongValue frame) WrongValue) _ _ q
-      ∙ step-stops (when (badWrite given frame) (BadItem (firstPlace (given .sheet) frame) (stopPlace given frame))) _ _ e)
+      ∙ step-stops (when (badWrite given frame) (BadItem (firstPlace (given .sheet) frame) (stopPlace given frame) (stopSide given frame))) _ _ e)
 
   pub stops-nowhere : wrongAddress given frame ≡ false → wrongValue frame ≡ false → badWrite given frame ≡ false
       → goodFrame given frame ≡ judgedFrom 5 given frame
   unfolding judgedFrom
   stops-nowhere p q e =
       sym (step-passes (when (wrongAddress given frame) WrongAddress) _ _ p ∙ step-passes (when (wrongValue frame) WrongValue) _ _ q
-      ∙ step-passes (when (badWrite given frame) (BadItem (firstPlace (given .sheet) frame) (stopPlace given frame))) _ _ e
+      ∙ step-passes (when (badWrite given frame) (BadItem (firstPlace (given .sheet) frame) (stopPlace given frame) (stopSide given frame))) _ _ e
       ∙ step-none (goodFrame given frame))
 
   -- ---- by function

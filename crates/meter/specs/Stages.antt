@@ -6,17 +6,21 @@ use mathlib.Core.List.{List}
 use lib.Dec.{ltb, eqb}
 use lib.ListN.{drop}
 use Rattle.lists.specs.Cases.{firstCase}
+use Rattle.range.specs.declared.Side.{Side}
+use Rattle.range.specs.declared.Side.the-variants.{InRange}
+use Rattle.sheet_rules.specs.declared.Item.{Item}
 use Rattle.sheet_rules.specs.declared.RecordArea.{RecordArea}
 use Rattle.sheet_rules.specs.Rows.{recordArea}
 use Rattle.sheet_rules.specs.Rules.{sound, inRecords}
 use Rattle.sheet_rules.specs.Lookup.{recordNumber}
 use Rattle.ring_rules.specs.Ring.{storedCount, placeOf, recordStart}
-use Rattle.bank_rules.specs.Bank.{stationOf}
+use Rattle.bank_rules.specs.Bank.{stationOf, sideBy}
 use Rattle.bank_rules.specs.Calls.{Lent}
 use Rattle.frame.specs.declared.Parts.{Parts}
 use Rattle.frame.specs.Frame.{reads, writesMany, partsOf}
 use Rattle.meter_rules.specs.declared.Judged.{Judged}
 use Rattle.meter_rules.specs.declared.Judged.the-variants.{WrongCount, WrongAddress, GoodRecord}
+use Rattle.meter_rules.specs.Write.{wouldBe, touched}
 use Rattle.meter_rules.specs.Steps.{functionAllowed, steps, goodFrame}
 use Rattle.meter.specs.declared.stages.Addressed.{Addressed}
 use Rattle.meter.specs.declared.stages.Addressed.the-variants.{Here, Elsewhere}
@@ -44,6 +48,10 @@ pub record Known (sheet frame : List ℕ) (parts : Parts) : Type 0 where
 pub record AsksRead (parts : Parts) : Type 0 where
   pub asks : parts .function ≡ reads
   pub some : parts .second ≡ 0 → ⊥
+
+-- the side of its range at which a write would leave an item: one that it does not touch is left in range
+abbrev pub sideLeft : ℕ → ℕ → List ℕ → List ℕ → Item → Side
+sideLeft first many bank frame item = cond (touched first many item) (sideBy (wouldBe first many bank frame) item) InRange
 
 -- a read of one record by its address: it is beyond what is stored, or good
 abbrev pub judgedRecord : RecordArea → List ℕ → ℕ → Judged

@@ -24,7 +24,11 @@ fn error_code(judged: Judged) -> u8
         Judged::WrongCount => 3,
         Judged::WrongAddress => 2,
         Judged::WrongValue => 3,
-        Judged::BadItem { first: _, stop: _ } => 3,
+        Judged::BadItem {
+            first: _,
+            stop: _,
+            side: _,
+        } => 3,
         Judged::GoodRead { first: _, many: _ } => 0,
         Judged::GoodRecord { first: _, many: _ } => 0,
         Judged::GoodClear => 0,
@@ -78,7 +82,11 @@ fn make_stores(judged: Judged, sheet: &[u8], bank: &mut [u8], frame: &[u8])
     ensures { λ _. ⌜ now (bank .exit) ≡ stored (now (bank .entry)) (storesOf judged (now (sheet .entry)) (now (frame .entry))) ⌝ }
 {
     match judged {
-        Judged::BadItem { first, stop } => {
+        Judged::BadItem {
+            first,
+            stop,
+            side: _,
+        } => {
             values::store_run(bank, frame, first, count_to(first, stop));
         }
         Judged::GoodClear => {

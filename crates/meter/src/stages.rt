@@ -11,6 +11,7 @@ use crate::values::Write;
 use frame::Parts;
 use frame::Passed;
 use meter_rules::Judged;
+use meter_rules::Stop;
 use sheet_rules::Purpose;
 use sheet_rules::RecordArea;
 
@@ -227,15 +228,15 @@ fn judged_write(sheet: &[u8], bank: &[u8], ring: &[u8], frame: &[u8], parts: Par
         first: run.place,
         many: many as u32,
     };
-    let stop = values::stop_place(sheet, bank, frame, write);
-    if stop < write.first + write.many {
-        return Judged::BadItem {
+    match values::stop_of(sheet, bank, frame, write) {
+        Stop::StopsAt { place, side } => Judged::BadItem {
             first: write.first,
-            stop,
-        };
-    }
-    Judged::GoodWrite {
-        first: write.first,
-        many: write.many,
+            stop: place,
+            side,
+        },
+        Stop::NoBadItem => Judged::GoodWrite {
+            first: write.first,
+            many: write.many,
+        },
     }
 }

@@ -9,7 +9,10 @@ ghost use Rattle.sheet_rules.specs.Rules.{sound};
 ghost use Rattle.bank_rules.specs.Stores.{stored};
 ghost use Rattle.bank_rules.specs.Bank.{valueBy};
 ghost use Rattle.frame.specs.Frame.{valuesAt};
-ghost use Rattle.meter_rules.specs.Write.{inRun, wouldBe, touched, badItem, stopIn, runStore};
+ghost use Rattle.meter_rules.specs.Write.{inRun, wouldBe, touched, stopIn, runStore};
+ghost use Rattle.meter.specs.Stages.{sideLeft};
+use meter_rules::Stop;
+use range::Side;
 use sheet_rules::Item;
 
 // A write: where its values begin in the frame, the place of its first address, and how many registers it is for.
@@ -82,15 +85,15 @@ fn touches(write: Write, item: Item) -> bool
     in_run(write, place + 1)
 }
 
-// Whether a write touches an item and would leave it out of its range.
-fn is_bad(bank: &[u8], frame: &[u8], write: Write, item: Item) -> bool
+// The side of its range at which a write would leave an item. One that it does not touch is left as it is: in range.
+fn side_left(bank: &[u8], frame: &[u8], write: Write, item: Item) -> Side
     requires { ⌜ write .values ≡ valuesAt (now frame) ⌝ }
-    ensures { λ r. ⌜ r ≡ badItem (write .first) (write .many) (now (bank .entry)) (now (frame .entry)) item ⌝ }
+    ensures { λ r. ⌜ r ≡ sideLeft (write .first) (write .many) (now (bank .entry)) (now (frame .entry)) item ⌝ }
 {
     if !touches(write, item) {
-        return false;
+        return Side::InRange;
     }
-    !range::in_range(
+    range::side_of(
         item.kind,
         item.low,
         item.high,
@@ -117,8 +120,8 @@ fn first_near(sheet: &[u8], place: u32) -> u16
     near
 }
 
-// The first place of the first bad item, or the end of the run where no item is bad. Items ascend, so none outside the run is looked at.
-pub(crate) fn stop_place(sheet: &[u8], bank: &[u8], frame: &[u8], write: Write) -> u32
+// Where a write stops: at the first bad item, or that there is none. Items ascend, so none outside the run is looked at.
+pub(crate) fn stop_of(sheet: &[u8], bank: &[u8], frame: &[u8], write: Write) -> Stop
     requires { ⌜ sound (now sheet) ≡ true ⌝ }
     requires { ⌜ write .values ≡ valuesAt (now frame) ⌝ }
     requires { ⌜ write .first + write .many < 0x100000000 ⌝ }
@@ -130,14 +133,18 @@ pub(crate) fn stop_place(sheet: &[u8], bank: &[u8], frame: &[u8], write: Write) 
     while rows::item_end(areas, k) <= sheet.len() {
         let item = rows::item_row(sheet, areas, k);
         if end <= item.place as u32 {
-            return end;
+            return Stop::NoBadItem;
         }
-        if is_bad(bank, frame, write, item) {
-            return item.place as u32;
+        let side = side_left(bank, frame, write, item);
+        if !range::inside(side) {
+            return Stop::StopsAt {
+                place: item.place as u32,
+                side,
+            };
         }
         k += 1;
     }
-    end
+    Stop::NoBadItem
 }
 
 // Stores so many of the words sent, from a first place on.

@@ -68,27 +68,25 @@ returns c =
     write-shut (given at) (frame at) (start at .pre .1) (parts at) (start at .pre .0 .apart) (counts at)
     (run-shut (given at .sheet) (keeps at) Write (parts at .start) (run at) (many at) (c .if1 .taken))
 
-stop-place-requires : tie.Need-stop-place-requires
-stop-place-requires c κs =
+stop-of-requires : tie.Need-stop-of-requires
+stop-of-requires c κs =
     let at = found (c .before) in
     (keeps at, (c .values-at .ensures, small at))
 
-add-if2 : tie.Need-add-if2
-add-if2 c = omega (arith, small (found (c .before .before .before)))
-
 returns-2 : tie.Need-returns-2
 returns-2 c =
-    let far = c .before .before .before .before in
+    let found-stop = c .before .before .before in
+    let far = c .before .before .before .before .before in
     let at = found far in
     write-stopped (given at) (frame at) (start at .pre .1) (parts at) (start at .pre .0 .apart) (counts at) (all far) (place at)
-    (c .before .before .stop-place .ensures) (c .if2 .taken)
+    (found-stop .stop-of .ensures) (c .before .place .given .1)
 
 returns-3 : tie.Need-returns-3
 returns-3 c =
     let far = c .before .before .before .before in
     let at = found far in
     write-good (given at) (frame at) (start at .pre .1) (parts at) (start at .pre .0 .apart) (counts at) (all far) (place at)
-    (c .before .before .stop-place .ensures) (c .if2 .left)
+    (c .before .before .stop-of .ensures) (c .enum-told .given .1)
 
 pub judged-write-spec : {M : Type 1} → statement M
 judged-write-spec =
@@ -103,7 +101,8 @@ judged-write-spec =
     returns
     (λ c κs. search needs)
     (λ c. search needs)
-    stop-place-requires
-    add-if2
+    stop-of-requires
+    (λ c. search needs)
+    (λ c. search needs)
     returns-2
     returns-3)

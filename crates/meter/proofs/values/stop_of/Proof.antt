@@ -1,20 +1,24 @@
--- `meter::values::stop_place` meets its contract. The loop's invariant: the write stops by the items that are left where it stops by all.
+-- `meter::values::stop_of` meets its contract. The loop's invariant: the write stops by the items that are left where it stops by all.
 -- Assumes nothing.
 use borrow.Author.Needs.{needs}
 use native.Mathlib.Omega.{arith}
 use Prim.Native.Nat.{ℕ, _-_, _≤_, _<_}
 use mathlib.Core.Path.{_≡_, sym, ap, _∙_}
 use mathlib.Core.Bool.{true}
+use borrow.Author.Tests.{not-true, not-false}
 use mathlib.Core.List.{List}
 use denote.Ref.{now}
 use Rattle.sheet_rules.specs.declared.Item.{Item}
 use Rattle.sheet_rules.specs.Rows.{areaCount, itemCount, itemRow, itemAt, items}
 use Rattle.sheet_rules.specs.Rules.{sound}
 use Rattle.sheet_rules.proofs.Sound.{row-counted, row-past, sound-numbers}
+use Rattle.meter_rules.specs.declared.Stop.{Stop}
+use Rattle.meter_rules.specs.declared.Stop.the-variants.{StopsAt}
 use Rattle.meter_rules.specs.Write.{stopIn}
 use Rattle.meter_rules.proofs.Stopping.{itemsFrom, stop-skips, stop-past, stop-goes-on, stop-here, stop-none}
-use Rattle.meter.proofs.values.stop_place.Statement.{statement}
-use Rattle.meter.proofs.values.stop_place.Tie as tie
+use Rattle.meter.proofs.Writing.{left-inside, left-bad}
+use Rattle.meter.proofs.values.stop_of.Statement.{statement}
+use Rattle.meter.proofs.values.stop_of.Tie as tie
 
 abbrev Inv-loop : tie.InvT-loop
 Inv-loop sheet bank frame write areas end k₀ k =
@@ -53,7 +57,7 @@ module _ (c : tie.At-loop Inv-loop μ-loop) where
   areas-are = c .before .before .before .area-count .ensures
 
   -- where the write stops by all items, and so by those that are left
-  abbrev whole : ℕ
+  abbrev whole : Stop
   whole = stopIn first many bank frame (items sheet)
 
   left : stopIn first many bank frame (itemsFrom sheet (c .loop .k)) ≡ whole
@@ -92,32 +96,38 @@ returns c =
     stop-past (first at) (many at) (bank at) (frame at) (sheet at) (at .loop .k) (whole at) (left at)
     (keeps at) (inside row) (omega (arith, c .if2 .taken, ap (λ (i : Item). i .place) (item-is row)))
 
-is-bad-requires : tie.Need-is-bad-requires Inv-loop μ-loop
-is-bad-requires c κs = start (loop (c .before .before)) .pre .1 .0
+side-left-requires : tie.Need-side-left-requires Inv-loop μ-loop
+side-left-requires c κs = start (loop (c .before .before)) .pre .1 .0
 
 returns-2 : tie.Need-returns-2 Inv-loop μ-loop
 returns-2 c =
     let tested = c .before .before in
-    let row = tested .before .before .before in
+    let row = tested .before .before .before .before in
     let at = loop row in
-    stop-here (first at) (many at) (bank at) (frame at) (sheet at) (at .loop .k) (whole at) (left at)
-    (row .item-row .result) (item-is row) (inside row) (sym (tested .is-bad .ensures) ∙ c .before .if3 .taken)
+    let missed = not-true (tested .inside .result) (c .before .if3 .taken) in
+    let bad = left-bad (first at) (many at) (bank at) (frame at) (row .item-row .result) (tested .before .side-left .ensures)
+    (sym (tested .inside .ensures) ∙ missed) in
+    ap (StopsAt (row .item-row .result .place)) (bad .1)
+    ∙ stop-here (first at) (many at) (bank at) (frame at) (sheet at) (at .loop .k) (whole at) (left at)
+    (row .item-row .result) (item-is row) (inside row) (bad .0)
 
 add-k : tie.Need-add-k Inv-loop μ-loop
 add-k c =
-    let row = c .before .before .before .before in
+    let row = c .before .before .before .before .before in
     omega (arith, inside row, sound-numbers (sheet (loop row)) (keeps (loop row)) .items-high)
 
 loop-less : tie.Need-loop-less Inv-loop μ-loop
-loop-less c = omega (arith, inside (c .before .before .before .before))
+loop-less c = omega (arith, inside (c .before .before .before .before .before))
 
 loop-again : tie.Need-loop-again Inv-loop μ-loop
 loop-again c =
-    let row = c .before .before .before .before in
-    let at = loop row in (
+    let row = c .before .before .before .before .before in
+    let at = loop row in
+    let fine = left-inside (first at) (many at) (bank at) (frame at) (row .item-row .result) (c .before .before .side-left .ensures)
+    (sym (c .before .inside .ensures) ∙ not-false (c .before .inside .result) (c .if3 .left)) in (
       omega (arith, inside row),
       stop-goes-on (first at) (many at) (bank at) (frame at) (sheet at) (at .loop .k) (whole at) (left at)
-          (row .item-row .result) (item-is row) (inside row) (sym (c .before .is-bad .ensures) ∙ c .if3 .left),
+          (row .item-row .result) (item-is row) (inside row) fine,
     )
 
 returns-3 : tie.Need-returns-3 Inv-loop μ-loop
@@ -126,8 +136,8 @@ returns-3 c =
     stop-none (first at) (many at) (bank at) (frame at) (sheet at) (at .loop .k) (whole at) (left at)
     (row-past (sheet at) (keeps at) (at .loop .k) (areas-are at) (c .before .item-end .ensures) (c .if1 .left))
 
-pub stop-place-spec : {M : Type 1} → statement M
-stop-place-spec =
+pub stop-of-spec : {M : Type 1} → statement M
+stop-of-spec =
     tie.close
     (tie.spec
     Inv-loop
@@ -140,7 +150,8 @@ stop-place-spec =
     (λ c κs. search needs)
     (λ c. search needs)
     returns
-    is-bad-requires
+    side-left-requires
+    (λ c κs. search needs)
     (λ c. search needs)
     returns-2
     add-k
