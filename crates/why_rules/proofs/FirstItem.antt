@@ -1,5 +1,5 @@
--- The first bad item of a write: the write stops at one that is bad, and the address that is told is its own first one. (That no item in front of
--- the stop is bad is `front-fine` of meter_rules.) Assumes nothing.
+-- The first bad item of a write: the address that is told is its own first one. (That the write stops at one that is bad, and the side that is told,
+-- is `stopped` of meter_rules; that none in front of the stop is bad, `front-fine`.) Assumes nothing.
 use mathlib.Core.Path.{_≡_, refl, sym, ap, _∙_}
 use mathlib.Core.Bool.{Bool, true, _&&_, _||_, true≢false}
 use mathlib.Core.Logic.{_⊎_, inl, inr}
@@ -20,9 +20,8 @@ use Rattle.sheet_rules.proofs.Addresses.{address-lies}
 use Rattle.bank_rules.specs.Calls.{Lent}
 use Rattle.bank_rules.proofs.Held.{held-writable, writable-below, writable-access}
 use Rattle.frame.specs.Frame.{count}
-use Rattle.meter_rules.specs.Write.{firstPlace, badItem, someBad, stopIn, stopPlace}
-use Rattle.meter_rules.proofs.Stopping.{stop-some}
-use Rattle.meter_rules.proofs.Keeping.{stop-at}
+use Rattle.meter_rules.specs.Write.{firstPlace, badItem, someBad, stopPlace}
+use Rattle.meter_rules.proofs.WhichSide.{stopped}
 use Rattle.why_rules.specs.Facts.{firstBadItem}
 
 module _ (given : Lent) (frame : List ℕ) where
@@ -30,36 +29,12 @@ module _ (given : Lent) (frame : List ℕ) where
   abbrev pub isBad : Item → Bool
   isBad item = badItem (firstPlace (given .sheet) frame) (count frame) (given .bank) frame item
 
-  -- the write stops at an item that is bad
-  pub record StopsAt : Type 0 where
-    pub item : Item
-    pub among : Among item (items (given .sheet))
-    pub bad : isBad item ≡ true
-    pub at : item .place ≡ stopPlace given frame
-
   module _ (one : someBad given frame ≡ true) where
-    pub stops-at : StopsAt
-    unfolding stopPlace someBad
-    stops-at = go (stop-at (firstPlace (given .sheet) frame) (count frame) (given .bank) frame (items (given .sheet)))
-      where
-        end : ℕ
-        end = firstPlace (given .sheet) frame + count frame
-
-        stop : ℕ
-        stop = stopIn (firstPlace (given .sheet) frame) (count frame) (given .bank) frame (items (given .sheet))
-
-        before : ltb stop end ≡ true
-        before = stop-some (firstPlace (given .sheet) frame) (count frame) (given .bank) frame (items (given .sheet)) ∙ one
-
-        go : (stop ≡ end) ⊎ ((item : Item) × Among item (items (given .sheet)) × (isBad item ≡ true) × (item .place ≡ stop)) → StopsAt
-        go (inl e) = absurd (true≢false (sym before ∙ le-ltb stop end (omega (arith, e))))
-        go (inr (item, among, bad, at)) = record { item = item; among = among; bad = bad; at = at }
-
     module _ (keeps : sound (given .sheet) ≡ true) where
       held : inWritable (areas (given .sheet)) (stopPlace given frame) ≡ true
       held =
-          let found = stops-at in
-          ap (inWritable (areas (given .sheet))) (sym (found .at))
+          let found = stopped given frame one in
+          ap (inWritable (areas (given .sheet))) (sym (found .atPlace))
           ∙ held-writable (given .sheet) keeps (found .item .place) (found .among)
           (ap (λ (b : Bool). b || (isPair (found .item) && eqb (found .item .place + 1) (found .item .place)))
           (eq-eqb (found .item .place) (found .item .place) refl))

@@ -4,3 +4,4 @@ pub mod Parts
 pub mod FirstAddress
 pub mod FirstItem
 pub mod RecordReasons
+pub mod SideReasons

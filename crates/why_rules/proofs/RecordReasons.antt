@@ -25,7 +25,7 @@ use Rattle.meter_rules.specs.Write.{badItem, someBad, stopIn, stopPlace}
 use Rattle.meter_rules.proofs.FrameLimits.{small}
 use Rattle.meter_rules.proofs.RecordLimits.{history, freshBank, ringOf, full, partFull, empty}
 use Rattle.why_rules.specs.Facts.{firstShut}
-use Rattle.why_rules.specs.Reasons.{reasonOf, explanation, explainedNumber, reasonIn, addressIn}
+use Rattle.why_rules.specs.Reasons.{reasonOf, explanation, explainedNumber, reasonIn, addressIn, sideIn}
 
 pub record Row : Type 0 where
   pub sheet : List ℕ
@@ -35,8 +35,9 @@ pub record Row : Type 0 where
   pub number : ℕ
   pub reason : ℕ
   pub address : ℕ
+  pub side : ℕ
 
--- number 0: the words of the ring, the frame, the reason and the address
+-- number 0: the words of the ring, the frame, the reason and the address; no side
 abbrev says : List ℕ → List ℕ → ℕ → ℕ → Row
 says ring frame reason address =
     record {
@@ -47,18 +48,20 @@ says ring frame reason address =
       number = 0;
       reason = reason;
       address = address;
+      side = 0;
     }
 
 -- a refusal: zeros
 abbrev refuses : ℕ → List ℕ → List ℕ → List ℕ → List ℕ → Row
 refuses number sheet bank ring frame =
-    record { sheet = sheet; bank = bank; ring = ring; frame = frame; number = number; reason = 0; address = 0 }
+    record { sheet = sheet; bank = bank; ring = ring; frame = frame; number = number; reason = 0; address = 0; side = 0 }
 
 unfoldable pub right : Row → Bool
 right row =
     eqb (explainedNumber (explanation (lentWith (row .sheet) (row .bank) (row .ring)) (row .frame))) (row .number)
     && eqb (reasonIn (explanation (lentWith (row .sheet) (row .bank) (row .ring)) (row .frame))) (row .reason)
     && eqb (addressIn (explanation (lentWith (row .sheet) (row .bank) (row .ring)) (row .frame))) (row .address)
+    && eqb (sideIn (explanation (lentWith (row .sheet) (row .bank) (row .ring)) (row .frame))) (row .side)
 
 pub table : List Row
 table =

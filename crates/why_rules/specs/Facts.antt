@@ -1,6 +1,6 @@
--- The facts of a frame that are reasons for silence or an error, and the addresses that are told with two of them. The facts that the
--- judgement tests in the same words are its own: `otherStation`, `functionNotAllowed`, `wrongLength`, `wrongValue` and `badWrite`. Assumes
--- nothing.
+-- The facts of a frame that are reasons for silence or an error, the addresses that are told with two of them, and the side that is told with one.
+-- The facts that the judgement tests in the same words are its own: `otherStation`, `functionNotAllowed`, `wrongLength`, `wrongValue` and
+-- `badWrite`. Assumes nothing.
 use Prim.Native.Nat.{ℕ}
 use mathlib.Core.Bool.{Bool, not, cond, _&&_, _||_}
 use mathlib.Core.List.{List, [], _∷_}
@@ -8,13 +8,14 @@ use lib.Dec.{ltb, eqb}
 use lib.ListN.{length}
 use Rattle.check_value.specs.Frame.{shortest, longest, checkAgrees}
 use Rattle.frame.specs.Frame.{reads, clears, mostRead, function, start, second, isWrite, run}
+use Rattle.range.specs.declared.Side.{Side}
 use Rattle.sheet_rules.specs.Rows.{areas, clearAddress}
 use Rattle.sheet_rules.specs.Lookup.{liesIn, addressOf}
 use Rattle.sheet_rules.specs.declared.Purpose.{Purpose}
 use Rattle.sheet_rules.specs.declared.Purpose.the-variants.{Read, Write}
 use Rattle.sheet_rules.specs.Runs.{opens, allOpen}
 use Rattle.bank_rules.specs.Calls.{Lent}
-use Rattle.meter_rules.specs.Write.{stopPlace}
+use Rattle.meter_rules.specs.Write.{stopPlace, stopSide}
 use Rattle.meter_rules.specs.Steps.{startsInRecords, beyondStored, wrongCount}
 
 -- rule Y10
@@ -66,3 +67,7 @@ firstBadAddress sheet frame =
 -- rule Y21: the first address of the first bad item, as the listing has it
 abbrev pub firstBadItem : Lent → List ℕ → ℕ
 firstBadItem given frame = addressOf (areas (given .sheet)) (stopPlace given frame)
+
+-- rule Y23: the side at which the value that it would have misses its range
+abbrev pub firstBadSide : Lent → List ℕ → Side
+firstBadSide given frame = stopSide given frame

@@ -1,9 +1,10 @@
 // Why a frame gets silence or an error: specs/ has the facts and their order, proofs/ their laws. Here are the types that they speak of; there
 // is no code.
+use range::Side;
 use refusals::Refusal;
 
 // The reason for silence or an error, in the order in which reasons are told. `address` is the first bad address of a run, or that of a clear
-// elsewhere; of an item, the first address of the first bad one.
+// elsewhere; of an item, the first address of the first bad one, and `side` the side at which that item would miss its range.
 pub enum Reason {
     None,
     TooShort,
@@ -15,7 +16,7 @@ pub enum Reason {
     Count,
     Address { address: u32 },
     ClearValue,
-    Item { address: u32 },
+    Item { address: u32, side: Side },
 }
 
 // What a call that asks for the reason answers: refused, or the reason.
