@@ -59,5 +59,6 @@ pub cedarskein-answer-determined : Determined 7 answer.ps answer.r answer-reads.
 cedarskein-answer-determined κs a x y p q =
     read-off (λ o. (o .number, (tt, (o .bank, (tt, (tt, (o .buffer, (o .length, (o .rate, tt))))))))) (p .0) (q .0)
 
-pub cedarskein-why-determined : Determined 6 why.ps why.r why-reads.Post
-cedarskein-why-determined κs a x y p q = read-off (λ s. (s .number, (tt, (tt, (tt, (tt, (s .reason, (s .address, tt)))))))) (p .0) (q .0)
+pub cedarskein-why-determined : Determined 7 why.ps why.r why-reads.Post
+cedarskein-why-determined κs a x y p q =
+    read-off (λ s. (s .number, (tt, (tt, (tt, (tt, (s .reason, (s .address, (s .side, tt))))))))) (p .0) (q .0)

@@ -6,7 +6,7 @@ use Rattle.bank_rules.specs.Calls.{BankOutcome}
 use Rattle.ring_rules.specs.Calls.{RingOutcome}
 use Rattle.meter_rules.specs.Answer.{Outcome, answeredNumber, lengthIn, rateIn}
 use Rattle.why_rules.specs.declared.Explained.{Explained}
-use Rattle.why_rules.specs.Reasons.{explainedNumber, reasonIn, addressIn}
+use Rattle.why_rules.specs.Reasons.{explainedNumber, reasonIn, addressIn, sideIn}
 
 -- rule N53: the number of a call on a bank, and the bank afterwards
 pub record Told : Type 0 where
@@ -46,14 +46,15 @@ handedOf outcome =
     handed (answeredNumber (outcome .answered)) (lengthIn (outcome .answered)) (rateIn (outcome .answered)) (outcome .bank)
     (outcome .buffer)
 
--- rules Y2 and Y3: the number of a call that asks for the reason, the reason and the address
+-- rules Y2 and Y3: the number of a call that asks for the reason, the reason, the address and the side
 pub record Said : Type 0 where
   pub number : ℕ
   pub reason : ℕ
   pub address : ℕ
+  pub side : ℕ
 
-abbrev pub said : ℕ → ℕ → ℕ → Said
-said number reason address = record { number = number; reason = reason; address = address }
+abbrev pub said : ℕ → ℕ → ℕ → ℕ → Said
+said number reason address side = record { number = number; reason = reason; address = address; side = side }
 
 abbrev pub saidOf : Explained → Said
-saidOf explained = said (explainedNumber explained) (reasonIn explained) (addressIn explained)
+saidOf explained = said (explainedNumber explained) (reasonIn explained) (addressIn explained) (sideIn explained)

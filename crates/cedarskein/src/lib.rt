@@ -117,8 +117,8 @@ pub extern "C" fn cedarskein_answer(
     numbers::of_answered(answered)
 }
 
-// Tells why a frame gets silence or an error: 0 with the reason's number and its address, or 2, 3, 4, 8 in this order. Reason and address are
-// written on every call, zeros with a refusal. The second promise is as above.
+// Tells why a frame gets silence or an error: 0 with the reason's number, its address and its side, or 2, 3, 4, 8 in this order. Reason, address
+// and side are written on every call, zeros with a refusal. The second promise is as above.
 #[no_mangle]
 pub extern "C" fn cedarskein_why(
     sheet: &[u8],
@@ -127,12 +127,14 @@ pub extern "C" fn cedarskein_why(
     frame: &[u8],
     reason: &mut u32,
     address: &mut u32,
+    side: &mut u32,
 ) -> u32
-    ensures { λ r. ⌜ said r (now (reason .exit)) (now (address .exit)) ≡ saidOf (explanation (lentWith (now (sheet .entry)) (now (bank .entry)) (now (ring .entry))) (now (frame .entry))) ⌝ }
+    ensures { λ r. ⌜ said r (now (reason .exit)) (now (address .exit)) (now (side .exit)) ≡ saidOf (explanation (lentWith (now (sheet .entry)) (now (bank .entry)) (now (ring .entry))) (now (frame .entry))) ⌝ }
     ensures { λ r. ⌜ Bytes (now (sheet .entry)) × Bytes (now (bank .entry)) × Bytes (now (ring .entry)) × Bytes (now (frame .entry)) ⌝ }
 {
     let explained = why::why(sheet, bank, ring, frame);
     *reason = numbers::reason_in(explained);
     *address = numbers::address_in(explained);
+    *side = numbers::side_in(explained);
     numbers::of_explained(explained)
 }

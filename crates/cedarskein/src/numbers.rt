@@ -1,9 +1,11 @@
-// The number of each case of the library's answers: rules N0 to N8, and Y0 to Y22 for the reasons.
+// The number of each case of the library's answers: rules N0 to N8, and Y0 to Y24 for the reasons.
 ghost use mathlib.Core.Path.{_≡_};
 ghost use Rattle.refusals.specs.Answers.{refusalNumber, answerNumber};
 ghost use Rattle.meter_rules.specs.Answer.{answeredNumber, lengthIn, rateIn};
-ghost use Rattle.why_rules.specs.Reasons.{reasonNumber, reasonAddress, explainedNumber, reasonIn, addressIn};
+ghost use Rattle.why_rules.specs.Reasons.{reasonNumber, reasonAddress, reasonSide, explainedNumber, reasonIn, addressIn, sideIn};
+ghost use Rattle.range.specs.Range.{sideNumber};
 use meter_rules::Answered;
+use range::Side;
 use refusals::Answer;
 use refusals::Refusal;
 use why_rules::Explained;
@@ -90,7 +92,10 @@ fn of_reason(reason: Reason) -> u32
         Reason::Count => 7,
         Reason::Address { address: _ } => 8,
         Reason::ClearValue => 9,
-        Reason::Item { address: _ } => 10,
+        Reason::Item {
+            address: _,
+            side: _,
+        } => 10,
     }
 }
 
@@ -100,7 +105,7 @@ fn address_with(reason: Reason) -> u32
 {
     match reason {
         Reason::Address { address } => address,
-        Reason::Item { address } => address,
+        Reason::Item { address, side: _ } => address,
         Reason::None => 0,
         Reason::TooShort => 0,
         Reason::TooLong => 0,
@@ -113,7 +118,36 @@ fn address_with(reason: Reason) -> u32
     }
 }
 
-// The number of the reason, and its address; 0 with a refusal.
+fn of_side(side: Side) -> u32
+    ensures { λ r. ⌜ r ≡ sideNumber side ⌝ }
+{
+    match side {
+        Side::InRange => 0,
+        Side::TooLow => 1,
+        Side::TooHigh => 2,
+    }
+}
+
+// The number of the side that is told with a reason; 0 where there is none to tell.
+fn side_with(reason: Reason) -> u32
+    ensures { λ r. ⌜ r ≡ reasonSide reason ⌝ }
+{
+    match reason {
+        Reason::Item { address: _, side } => of_side(side),
+        Reason::Address { address: _ } => 0,
+        Reason::None => 0,
+        Reason::TooShort => 0,
+        Reason::TooLong => 0,
+        Reason::Check => 0,
+        Reason::Station => 0,
+        Reason::Function => 0,
+        Reason::BodyLength => 0,
+        Reason::Count => 0,
+        Reason::ClearValue => 0,
+    }
+}
+
+// The number of the reason, its address, and the number of its side; 0 with a refusal.
 pub(crate) fn reason_in(explained: Explained) -> u32
     ensures { λ r. ⌜ r ≡ reasonIn explained ⌝ }
 {
@@ -129,5 +163,14 @@ pub(crate) fn address_in(explained: Explained) -> u32
     match explained {
         Explained::Refused(_) => 0,
         Explained::Because(reason) => address_with(reason),
+    }
+}
+
+pub(crate) fn side_in(explained: Explained) -> u32
+    ensures { λ r. ⌜ r ≡ sideIn explained ⌝ }
+{
+    match explained {
+        Explained::Refused(_) => 0,
+        Explained::Because(reason) => side_with(reason),
     }
 }

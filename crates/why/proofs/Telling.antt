@@ -18,11 +18,11 @@ use Rattle.bank_rules.specs.Calls.{Lent}
 use Rattle.frame.specs.Frame.{reads, clears, mostRead, function, start, second, isWrite, count, run}
 use Rattle.meter_rules.specs.declared.Judged.the-variants.{FailsCheck, OtherStation, FunctionNotAllowed, WrongLength, WrongCount, WrongAddress, WrongValue, BadItem, GoodRead, GoodRecord, GoodClear, GoodWrite}
 use Rattle.meter_rules.specs.Steps.{startsInRecords, askedStart, otherStation, functionNotAllowed, wrongLength, wrongCount, wrongAddress, wrongValue, badWrite, goodFrame, judgedFrame}
-use Rattle.meter_rules.specs.Write.{firstPlace, someBad, stopPlace}
+use Rattle.meter_rules.specs.Write.{firstPlace, someBad, stopPlace, stopSide}
 use Rattle.meter_rules.proofs.Order.{asks-write}
 use Rattle.meter_rules.proofs.Records.{record-count}
 use Rattle.why_rules.specs.declared.Reason.the-variants.{None, TooShort, TooLong, Check, Station, Function, BodyLength, Count, Address, ClearValue, Item}
-use Rattle.why_rules.specs.Facts.{tooShort, tooLong, checkDiffers, readsTooMany, shutAddress, firstBadAddress, firstBadItem}
+use Rattle.why_rules.specs.Facts.{tooShort, tooLong, checkDiffers, readsTooMany, shutAddress, firstBadAddress, firstBadItem, firstBadSide}
 use Rattle.why_rules.specs.Reasons.{reasonOf, explainedBy, explanation}
 use Rattle.why_rules.proofs.Parts.{fails-check, wrong-address, which-shut, read-told, write-told, clear-told}
 use Rattle.why_rules.proofs.FirstAddress.{first-shut-reach}
@@ -112,24 +112,24 @@ module _ (given : Lent) (keeps : sound (given .sheet) ≡ true) (frame : List �
   -- the reason is told of where the frame stops: from step 6 on, where step 5 lets the frame through
   from-six : wrongCount (given .sheet) frame ≡ false
       → firstCase (when (readsTooMany (given .sheet) frame) Count ∷ when (shutAddress given frame) (Address (firstBadAddress (given .sheet) frame))
-      ∷ when (wrongValue frame) ClearValue ∷ when (badWrite given frame) (Item (firstBadItem given frame)) ∷ []) None
+      ∷ when (wrongValue frame) ClearValue ∷ when (badWrite given frame) (Item (firstBadItem given frame) (firstBadSide given frame)) ∷ []) None
       ≡ reasonBy (firstCase (when (wrongAddress given frame) WrongAddress ∷ when (wrongValue frame) WrongValue
-      ∷ when (badWrite given frame) (BadItem (firstPlace (given .sheet) frame) (stopPlace given frame)) ∷ []) (goodFrame given frame)) (given .sheet) frame
+      ∷ when (badWrite given frame) (BadItem (firstPlace (given .sheet) frame) (stopPlace given frame) (stopSide given frame)) ∷ []) (goodFrame given frame)) (given .sheet) frame
   unfolding firstCase
   from-six right =
       go (readsTooMany (given .sheet) frame) (shutAddress given frame) (wrongValue frame) (badWrite given frame) refl refl refl
       ∙ sym (ap (λ (wrong : Bool). reasonBy (firstCase (when wrong WrongAddress ∷ when (wrongValue frame) WrongValue
-      ∷ when (badWrite given frame) (BadItem (firstPlace (given .sheet) frame) (stopPlace given frame)) ∷ []) (goodFrame given frame)) (given .sheet) frame)
+      ∷ when (badWrite given frame) (BadItem (firstPlace (given .sheet) frame) (stopPlace given frame) (stopSide given frame)) ∷ []) (goodFrame given frame)) (given .sheet) frame)
       (wrong-address given frame))
     where
       go : (t s v h : Bool) → readsTooMany (given .sheet) frame ≡ t → shutAddress given frame ≡ s → badWrite given frame ≡ h
-          → firstCase (when t Count ∷ when s (Address (firstBadAddress (given .sheet) frame)) ∷ when v ClearValue ∷ when h (Item (firstBadItem given frame)) ∷ []) None
+          → firstCase (when t Count ∷ when s (Address (firstBadAddress (given .sheet) frame)) ∷ when v ClearValue ∷ when h (Item (firstBadItem given frame) (firstBadSide given frame)) ∷ []) None
           ≡ reasonBy (firstCase (when (t || s) WrongAddress ∷ when v WrongValue
-          ∷ when h (BadItem (firstPlace (given .sheet) frame) (stopPlace given frame)) ∷ []) (goodFrame given frame)) (given .sheet) frame
+          ∷ when h (BadItem (firstPlace (given .sheet) frame) (stopPlace given frame) (stopSide given frame)) ∷ []) (goodFrame given frame)) (given .sheet) frame
       go true s v h is-t is-s is-h = address-count is-t
       go false true v h is-t is-s is-h = address-shut right is-t is-s
       go false false true h is-t is-s is-h = refl
-      go false false false true is-t is-s is-h = ap (λ (place : ℕ). Item (addressOf (areas (given .sheet)) place)) whole
+      go false false false true is-t is-s is-h = ap (λ (place : ℕ). Item (addressOf (areas (given .sheet)) place) (stopSide given frame)) whole
         where
           whole : stopPlace given frame ≡ stopPlace given frame % 65536
           whole = omega (arith, stop-small given frame (second-of (isWrite frame) (someBad given frame) is-h) keeps)
@@ -143,16 +143,16 @@ module _ (given : Lent) (keeps : sound (given .sheet) ≡ true) (frame : List �
       ∙ sym (ap (λ (fails : Bool). reasonBy
       (firstCase (when fails FailsCheck ∷ when (otherStation given frame) OtherStation ∷ when (functionNotAllowed (given .sheet) frame) FunctionNotAllowed
       ∷ when (wrongLength frame) WrongLength ∷ when (wrongCount (given .sheet) frame) WrongCount ∷ when (wrongAddress given frame) WrongAddress
-      ∷ when (wrongValue frame) WrongValue ∷ when (badWrite given frame) (BadItem (firstPlace (given .sheet) frame) (stopPlace given frame)) ∷ [])
+      ∷ when (wrongValue frame) WrongValue ∷ when (badWrite given frame) (BadItem (firstPlace (given .sheet) frame) (stopPlace given frame) (stopSide given frame)) ∷ [])
       (goodFrame given frame)) (given .sheet) frame) (fails-check frame))
     where
       go : (a b c d e f g : Bool) → tooShort frame ≡ a → tooLong frame ≡ b → wrongCount (given .sheet) frame ≡ g
           → firstCase (when a TooShort ∷ when b TooLong ∷ when c Check ∷ when d Station ∷ when e Function ∷ when f BodyLength ∷ when (g || readsTooMany (given .sheet) frame) Count
           ∷ when (shutAddress given frame) (Address (firstBadAddress (given .sheet) frame)) ∷ when (wrongValue frame) ClearValue
-          ∷ when (badWrite given frame) (Item (firstBadItem given frame)) ∷ []) None
+          ∷ when (badWrite given frame) (Item (firstBadItem given frame) (firstBadSide given frame)) ∷ []) None
           ≡ reasonBy (firstCase (when (a || b || c) FailsCheck ∷ when d OtherStation ∷ when e FunctionNotAllowed ∷ when f WrongLength ∷ when g WrongCount
           ∷ when (wrongAddress given frame) WrongAddress ∷ when (wrongValue frame) WrongValue
-          ∷ when (badWrite given frame) (BadItem (firstPlace (given .sheet) frame) (stopPlace given frame)) ∷ []) (goodFrame given frame)) (given .sheet) frame
+          ∷ when (badWrite given frame) (BadItem (firstPlace (given .sheet) frame) (stopPlace given frame) (stopSide given frame)) ∷ []) (goodFrame given frame)) (given .sheet) frame
       go true b c d e f g is-a is-b is-g = simp is-a
       go false true c d e f g is-a is-b is-g = simp (is-a, is-b)
       go false false true d e f g is-a is-b is-g = simp (is-a, is-b)

@@ -55,8 +55,13 @@ fn reason_by(judged: Judged, sheet: &[u8], frame: &[u8]) -> Reason
         Judged::WrongCount => Reason::Count,
         Judged::WrongAddress => wrongly_addressed(sheet, frame),
         Judged::WrongValue => Reason::ClearValue,
-        Judged::BadItem { first: _, stop } => Reason::Item {
+        Judged::BadItem {
+            first: _,
+            stop,
+            side,
+        } => Reason::Item {
             address: lookup::address_of(sheet, (stop % 0x10000) as u16),
+            side,
         },
         Judged::GoodRead { first: _, many: _ } => Reason::None,
         Judged::GoodRecord { first: _, many: _ } => Reason::None,

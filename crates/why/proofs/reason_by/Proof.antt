@@ -1,5 +1,6 @@
 -- `why::reason_by` meets its contract, judgement by judgement. Assumes nothing.
 use mathlib.Core.Path.{_≡_, _∙_, sym, ap}
+use Prim.Native.Nat.{ℕ}
 use denote.Ref.{now}
 use borrow.Author.Needs.{needs}
 use Rattle.meter_rules.specs.declared.Judged.{Judged}
@@ -22,7 +23,9 @@ returns-6 : tie.Need-returns-6
 returns-6 c = c .wrongly-addressed .ensures ∙ by (c .before .before .before) (c .before .enum-told6 .given .1)
 
 returns-8 : tie.Need-returns-8
-returns-8 c = ap Item (c .address-of .ensures) ∙ by (c .before .before .before .before) (c .before .before .judged .given .1)
+returns-8 c =
+    let told = c .before .before .judged .given in
+    ap (λ (address : ℕ). Item address (told .0 .1 .1 .0)) (c .address-of .ensures) ∙ by (c .before .before .before .before) (told .1)
 
 pub reason-by-spec : {M : Type 1} → statement M
 reason-by-spec =
