@@ -12,18 +12,21 @@ use Rattle.check_value.specs.Check.{valueOf}
 use Rattle.check_value.specs.Frame.{held, covered}
 use Rattle.lists.specs.Lists.{each}
 use Rattle.lists.proofs.Tests.{first-of, second-of}
-use Rattle.lists.proofs.Among.{up-among, each-among, among-some}
+use Rattle.lists.proofs.Among.{Among, up-among, each-among, among-some}
 use Rattle.sheet_rules.specs.declared.Item.{Item}
 use Rattle.sheet_rules.specs.declared.Purpose.{Purpose}
 use Rattle.sheet_rules.specs.declared.Purpose.the-variants.{Read, Write}
-use Rattle.sheet_rules.specs.Rows.{areas, clearAddress, recordArea}
+use Rattle.sheet_rules.specs.Rows.{areas, items, clearAddress, recordArea}
 use Rattle.sheet_rules.specs.Rules.{sound}
 use Rattle.sheet_rules.specs.declared.Lies.the-variants.{At}
 use Rattle.sheet_rules.specs.Lookup.{liesIn, addressOf, recordNumber}
 use Rattle.sheet_rules.specs.Runs.{opens, allOpen}
 use Rattle.sheet_rules.proofs.Addresses.{place-address}
-use Rattle.range.specs.Range.{inRange}
-use Rattle.bank_rules.specs.Bank.{valueBy, goodBy}
+use Rattle.range.specs.declared.Side.{Side}
+use Rattle.range.specs.Range.{sideOf, inRange, sideNumber}
+use Rattle.bank_rules.specs.Bank.{valueBy, sideBy, goodBy}
+use Rattle.bank_rules.proofs.FreshBank.{low-ordered}
+use Rattle.bank_rules.proofs.Held.{holds-first, holder-alone}
 use Rattle.bank_rules.specs.Calls.{Lent}
 use Rattle.bank_rules.proofs.Changes.{Passed}
 use Rattle.frame.specs.Frame.{reads, clears, function, start, second, isWrite, count, run}
@@ -32,20 +35,22 @@ use Rattle.meter_rules.specs.Write.{firstPlace, wouldBe, touched, badItem, some
 use Rattle.meter_rules.specs.Steps.{startsInRecords, askedNumber, beyondStored, wrongCount}
 use Rattle.meter_rules.proofs.Order.{asks-write}
 use Rattle.meter_rules.proofs.Records.{record-count}
-use Rattle.meter_rules.proofs.Keeping.{front-fine}
-use Rattle.why_rules.specs.Facts.{tooShort, tooLong, checkDiffers, readsTooMany, shutRead, shutAddress, firstShut, firstBadAddress, firstBadItem}
+use Rattle.meter_rules.proofs.Keeping.{stop, front-fine}
+use Rattle.meter_rules.proofs.Soundness.{stores-to-stop}
+use Rattle.meter_rules.proofs.WhichSide.{Stopped, stopped}
+use Rattle.why_rules.specs.Facts.{tooShort, tooLong, checkDiffers, readsTooMany, shutRead, shutAddress, firstShut, firstBadAddress, firstBadItem, firstBadSide}
 use Rattle.why_rules.proofs.Parts.{which-shut, read-told, write-told, clear-told, shut-of-read, record-told}
 use Rattle.why_rules.proofs.FirstAddress.{first-shut, first-shut-is}
-use Rattle.why_rules.proofs.FirstItem.{StopsAt, stops-at, stop-lies}
+use Rattle.why_rules.proofs.FirstItem.{stop-lies}
 use Rattle.plain.specs.Numbers.{Bytes, byte, word}
 use Rattle.plain.specs.Records.{AtRecord}
 use Rattle.plain.specs.Frame.{registers, address, Touches, ValueWouldBe, Within}
-use Rattle.plain.specs.Why.{CheckAgrees, ReadsTooMany, Opens, FirstBadAddress, ofRun, ofRecord, ofClear, FirstBadItem}
+use Rattle.plain.specs.Why.{CheckAgrees, ReadsTooMany, Opens, FirstBadAddress, ofRun, ofRecord, ofClear, Misses, FirstBadItem}
 use Rattle.plain.proofs.Rows.{word-same, lies-plain, plain-lies, item-row, row-item}
 use Rattle.plain.proofs.Records.{so-record}
 use Rattle.plain.proofs.Conditions.{Tells, by-test, begins-so, so-begins, begins-not, not-begins}
 use Rattle.plain.proofs.Addresses.{Open, open-at, at-open, readable-so, so-readable, writable-so, so-writable, address-same, registers-same, writes, which}
-use Rattle.plain.proofs.Values.{within-so, so-within, value-so, so-value, touches-so, so-touches}
+use Rattle.plain.proofs.Values.{within-so, misses-so, so-misses, misses-outside, value-so, so-value, touches-so, so-touches}
 
 -- ---- the facts about a frame alone
 
@@ -267,19 +272,19 @@ module _ (given : Lent) (frame : List ℕ) (passed : Passed given) (write : isWr
   bad item = badItem (firstPlace (given .sheet) frame) (count frame) (given .bank) frame item
 
   -- an item that a write touches and would leave out of range is bad, and a bad item is so
-  bad-so : (item : Item) → bad item ≡ true
-      → Touches (given .sheet) frame (item .kind) (item .place) × (Within (item .kind) (item .low) (item .high) (valueBy would item) → ⊥)
+  bad-so : (item : Item) → bad item ≡ true → Touches (given .sheet) frame (item .kind) (item .place)
+      × Misses (item .kind) (item .low) (item .high) (valueBy would item) (sideNumber (sideBy would item))
   unfolding badItem goodBy
   bad-so item e =
       let touch = first-of (touched (firstPlace (given .sheet) frame) (count frame) item) (not (goodBy would item)) e in
       let unfit = not-true (goodBy would item) (second-of (touched (firstPlace (given .sheet) frame) (count frame) item) (not (goodBy would item)) e) in (
         so-touches given frame (passed .right) all item touch,
-        λ within. false≢true (sym unfit ∙ so-within (item .kind) (item .low) (item .high) (valueBy would item) within),
+        misses-so (item .kind) (item .low) (item .high) (valueBy would item) unfit,
       )
 
   fine-so : (item : Item) (value : ℕ) → bad item ≡ false → Touches (given .sheet) frame (item .kind) (item .place)
       → ValueWouldBe given frame (item .place) value (item .kind) → Within (item .kind) (item .low) (item .high) value
-  unfolding badItem goodBy
+  unfolding badItem goodBy inRange
   fine-so item value fine touch is =
       within-so (item .kind) (item .low) (item .high) value
       (ap (inRange (item .kind) (item .low) (item .high)) (value-so given frame (passed .right) all item value is)
@@ -294,9 +299,9 @@ module _ (given : Lent) (frame : List ℕ) (passed : Passed given) (write : isWr
       go true e = e
       go false e = absurd (outside (fine-so item value e touch is))
 
-  pub first-item-so : someBad given frame ≡ true → FirstBadItem given frame (firstBadItem given frame)
+  pub first-item-so : someBad given frame ≡ true → FirstBadItem given frame (firstBadItem given frame) (sideNumber (firstBadSide given frame))
   first-item-so one =
-      let found = stops-at given frame one in
+      let found = stopped given frame one in
       let item = found .item in
       let here = bad-so item (found .bad) in
       record {
@@ -309,34 +314,44 @@ module _ (given : Lent) (frame : List ℕ) (passed : Passed given) (write : isWr
         row = item-row (given .sheet) item (found .among);
         touched = here .0;
         itsValue = so-value given frame (passed .right) all item;
-        outside = here .1;
+        missed = subst (λ (s : Side). Misses (item .kind) (item .low) (item .high) (valueBy would item) (sideNumber s)) (found .atSide) (here .1);
         inFront = λ kind other low high value row touch is front.
             let earlier : Item = record { kind = kind; place = other; low = low; high = high } in
-            fine-so earlier value (front-fine given frame passed all (row-item (given .sheet) row) (omega (arith, front, found .at))) touch is;
+            fine-so earlier value (front-fine given frame passed all (row-item (given .sheet) row) (fronted (omega (arith, front, found .atPlace)))) touch is;
         itsAddress = lies-plain (given .sheet) (passed .right)
-            (stop-lies given frame one (passed .right) ∙ ap (λ (n : ℕ). At n 3) (sym (found .at)));
+            (stop-lies given frame one (passed .right) ∙ ap (λ (n : ℕ). At n 3) (sym (found .atPlace)));
       }
+    where
+      fronted : {place : ℕ} → place < stopPlace given frame → place < stop given frame passed all
+      fronted less = omega (arith, less, stores-to-stop given frame one)
 
   -- and the other way
-  pub so-first-item : {at : ℕ} → FirstBadItem given frame at → (someBad given frame ≡ true) × (firstBadItem given frame ≡ at)
-  unfolding someBad
-  so-first-item {at} first = (
+  pub so-first-item : {at side : ℕ} → FirstBadItem given frame at side
+      → (someBad given frame ≡ true) × (firstBadItem given frame ≡ at) × (sideNumber (firstBadSide given frame) ≡ side)
+  unfolding someBad sideBy
+  so-first-item {at} {side} first = (
     one,
     ap (addressOf (areas (given .sheet))) (sym same) ∙ place-address (given .sheet) (passed .right) at (first .place) 3
         (plain-lies (given .sheet) (passed .right) (first .itsAddress)),
+    ap sideNumber (sym (found .atSide) ∙ ap (sideBy would) stopped-here)
+        ∙ ap (λ (value : ℕ). sideNumber (sideOf (first .kind) (first .low) (first .high) value)) (sym (value-so given frame (passed .right) all item (first .value) (first .itsValue)))
+        ∙ sym (so-misses (first .kind) (first .low) (first .high) (first .value) (low-ordered (given .sheet) (passed .right) among) (first .missed)),
   )
     where
       item : Item
       item = record { kind = first .kind; place = first .place; low = first .low; high = first .high }
 
       its : bad item ≡ true
-      its = so-bad item (first .value) (first .touched) (first .itsValue) (first .outside)
+      its = so-bad item (first .value) (first .touched) (first .itsValue) (misses-outside (first .kind) (first .low) (first .high) (first .value) (first .missed))
+
+      among : Among item (items (given .sheet))
+      among = row-item (given .sheet) (first .row)
 
       one : someBad given frame ≡ true
-      one = among-some bad (row-item (given .sheet) (first .row)) its
+      one = among-some bad among its
 
-      found : StopsAt given frame
-      found = stops-at given frame one
+      found : Stopped given frame
+      found = stopped given frame one
 
       -- no bad item stands in front of the stop, and the stop's own is not in front of this one
       same : first .place ≡ stopPlace given frame
@@ -345,12 +360,19 @@ module _ (given : Lent) (frame : List ℕ) (passed : Passed given) (write : isWr
           go : (front behind : Bool) → ltb (first .place) (stopPlace given frame) ≡ front → ltb (stopPlace given frame) (first .place) ≡ behind
               → first .place ≡ stopPlace given frame
           go true behind f b =
-              absurd (true≢false (sym its ∙ front-fine given frame passed all (row-item (given .sheet) (first .row)) (ltb-true (first .place) (stopPlace given frame) f)))
+              absurd (true≢false (sym its ∙ front-fine given frame passed all among
+              (omega (arith, ltb-true (first .place) (stopPlace given frame) f, stores-to-stop given frame one))))
           go false true f b =
               let other = found .item in
               let here = bad-so other (found .bad) in
-              absurd (here .1 (first .inFront (other .kind) (other .place) (other .low) (other .high) (valueBy would other)
+              absurd (misses-outside (other .kind) (other .low) (other .high) (valueBy would other) (here .1) (first .inFront (other .kind) (other .place) (other .low) (other .high) (valueBy would other)
               (item-row (given .sheet) other (found .among)) (here .0) (so-value given frame (passed .right) all other)
-              (omega (arith, found .at, ltb-true (stopPlace given frame) (first .place) b))))
+              (omega (arith, found .atPlace, ltb-true (stopPlace given frame) (first .place) b))))
           go false false f b =
               omega (arith, ltb-false (first .place) (stopPlace given frame) f, ltb-false (stopPlace given frame) (first .place) b)
+
+      -- one item alone holds the place
+      stopped-here : found .item ≡ item
+      stopped-here =
+          holder-alone (given .sheet) (passed .right) (first .place) (found .among)
+          (holds-first (found .item) (first .place) (found .atPlace ∙ sym same)) among (holds-first item (first .place) refl)

@@ -29,7 +29,7 @@ use Rattle.meter_rules.specs.declared.Answered.{Answered}
 use Rattle.meter_rules.specs.declared.Answered.the-variants.{Reply, Silence}
 use Rattle.sheet_rules.specs.declared.Purpose.the-variants.{Read}
 use Rattle.sheet_rules.specs.Runs.{allOpen}
-use Rattle.meter_rules.specs.Write.{firstPlace, stopPlace}
+use Rattle.meter_rules.specs.Write.{firstPlace, stopPlace, stopSide}
 use Rattle.meter_rules.specs.Steps.{startsInRecords, askedNumber, askedStart, failsCheck, otherStation, functionNotAllowed, wrongLength, wrongCount, wrongAddress, wrongValue, badWrite, goodFrame, judgedFrame}
 use Rattle.meter_rules.specs.Reply.{replyTo, storesOf}
 use Rattle.meter_rules.specs.Answer.{Outcome, outcome, answeredNumber, lengthIn, rateIn, answeredBy, actedOn}
@@ -193,7 +193,7 @@ module _ (given : Lent) (frame buffer : List ℕ) (passed : Passed given) (ringe
       go : (a b c d e f g h : Bool) → wrongAddress given frame ≡ f
           → HandsBack given frame buffer
           (acted (firstCase (when a FailsCheck ∷ when b OtherStation ∷ when c FunctionNotAllowed ∷ when d WrongLength ∷ when e WrongCount
-          ∷ when f WrongAddress ∷ when g WrongValue ∷ when h (BadItem (firstPlace (given .sheet) frame) (stopPlace given frame)) ∷ []) (goodFrame given frame)))
+          ∷ when f WrongAddress ∷ when g WrongValue ∷ when h (BadItem (firstPlace (given .sheet) frame) (stopPlace given frame) (stopSide given frame)) ∷ []) (goodFrame given frame)))
           (tested a b c d e f (g || h))
       go true b c d e f g h u = left.quiet refl
       go false true c d e f g h u = left.quiet refl

@@ -1,6 +1,6 @@
 -- Condition 7 in plain numbers is what step 7 tests: the value of a clear, and each item that a write touches within its bounds. Assumes nothing.
-use mathlib.Core.Path.{_≡_, refl, sym, ap, ap₂, _∙_}
-use mathlib.Core.Bool.{Bool, true, false, not, cond, _&&_, _||_, false≢true}
+use mathlib.Core.Path.{_≡_, refl, sym, ap, ap₂, subst, _∙_}
+use mathlib.Core.Bool.{Bool, true, false, not, cond, _&&_, _||_, false≢true, true≢false}
 use mathlib.Core.List.{List}
 use mathlib.Core.Logic.{inl, inr}
 use Prim.Native.Nat.{ℕ, _+_, _-_, _*_, _<_}
@@ -8,9 +8,11 @@ use native.Mathlib.Omega.{arith}
 use lib.Dec.{leb, ltb, eqb}
 use lib.IntN.{ℤ, pos, _+ℤ_, -ℤ-+ℤ-cancel}
 use lib.Signed.{leZ}
-use borrow.Author.Tests.{eqb-true, eqb-false, eq-eqb, ne-eqb, leb-true, le-leb, lt-ltb, ltb-true, ltb-false, not-true, not-false}
-use Rattle.range.specs.Range.{signedWord, numberOf, notAbove, inRange}
+use borrow.Author.Tests.{eqb-true, eqb-false, eq-eqb, ne-eqb, leb-true, leb-false, le-leb, lt-leb, lt-ltb, ltb-true, ltb-false, not-true, not-false}
+use Rattle.range.specs.declared.Side.{Side}
+use Rattle.range.specs.Range.{signedWord, numberOf, notAbove, sideOf, inside, inRange, sideNumber}
 use Rattle.range.proofs.Numbers.{number-plain, number-low, number-high, order-kept}
+use Rattle.range.proofs.Sides.{side-low, side-high, side-inside, in-range-between}
 use Rattle.lists.proofs.Tests.{first-of, second-of}
 use Rattle.lists.proofs.Among.{among-some, some-among}
 use Rattle.sheet_rules.specs.declared.Item.{Item}
@@ -32,6 +34,7 @@ use Rattle.meter_rules.proofs.Stopping.{run-below}
 use Rattle.plain.specs.Numbers.{signedAndMore}
 use Rattle.plain.specs.Sheet.{ItemRow}
 use Rattle.plain.specs.Frame.{sentWord, Goes, WouldBe, written, kept, ValueWouldBe, ofWord, ofPair, Touches, Within, RightValue}
+use Rattle.plain.specs.Why.{Under, Misses, tooLow, tooHigh}
 use Rattle.plain.proofs.Rows.{word-same, lies-plain, plain-lies, item-row, row-item}
 use Rattle.plain.proofs.Conditions.{Tells, neither-first, neither-second, neither, where-so, so-where}
 use Rattle.plain.proofs.Addresses.{address-same, registers-same, writes, which}
@@ -58,8 +61,8 @@ above-signed kind a b is =
 
 module _ (kind low high value : ℕ) where
   pub within-so : inRange kind low high value ≡ true → Within kind low high value
-  unfolding inRange
-  within-so e =
+  within-so is =
+      let e = sym (in-range-between kind low high value) ∙ is in
       let p = first-of (notAbove kind low value) (notAbove kind value high) e in
       let q = second-of (notAbove kind low value) (notAbove kind value high) e in
       record {
@@ -71,8 +74,7 @@ module _ (kind low high value : ℕ) where
       }
 
   pub so-within : Within kind low high value → inRange kind low high value ≡ true
-  unfolding inRange
-  so-within within = go (eqb kind 1) refl
+  so-within within = in-range-between kind low high value ∙ go (eqb kind 1) refl
     where
       go : (is : Bool) → eqb kind 1 ≡ is → (notAbove kind low value && notAbove kind value high) ≡ true
       go true e =
@@ -84,6 +86,68 @@ module _ (kind low high value : ℕ) where
           let other = eqb-false kind 1 e in
           let both = within .plain other in
           ap₂ _&&_ (above-plain kind low value other ∙ le-leb low value (both .0)) (above-plain kind value high other ∙ le-leb value high (both .1))
+
+-- ---- a value that misses its range
+
+under-so : (kind a b : ℕ) → notAbove kind b a ≡ false → Under kind a b
+under-so kind a b e =
+    record {
+      plain = λ other. leb-false b a (sym (above-plain kind b a other) ∙ e);
+      signed = λ is. leb-false (signedAndMore b) (signedAndMore a) (sym (above-signed kind b a is) ∙ e);
+    }
+
+so-under : (kind a b : ℕ) → Under kind a b → notAbove kind b a ≡ false
+so-under kind a b under = go (eqb kind 1) refl
+  where
+    go : (is : Bool) → eqb kind 1 ≡ is → notAbove kind b a ≡ false
+    go true e =
+        let one = eqb-true kind 1 e in
+        above-signed kind b a one ∙ lt-leb (signedAndMore b) (signedAndMore a) (under .signed one)
+    go false e =
+        let other = eqb-false kind 1 e in
+        above-plain kind b a other ∙ lt-leb b a (under .plain other)
+
+-- a value above a bound that is not below another is not below that other
+over-both : (kind low high value : ℕ) → notAbove kind low high ≡ true → Under kind high value → notAbove kind low value ≡ true
+over-both kind low high value ordered over = go (eqb kind 1) refl
+  where
+    go : (is : Bool) → eqb kind 1 ≡ is → notAbove kind low value ≡ true
+    go true e =
+        let one = eqb-true kind 1 e in
+        above-signed kind low value one
+        ∙ le-leb (signedAndMore low) (signedAndMore value)
+        (omega (arith, over .signed one, leb-true (signedAndMore low) (signedAndMore high) (sym (above-signed kind low high one) ∙ ordered)))
+    go false e =
+        let other = eqb-false kind 1 e in
+        above-plain kind low value other
+        ∙ le-leb low value (omega (arith, over .plain other, leb-true low high (sym (above-plain kind low high other) ∙ ordered)))
+
+module _ (kind low high value : ℕ) where
+  -- a side that is not the inside is so
+  pub misses-so : inside (sideOf kind low high value) ≡ false → Misses kind low high value (sideNumber (sideOf kind low high value))
+  misses-so missed = go (notAbove kind low value) (notAbove kind value high) refl refl
+    where
+      go : (one two : Bool) → notAbove kind low value ≡ one → notAbove kind value high ≡ two → Misses kind low high value (sideNumber (sideOf kind low high value))
+      go false two e f =
+          subst (λ (s : Side). Misses kind low high value (sideNumber s)) (sym (side-low kind low high value e)) (tooLow (under-so kind value low e))
+      go true false e f =
+          subst (λ (s : Side). Misses kind low high value (sideNumber s)) (sym (side-high kind low high value e f)) (tooHigh (under-so kind high value f))
+      go true true e f = absurd (true≢false (sym (ap inside (side-inside kind low high value e f)) ∙ missed))
+
+  -- and no other is, where the bounds are in order
+  pub so-misses : notAbove kind low high ≡ true → {side : ℕ} → Misses kind low high value side → side ≡ sideNumber (sideOf kind low high value)
+  so-misses ordered (tooLow under) = sym (ap sideNumber (side-low kind low high value (so-under kind value low under)))
+  so-misses ordered (tooHigh over) =
+      sym (ap sideNumber (side-high kind low high value (over-both kind low high value ordered over) (so-under kind high value over)))
+
+  -- a value that misses its range is not within it
+  pub misses-outside : {side : ℕ} → Misses kind low high value side → Within kind low high value → ⊥
+  misses-outside (tooLow under) within =
+      let e = sym (in-range-between kind low high value) ∙ so-within kind low high value within in
+      false≢true (sym (so-under kind value low under) ∙ first-of (notAbove kind low value) (notAbove kind value high) e)
+  misses-outside (tooHigh over) within =
+      let e = sym (in-range-between kind low high value) ∙ so-within kind low high value within in
+      false≢true (sym (so-under kind high value over) ∙ second-of (notAbove kind low value) (notAbove kind value high) e)
 
 -- ---- the places that a write goes to
 
@@ -196,7 +260,7 @@ module _ (given : Lent) (frame : List ℕ) (keeps : sound (given .sheet) ≡ tru
       → ValueWouldBe given frame place value kind → Within kind low high value
 
   items-so : someBad given frame ≡ false → ItemsRight
-  unfolding someBad badItem goodBy
+  unfolding someBad badItem goodBy inRange
   items-so none kind place low high value row touch is =
       let item : Item = record { kind = kind; place = place; low = low; high = high } in
       within-so kind low high value
@@ -211,7 +275,7 @@ module _ (given : Lent) (frame : List ℕ) (keeps : sound (given .sheet) ≡ tru
           (ap₂ _&&_ (touches-so record { kind = kind; place = place; low = low; high = high } touch) (ap not e))))
 
   pub so-items : ItemsRight → someBad given frame ≡ false
-  unfolding someBad badItem goodBy
+  unfolding someBad badItem goodBy inRange
   so-items right = go (someBad given frame) refl
     where
       go : (bad : Bool) → someBad given frame ≡ bad → someBad given frame ≡ false

@@ -22,8 +22,8 @@ use Rattle.meter_rules.proofs.Order.{write-value, write-bad}
 use Rattle.meter_rules.proofs.Soundness.{open-write}
 use Rattle.why_rules.specs.declared.Reason.{Reason}
 use Rattle.why_rules.specs.declared.Reason.the-variants.{None, TooShort, TooLong, Check, Station, Function, BodyLength, Count, Address, ClearValue, Item}
-use Rattle.why_rules.specs.Facts.{tooShort, tooLong, checkDiffers, readsTooMany, badCount, shutAddress, firstBadAddress, firstBadItem}
-use Rattle.why_rules.specs.Reasons.{reasonNumber, reasonAddress, reasonOf}
+use Rattle.why_rules.specs.Facts.{tooShort, tooLong, checkDiffers, readsTooMany, badCount, shutAddress, firstBadAddress, firstBadItem, firstBadSide}
+use Rattle.why_rules.specs.Reasons.{reasonNumber, reasonAddress, reasonSide, reasonOf}
 use Rattle.why_rules.proofs.Parts.{wrong-address}
 use Rattle.plain.specs.Numbers.{Bytes}
 use Rattle.plain.specs.Frame as plain
@@ -32,7 +32,7 @@ use Rattle.plain.specs.Why.{ReadsTooMany, AsFunction, AsCount, FirstBadA
 use Rattle.plain.proofs.Rows.{word-same}
 use Rattle.plain.proofs.Conditions.{station-tells, allowed-tells, length-tells, count-tells, neither-first, neither-second, neither}
 use Rattle.plain.proofs.Addresses.{address-tells, writes, which}
-use Rattle.plain.proofs.Values.{value-tells}
+use Rattle.plain.proofs.Values.{misses-outside, value-tells}
 use Rattle.plain.proofs.FirstBad.{short-tells, long-tells, check-tells, many-so, so-many, many-tells, first-address-so, so-first-address, first-item-so, so-first-item}
 use Rattle.plain.proofs.Fates.{fails, unmet, one-fate}
 
@@ -80,9 +80,9 @@ module _ (given : Lent) (frame : List ℕ) (passed : Passed given) (bytes : Byte
 
   -- a reason, in plain numbers
   abbrev Plainly : Reason → Type 0
-  Plainly reason = Why given frame (reasonNumber reason) (reasonAddress reason)
+  Plainly reason = Why given frame (reasonNumber reason) (reasonAddress reason) (reasonSide reason)
 
-  pub why-so : Why given frame (reasonNumber (reasonOf given frame)) (reasonAddress (reasonOf given frame))
+  pub why-so : Why given frame (reasonNumber (reasonOf given frame)) (reasonAddress (reasonOf given frame)) (reasonSide (reasonOf given frame))
   unfolding reasonOf firstCase
   why-so =
       go (tooShort frame) (tooLong frame) (checkDiffers frame) (otherStation given frame) (functionNotAllowed (given .sheet) frame) (wrongLength frame)
@@ -101,7 +101,7 @@ module _ (given : Lent) (frame : List ℕ) (passed : Passed given) (bytes : Byte
           → functionNotAllowed (given .sheet) frame ≡ e → wrongLength frame ≡ f → badCount (given .sheet) frame ≡ g → shutAddress given frame ≡ h
           → wrongValue frame ≡ i → badWrite given frame ≡ j
           → Plainly (firstCase (when a TooShort ∷ when b TooLong ∷ when c Check ∷ when d Station ∷ when e Function ∷ when f BodyLength ∷ when g Count
-          ∷ when h (Address (firstBadAddress (given .sheet) frame)) ∷ when i ClearValue ∷ when j (Item (firstBadItem given frame)) ∷ []) None)
+          ∷ when h (Address (firstBadAddress (given .sheet) frame)) ∷ when i ClearValue ∷ when j (Item (firstBadItem given frame) (firstBadSide given frame)) ∷ []) None)
       go true b c d e f g h i j p q r s t u v w x y = byTooShort (ltb-true (length frame) 4 p)
       go false true c d e f g h i j p q r s t u v w x y = byTooLong (ltb-true 100 (length frame) q)
       go false false true d e f g h i j p q r s t u v w x y =
@@ -142,7 +142,7 @@ module _ (given : Lent) (frame : List ℕ) (passed : Passed given) (bytes : Byte
   abbrev behindCount : List (Case Reason)
   behindCount =
       when (shutAddress given frame) (Address (firstBadAddress (given .sheet) frame)) ∷ when (wrongValue frame) ClearValue
-      ∷ when (badWrite given frame) (Item (firstBadItem given frame)) ∷ []
+      ∷ when (badWrite given frame) (Item (firstBadItem given frame) (firstBadSide given frame)) ∷ []
 
   at-function : AsFunction given frame → reasonOf given frame ≡ firstCase (when (wrongLength frame) BodyLength ∷ when (badCount (given .sheet) frame) Count ∷ behindCount) None
   unfolding reasonOf firstCase
@@ -160,13 +160,14 @@ module _ (given : Lent) (frame : List ℕ) (passed : Passed given) (bytes : Byte
   at-count is = at-function (is .function) ∙ simp (length-tells frame .wrongly (is .long), few-so is)
 
   -- the reason that plain numbers give is the one by the facts
-  reason-is : {number at : ℕ} → Why given frame number at → (reason : Reason) × (reasonOf given frame ≡ reason) × (number ≡ reasonNumber reason) × (at ≡ reasonAddress reason)
+  reason-is : {number at side : ℕ} → Why given frame number at side
+      → (reason : Reason) × (reasonOf given frame ≡ reason) × (number ≡ reasonNumber reason) × (at ≡ reasonAddress reason) × (side ≡ reasonSide reason)
   unfolding reasonOf firstCase
-  reason-is (byTooShort short) = (TooShort, simp (lt-ltb (length frame) 4 short), refl, refl)
+  reason-is (byTooShort short) = (TooShort, simp (lt-ltb (length frame) 4 short), refl, refl, refl)
   reason-is (byTooLong long) =
-      (TooLong, simp (short-tells frame .wrongly (omega (arith, long)), lt-ltb 100 (length frame) long), refl, refl)
+      (TooLong, simp (short-tells frame .wrongly (omega (arith, long)), lt-ltb 100 (length frame) long), refl, refl, refl)
   reason-is (byCheck least most differs) =
-      (Check, simp (short-tells frame .wrongly least, long-tells frame .wrongly most, fails (check-tells frame) differs), refl, refl)
+      (Check, simp (short-tells frame .wrongly least, long-tells frame .wrongly most, fails (check-tells frame) differs), refl, refl, refl)
   reason-is (byStation whole other) = (
     Station,
     simp (
@@ -175,6 +176,7 @@ module _ (given : Lent) (frame : List ℕ) (passed : Passed given) (bytes : Byte
       check-tells frame .wrongly (whole .check),
       fails (station-tells given frame) other,
     ),
+    refl,
     refl,
     refl,
   )
@@ -189,26 +191,28 @@ module _ (given : Lent) (frame : List ℕ) (passed : Passed given) (bytes : Byte
     ),
     refl,
     refl,
+    refl,
   )
-  reason-is (byBodyLength is wrong) = (BodyLength, at-function is ∙ simp (fails (length-tells frame) wrong), refl, refl)
-  reason-is (byCount is long wrong) = (Count, at-function is ∙ simp (length-tells frame .wrongly long, bad wrong), refl, refl)
+  reason-is (byBodyLength is wrong) = (BodyLength, at-function is ∙ simp (fails (length-tells frame) wrong), refl, refl, refl)
+  reason-is (byCount is long wrong) = (Count, at-function is ∙ simp (length-tells frame .wrongly long, bad wrong), refl, refl, refl)
     where
       bad : (RightCount (given .sheet) frame → ⊥) ⊎ ReadsTooMany (given .sheet) frame → badCount (given .sheet) frame ≡ true
       bad (inl wrong) = ap (λ (b : Bool). b || readsTooMany (given .sheet) frame) (fails (count-tells (given .sheet) frame) wrong)
       bad (inr many) = ap (λ (b : Bool). wrongCount (given .sheet) frame || b) (so-many (given .sheet) frame many) ∙ or-true (wrongCount (given .sheet) frame)
   reason-is (byAddress is first) =
       let shut = so-first-address given frame (passed .right) bytes (count-tells (given .sheet) frame .wrongly (is .counted)) first in
-      (Address (firstBadAddress (given .sheet) frame), at-count is ∙ simp (shut .0), refl, sym (shut .1))
+      (Address (firstBadAddress (given .sheet) frame), at-count is ∙ simp (shut .0), refl, sym (shut .1), refl)
   reason-is (byClearValue is right clear other) =
       let wrong = ap₂ (λ (a b : Bool). a && not b) (eq-eqb (function frame) 0x05 clear) (ne-eqb (second frame) 0 (λ e. other (word-same frame 4 ∙ e))) in
-      (ClearValue, at-count is ∙ simp (fine-so is right, wrong), refl, refl)
+      (ClearValue, at-count is ∙ simp (fine-so is right, wrong), refl, refl, refl)
   reason-is (byItem is right first) =
       let write = writes frame (first .writes) in
       let found = so-first-item given frame passed write (open-by-facts (few-so is) (fine-so is right) write) first in (
-        Item (firstBadItem given frame),
+        Item (firstBadItem given frame) (firstBadSide given frame),
         at-count is ∙ simp (fine-so is right, write-value frame write, write-bad frame write given ∙ found .0),
         refl,
         sym (found .1),
+        sym (found .2),
       )
   reason-is (byNone (plain.allRight whole ours allowed long counted right values)) =
       let is : AsCount given frame = record {
@@ -227,12 +231,14 @@ module _ (given : Lent) (frame : List ℕ) (passed : Passed given) (bytes : Byte
             ),
         refl,
         refl,
+        refl,
       )
 
-  pub why-is : {number at : ℕ} → Why given frame number at → (number ≡ reasonNumber (reasonOf given frame)) × (at ≡ reasonAddress (reasonOf given frame))
+  pub why-is : {number at side : ℕ} → Why given frame number at side
+      → (number ≡ reasonNumber (reasonOf given frame)) × (at ≡ reasonAddress (reasonOf given frame)) × (side ≡ reasonSide (reasonOf given frame))
   why-is why =
       let found = reason-is why in
-      (found .2 ∙ ap reasonNumber (sym (found .1)), found .3 ∙ ap reasonAddress (sym (found .1)))
+      (found .2 ∙ ap reasonNumber (sym (found .1)), found .3 ∙ ap reasonAddress (sym (found .1)), found .4 ∙ ap reasonSide (sym (found .1)))
 
   -- ---- rule Y4: what goes out
 
@@ -248,7 +254,7 @@ module _ (given : Lent) (frame : List ℕ) (passed : Passed given) (bytes : Byte
   not-right right (ofClear is elsewhere) = elsewhere (right .cleared is)
 
   -- a frame gets what goes out by its reason
-  why-gets : {number at : ℕ} → Why given frame number at → (fate : Fate) × Gets given frame fate × Out (given .sheet) frame number fate
+  why-gets : {number at side : ℕ} → Why given frame number at side → (fate : Fate) × Gets given frame fate × Out (given .sheet) frame number fate
   why-gets (byNone gets) = (good, gets, afterNone)
   why-gets (byTooShort short) = (silence, plain.notWhole (λ whole. omega (arith, whole .least, short)), afterTooShort)
   why-gets (byTooLong long) = (silence, plain.notWhole (λ whole. omega (arith, whole .most, long)), afterTooLong)
@@ -278,7 +284,7 @@ module _ (given : Lent) (frame : List ℕ) (passed : Passed given) (bytes : Byte
   why-gets (byItem is right first) = (
     error 3,
     plain.wrongValue (is .function .whole) (is .function .ours) (is .function .allowed) (is .long) (is .counted) right
-        (λ values. first .outside (values .ofItems (first .writes) (first .kind) (first .place) (first .low) (first .high) (first .value) (first .row) (first .touched)
+        (λ values. misses-outside (first .kind) (first .low) (first .high) (first .value) (first .missed) (values .ofItems (first .writes) (first .kind) (first .place) (first .low) (first .high) (first .value) (first .row) (first .touched)
         (first .itsValue))),
     afterItem,
   )
@@ -323,7 +329,7 @@ module _ (given : Lent) (frame : List ℕ) (passed : Passed given) (bytes : Byte
   after-three afterClearValue = inr (inl refl)
   after-three afterItem = inr (inr refl)
 
-  module _ {number at : ℕ} (why : Why given frame number at) where
+  module _ {number at side : ℕ} (why : Why given frame number at side) where
     out : {fate : Fate} → Gets given frame fate → Out (given .sheet) frame number fate
     out gets =
         let found = why-gets why in

@@ -24,11 +24,12 @@ use Rattle.lists.specs.Cases.{when, firstCase}
 use Rattle.meter_rules.specs.declared.Judged.{Judged}
 use Rattle.meter_rules.specs.declared.Judged.the-variants.{FailsCheck, OtherStation, FunctionNotAllowed, WrongLength, WrongCount, WrongAddress, WrongValue, BadItem, GoodRead, GoodRecord, GoodClear, GoodWrite}
 use Rattle.meter_rules.specs.Reply.{storesOf}
-use Rattle.meter_rules.specs.Write.{firstPlace, inRun, wouldBe, touched, badItem, someBad, stopIn, stopPlace, runStores}
+use Rattle.meter_rules.specs.Write.{firstPlace, inRun, wouldBe, touched, badItem, someBad, stopOf, stopPlace, stopSide, runStores}
+use Rattle.meter_rules.specs.declared.Stop.the-variants.{NoBadItem}
 use Rattle.meter_rules.proofs.Judging.{run-above}
-use Rattle.meter_rules.proofs.Stopping.{run-below}
+use Rattle.meter_rules.proofs.Stopping.{storesTo, run-below, stopsAt}
 use Rattle.meter_rules.proofs.Keeping as keeping
-use Rattle.meter_rules.proofs.Soundness.{open-write, stops-at-end}
+use Rattle.meter_rules.proofs.Soundness.{open-write, stores-to-stop, stores-to-end}
 use Rattle.meter_rules.proofs.Soundness as soundness
 use Rattle.plain.specs.Numbers.{byte, word, Bytes}
 use Rattle.plain.specs.Sheet.{ItemRow}
@@ -48,8 +49,9 @@ module _ (given : Lent) (frame : List ℕ) (passed : Passed given) (all : allOpe
   abbrev first : ℕ
   first = firstPlace (given .sheet) frame
 
+  -- up to where the write stores
   abbrev stop : ℕ
-  stop = stopPlace given frame
+  stop = keeping.stop given frame passed all
 
   abbrev would : ℕ → ℕ
   would = wouldBe first (count frame) (given .bank) frame
@@ -67,7 +69,7 @@ module _ (given : Lent) (frame : List ℕ) (passed : Passed given) (all : allOpe
 
   in-front : (place : ℕ) → place < stop → (kind at low high value : ℕ) → ItemRow (given .sheet) kind at low high → Touches (given .sheet) frame kind at
       → ValueWouldBe given frame at value kind → (Within kind low high value → ⊥) → place < at
-  unfolding goodBy
+  unfolding goodBy inRange
   in-front place less kind at low high value row touch is outside =
       let item : Item = record { kind = kind; place = at; low = low; high = high } in
       omega (
@@ -86,20 +88,20 @@ module _ (given : Lent) (frame : List ℕ) (passed : Passed given) (all : allOpe
 
   -- a place that is stored stands in front of the stop
   stored-front : (k place : ℕ) → Stored given frame k place → place < stop
-  unfolding stopPlace badItem goodBy
+  unfolding stopOf badItem goodBy inRange
   stored-front k place is = go (keeping.stop-at first (count frame) (given .bank) frame (items (given .sheet)))
     where
-      go : (stopIn first (count frame) (given .bank) frame (items (given .sheet)) ≡ first + count frame)
+      go : (stopOf given frame ≡ NoBadItem)
           ⊎ ((item : Item) × Among item (items (given .sheet)) × (badItem first (count frame) (given .bank) frame item ≡ true)
-          × (item .place ≡ stopIn first (count frame) (given .bank) frame (items (given .sheet))))
+          × (stopsAt first (count frame) (given .bank) frame item ≡ stopOf given frame))
           → place < stop
-      go (inl end) = omega (arith, end, goes-at given frame (passed .right) all k place (is .goes), is .goes .0, registers-same frame)
+      go (inl end) = omega (arith, ap (storesTo (first + count frame)) end, goes-at given frame (passed .right) all k place (is .goes), is .goes .0, registers-same frame)
       go (inr (item, m, bad, at)) =
           let touch = first-of (touched first (count frame) item) (not (goodBy would item)) bad in
           let unfit = not-true (goodBy would item) (second-of (touched first (count frame) item) (not (goodBy would item)) bad) in
           omega (
             arith,
-            at,
+            ap (storesTo (first + count frame)) at,
             is .inFront (item .kind) (item .place) (item .low) (item .high) (valueBy would item) (item-row (given .sheet) item m)
                 (so-touches given frame (passed .right) all item touch) (so-value given frame (passed .right) all item)
                 (λ within. false≢true (sym unfit ∙ so-within (item .kind) (item .low) (item .high) (valueBy would item) within)),
@@ -218,7 +220,7 @@ module _ (given : Lent) (frame : List ℕ) (passed : Passed given) (bytes : Byte
           let opened = open-write given frame write f in
           let none = ap (λ (b : Bool). b && someBad given frame) (sym write) ∙ h in
           subst (λ (n : ℕ). WordLeft given frame place (word (stored (given .bank) (runStores frame (firstPlace (given .sheet) frame) n)) (2 * place)))
-          (stops-at-end given frame none)
+          (stores-to-end given frame none)
           (write-left given frame passed (opened .all) (through write) place
           (λ clears. true≢false (sym (eq-eqb (function frame) 0x05 (clears .1)) ∙ c)))
 
@@ -226,7 +228,7 @@ module _ (given : Lent) (frame : List ℕ) (passed : Passed given) (bytes : Byte
           → wrongCount (given .sheet) frame ≡ e → wrongAddress given frame ≡ f → wrongValue frame ≡ g → badWrite given frame ≡ h
           → WordLeft given frame place
           (word (left-by (firstCase (when a FailsCheck ∷ when b OtherStation ∷ when c FunctionNotAllowed ∷ when d WrongLength ∷ when e WrongCount
-          ∷ when f WrongAddress ∷ when g WrongValue ∷ when h (BadItem (firstPlace (given .sheet) frame) (stopPlace given frame)) ∷ [])
+          ∷ when f WrongAddress ∷ when g WrongValue ∷ when h (BadItem (firstPlace (given .sheet) frame) (stopPlace given frame) (stopSide given frame)) ∷ [])
           (goodFrame given frame))) (2 * place))
       go true b c d e f g h p q r s t u v w =
           kept place (λ k is. unmet (whole-tells frame) p (is .through .whole)) (unclear place (simp p))
@@ -247,8 +249,10 @@ module _ (given : Lent) (frame : List ℕ) (passed : Passed given) (bytes : Byte
           (unclear place (simp (p, q, r, s, t, u, v)))
       go false false false false false false false true p q r s t u v w =
           let write = first-of (isWrite frame) (someBad given frame) w in
-          write-left given frame passed (open-write given frame write u .all) (let-through p q r s t u write) place
-          (unclear place (simp (p, q, r, s, t, u, v, w)))
+          subst (λ (n : ℕ). WordLeft given frame place (word (stored (given .bank) (runStores frame (firstPlace (given .sheet) frame) n)) (2 * place)))
+          (stores-to-stop given frame (second-of (isWrite frame) (someBad given frame) w))
+          (write-left given frame passed (open-write given frame write u .all) (let-through p q r s t u write) place
+          (unclear place (simp (p, q, r, s, t, u, v, w))))
       go false false false false false false false false p q r s t u v w =
           good-left (eqb (function frame) 0x03) (eqb (function frame) 0x05) refl refl (let-through p q r s t u) r u w
           (subst (Gets given frame) (simp (p, q, r, s, t, u, v, w)) (judged-gets given frame (passed .right) bytes))

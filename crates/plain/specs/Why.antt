@@ -7,7 +7,7 @@ use Prim.Native.Nat.{ℕ, _+_, _-_, _*_, _≤_, _<_}
 use lib.ListN.{length, take}
 use Rattle.check_value.specs.Check.{valueOf}
 use Rattle.bank_rules.specs.Calls.{Lent}
-use Rattle.plain.specs.Numbers.{byte, word}
+use Rattle.plain.specs.Numbers.{byte, word, signedAndMore}
 use Rattle.plain.specs.Sheet.{ItemRow, LiesAt}
 use Rattle.plain.specs.Records.{RecordAt, AtRecord, howMany}
 use Rattle.plain.specs.Frame.{Whole, OurStation, Allowed, RightLength, RightCount, RightAddress, registers, address, Readable, Writable, Touches, ValueWouldBe, Within, silence, error, good, Gets}
@@ -47,9 +47,19 @@ pub data FirstBadAddress (given : Lent) (frame : List ℕ) : ℕ → Type 0 wher
       → howMany (given .ring) < number → FirstBadAddress given frame (word frame 2)
   ofClear : byte frame 1 ≡ 0x05 → (word frame 2 ≡ word (given .sheet) 20 → ⊥) → FirstBadAddress given frame (word frame 2)
 
--- rules Y19 and Y21, the first bad item of a write: one that it touches and would leave out of range, with every such item in front of it in range;
--- and the address that its first place has
-pub record FirstBadItem (given : Lent) (frame : List ℕ) (at : ℕ) : Type 0 where
+-- one value is below another, signed for kind 1
+pub record Under (kind a b : ℕ) : Type 0 where
+  pub plain : (kind ≡ 1 → ⊥) → a < b
+  pub signed : kind ≡ 1 → signedAndMore a < signedAndMore b
+
+-- rules B13 and Y23, the side at which a value misses its range: 1 below the low bound, 2 above the high one
+pub data Misses (kind low high value : ℕ) : ℕ → Type 0 where
+  tooLow : Under kind value low → Misses kind low high value 1
+  tooHigh : Under kind high value → Misses kind low high value 2
+
+-- rules Y19, Y21 and Y23, the first bad item of a write: one that it touches and whose value would then miss its range, with every such item in front
+-- of it in range; the address that its first place has, and the side
+pub record FirstBadItem (given : Lent) (frame : List ℕ) (at side : ℕ) : Type 0 where
   pub writes : (byte frame 1 ≡ 0x06) ⊎ (byte frame 1 ≡ 0x10)
   pub kind : ℕ
   pub place : ℕ
@@ -59,26 +69,26 @@ pub record FirstBadItem (given : Lent) (frame : List ℕ) (at : ℕ) : Type 0 wh
   pub row : ItemRow (given .sheet) kind place low high
   pub touched : Touches (given .sheet) frame kind place
   pub itsValue : ValueWouldBe given frame place value kind
-  pub outside : Within kind low high value → ⊥
+  pub missed : Misses kind low high value side
   pub inFront : (kind other low high value : ℕ) → ItemRow (given .sheet) kind other low high → Touches (given .sheet) frame kind other
       → ValueWouldBe given frame other value kind → other < place → Within kind low high value
   pub itsAddress : LiesAt (given .sheet) at place 3
 
--- rules Y0, Y1 and Y10 to Y22: the number of the reason, and the address that is told with it
-pub data Why (given : Lent) (frame : List ℕ) : ℕ → ℕ → Type 0 where
-  byNone : Gets given frame good → Why given frame 0 0
-  byTooShort : length frame < 4 → Why given frame 1 0
-  byTooLong : 100 < length frame → Why given frame 2 0
-  byCheck : 4 ≤ length frame → length frame ≤ 100 → (CheckAgrees frame → ⊥) → Why given frame 3 0
-  byStation : Whole frame → (OurStation given frame → ⊥) → Why given frame 4 0
-  byFunction : Whole frame → OurStation given frame → (Allowed (given .sheet) frame → ⊥) → Why given frame 5 0
-  byBodyLength : AsFunction given frame → (RightLength frame → ⊥) → Why given frame 6 0
-  byCount : AsFunction given frame → RightLength frame → (RightCount (given .sheet) frame → ⊥) ⊎ ReadsTooMany (given .sheet) frame → Why given frame 7 0
-  byAddress : AsCount given frame → {at : ℕ} → FirstBadAddress given frame at → Why given frame 8 at
-  byClearValue : AsCount given frame → RightAddress given frame → byte frame 1 ≡ 0x05 → (word frame 4 ≡ 0 → ⊥) → Why given frame 9 0
-  byItem : AsCount given frame → RightAddress given frame → {at : ℕ} → FirstBadItem given frame at → Why given frame 10 at
+-- rules Y0, Y1 and Y10 to Y24: the number of the reason, and the address and the side that are told with it
+pub data Why (given : Lent) (frame : List ℕ) : ℕ → ℕ → ℕ → Type 0 where
+  byNone : Gets given frame good → Why given frame 0 0 0
+  byTooShort : length frame < 4 → Why given frame 1 0 0
+  byTooLong : 100 < length frame → Why given frame 2 0 0
+  byCheck : 4 ≤ length frame → length frame ≤ 100 → (CheckAgrees frame → ⊥) → Why given frame 3 0 0
+  byStation : Whole frame → (OurStation given frame → ⊥) → Why given frame 4 0 0
+  byFunction : Whole frame → OurStation given frame → (Allowed (given .sheet) frame → ⊥) → Why given frame 5 0 0
+  byBodyLength : AsFunction given frame → (RightLength frame → ⊥) → Why given frame 6 0 0
+  byCount : AsFunction given frame → RightLength frame → (RightCount (given .sheet) frame → ⊥) ⊎ ReadsTooMany (given .sheet) frame → Why given frame 7 0 0
+  byAddress : AsCount given frame → {at : ℕ} → FirstBadAddress given frame at → Why given frame 8 at 0
+  byClearValue : AsCount given frame → RightAddress given frame → byte frame 1 ≡ 0x05 → (word frame 4 ≡ 0 → ⊥) → Why given frame 9 0 0
+  byItem : AsCount given frame → RightAddress given frame → {at side : ℕ} → FirstBadItem given frame at side → Why given frame 10 at side
 
--- rule Y4: what goes out and the reason, both ways. It tells no more than the line does; which of several reasons it is, and the address, `Why` says.
+-- rule Y4: what goes out and the reason, both ways. It tells no more than the line does; which of several reasons it is, the address and the side, `Why` says.
 pub record GoesOut (given : Lent) (frame : List ℕ) (reason : ℕ) : Type 0 where
   pub noError : Gets given frame good ↔ (reason ≡ 0)
   pub silent : Gets given frame silence ↔ ((reason ≡ 1) ⊎ (reason ≡ 2) ⊎ (reason ≡ 3) ⊎ (reason ≡ 4) ⊎ (reason ≡ 6))
