@@ -87,11 +87,11 @@ pub data Answers : Lent → List ℕ → List ℕ → Handed → Type 0 where
       → Answers (lentWith (now (call .lent .0)) (now (call .lent .1 .0)) (now (call .lent .1 .1 .0))) (now (call .lent .1 .1 .1 .0)) (now (call .lent .1 .1 .1 .1 .0))
       (handed (call .result) (now (call .exit .1 .1 .1 .1 .1 .0)) (now (call .exit .1 .1 .1 .1 .1 .1 .0)) (now (call .exit .1 .0)) (now (call .exit .1 .1 .1 .1 .0)))
 
--- the reason: the sheet, the bank and the ring, the frame; the number, the reason and the address. Nothing else is written.
+-- the reason: the sheet, the bank and the ring, the frame; the number, the reason, the address and the side. Nothing else is written.
 pub data Explains : Lent → List ℕ → Said → Type 0 where
-  explains : (call : Allowed 6 why.ps why.r why-reads.Post)
+  explains : (call : Allowed 7 why.ps why.r why-reads.Post)
       → Explains (lentWith (now (call .lent .0)) (now (call .lent .1 .0)) (now (call .lent .1 .1 .0))) (now (call .lent .1 .1 .1 .0))
-      (said (call .result) (now (call .exit .1 .1 .1 .1 .0)) (now (call .exit .1 .1 .1 .1 .1 .0)))
+      (said (call .result) (now (call .exit .1 .1 .1 .1 .0)) (now (call .exit .1 .1 .1 .1 .1 .0)) (now (call .exit .1 .1 .1 .1 .1 .1 .0)))
 
 -- ---- what each call hands back and leaves
 
@@ -178,7 +178,7 @@ add-record-takes κs lent = tt
 pub answer-takes : Takes 7 answer.ps answer-reads.Pre
 answer-takes κs lent = tt
 
-pub why-takes : Takes 6 why.ps why-reads.Pre
+pub why-takes : Takes 7 why.ps why-reads.Pre
 why-takes κs lent = tt
 
 -- .. and for any of it there is a call that the contract allows, so that no statement about calls is empty. A call with a frame says that bytes
@@ -293,9 +293,9 @@ some-why given frame sheet-bytes bank-bytes ring-bytes frame-bytes =
     let told : Said = saidOf (explanation given frame) in
     explains
     record {
-      lifetimes = ([], ([], ([], ([], ([], ([], tt))))));
-      lent = (ref (given .sheet), (ref (given .bank), (ref (given .ring), (ref frame, (ref 0, (ref 0, tt))))));
+      lifetimes = ([], ([], ([], ([], ([], ([], ([], tt)))))));
+      lent = (ref (given .sheet), (ref (given .bank), (ref (given .ring), (ref frame, (ref 0, (ref 0, (ref 0, tt)))))));
       result = told .number;
-      exit = (ref (given .sheet), (ref (given .bank), (ref (given .ring), (ref frame, (ref (told .reason), (ref (told .address), tt))))));
+      exit = (ref (given .sheet), (ref (given .bank), (ref (given .ring), (ref frame, (ref (told .reason), (ref (told .address), (ref (told .side), tt)))))));
       post = (refl, (sheet-bytes, bank-bytes, ring-bytes, frame-bytes));
     }

@@ -17,7 +17,7 @@ use Rattle.bank_rules.specs.Calls.{Lent}
 use Rattle.bank_rules.proofs.Changes.{Passed}
 use Rattle.meter_rules.specs.Judgement.{lentAnswer}
 use Rattle.meter_rules.proofs.Lending.{lent-passed}
-use Rattle.why_rules.specs.Reasons.{reasonNumber, reasonAddress, facts, reasonOf, explainedBy, explanation}
+use Rattle.why_rules.specs.Reasons.{reasonNumber, reasonAddress, reasonSide, facts, reasonOf, explainedBy, explanation}
 use Rattle.why_rules.proofs.Order.{reasons-in-order}
 use Rattle.plain.specs.Numbers.{Bytes, byte, word}
 use Rattle.plain.specs.Frame as fates
@@ -53,7 +53,7 @@ module _ (given : Lent) (frame : List ℕ) {told : Said} (call : Explains given 
   -- nothing was refused, so sheet and bank are sound and the ring goes with the sheet, and the reason is that of the facts
   record Explained : Type 0 where
     passed : Passed given
-    is : told ≡ said 0 (reasonNumber (reasonOf given frame)) (reasonAddress (reasonOf given frame))
+    is : told ≡ said 0 (reasonNumber (reasonOf given frame)) (reasonAddress (reasonOf given frame)) (reasonSide (reasonOf given frame))
 
   explained : Explained
   unfolding explanation
@@ -71,22 +71,26 @@ module _ (given : Lent) (frame : List ℕ) {told : Said} (call : Explains given 
   why-in-order =
       subst (λ (s : Said). InOrder (s .reason) [] (mapped reasonNumber (facts given frame))) (sym (explained .is)) (reasons-in-order given frame)
 
-  -- rules Y10 to Y22: in plain numbers, what is told holds of the frame, and nothing that comes before it does
-  pub why-true : Why given frame (told .reason) (told .address)
+  -- rules Y10 to Y24: in plain numbers, what is told holds of the frame, and nothing that comes before it does
+  pub why-true : Why given frame (told .reason) (told .address) (told .side)
   why-true =
-      subst (λ (s : Said). Why given frame (s .reason) (s .address)) (sym (explained .is)) (why.why-so given frame (explained .passed) sheet-bytes)
+      subst (λ (s : Said). Why given frame (s .reason) (s .address) (s .side)) (sym (explained .is)) (why.why-so given frame (explained .passed) sheet-bytes)
 
   -- and no other reason is
-  pub why-once : {reason address : ℕ} → Why given frame reason address → (reason ≡ told .reason) × (address ≡ told .address)
+  pub why-once : {reason address side : ℕ} → Why given frame reason address side → (reason ≡ told .reason) × (address ≡ told .address) × (side ≡ told .side)
   why-once other =
-      let found = why.why-is given frame (explained .passed) sheet-bytes other in
-      (found .0 ∙ ap (λ (s : Said). s .reason) (sym (explained .is)), found .1 ∙ ap (λ (s : Said). s .address) (sym (explained .is)))
+      let found = why.why-is given frame (explained .passed) sheet-bytes other in (
+        found .0 ∙ ap (λ (s : Said). s .reason) (sym (explained .is)),
+        found .1 ∙ ap (λ (s : Said). s .address) (sym (explained .is)),
+        found .2 ∙ ap (λ (s : Said). s .side) (sym (explained .is)),
+      )
 
   -- demand 3: of a damaged frame that was sent right, the check is told
-  pub damaged-told : (sent : List ℕ) → Sent sent → Damage sent frame → told ≡ said 0 3 0
+  pub damaged-told : (sent : List ℕ) → Sent sent → Damage sent frame → told ≡ said 0 3 0 0
   damaged-told sent is damage =
       let found = why-once (byCheck (omega (arith, is .least, damage .sameLength)) (omega (arith, is .most, damage .sameLength)) differs) in
-      ap (λ (n : ℕ). said n (told .reason) (told .address)) taken ∙ sym (ap₂ (said 0) (found .0) (found .1))
+      ap (λ (n : ℕ). said n (told .reason) (told .address) (told .side)) taken
+      ∙ sym (ap₂ (λ (reason address : ℕ). said 0 reason address (told .side)) (found .0) (found .1)) ∙ sym (ap (said 0 3 0) (found .2))
     where
       fails : fates.Whole frame → ⊥
       fails = unmet (whole-tells frame) (ap not (damaged-fails sent frame is (explains-bytes call .3) damage))

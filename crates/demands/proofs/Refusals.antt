@@ -173,12 +173,12 @@ module _ (given : Lent) (frame buffer : List ℕ) where
 
 -- ---- the reason for silence or an error
 
--- each refusal's number as for a frame, but for the buffer's; reason and address are then 0
+-- each refusal's number as for a frame, but for the buffer's; reason, address and side are then 0
 pub record RefusesWhy (given : Lent) (told : Said) : Type 0 where
   pub byNumber : ByNumber
       (when (brokenSheet (given .sheet)) 2 ∷ when (misfittingBank given) 3 ∷ when (unsoundBank given) 4 ∷ when (badRing (given .sheet) (given .ring)) 8 ∷ [])
       (told .number)
-  pub zeros : (told .number ≡ 0 → ⊥) → told ≡ said (told .number) 0 0
+  pub zeros : (told .number ≡ 0 → ⊥) → told ≡ said (told .number) 0 0 0
 
 pub why-refuses : (given : Lent) (frame : List ℕ) {told : Said} → Explains given frame told → RefusesWhy given told
 unfolding explanation

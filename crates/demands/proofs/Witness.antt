@@ -12,6 +12,7 @@ use Rattle.words.proofs.Small.{tested-bytes}
 use Rattle.check_value.specs.Check.{valueOf}
 use Rattle.check_value.specs.Frame.{passes}
 use Rattle.check_value.proofs.Witness.{frameSent, framesReceived, AllDamaged, sent-passes, received-damaged}
+use Rattle.range.specs.declared.Side.the-variants.{TooLow, TooHigh}
 use Rattle.range.specs.Range.{inRange}
 use Rattle.sheet_rules.specs.Rows.{areas, items, recordArea}
 use Rattle.ring_rules.specs.Calls.{ringFits}
@@ -28,7 +29,7 @@ use Rattle.refusals.specs.Answers.{answerNumber}
 use Rattle.bank_rules.specs.Calls.{lent, checkAnswer, freshAnswer, postAnswer, markAnswer, freshOutcome, postOutcome, markOutcome}
 use Rattle.meter_rules.specs.declared.Judged.the-variants.{FailsCheck, OtherStation, FunctionNotAllowed, WrongLength, WrongCount, WrongAddress, WrongValue, BadItem, GoodRead, GoodClear, GoodWrite}
 use Rattle.sheet_rules.specs.Runs.{allOpen}
-use Rattle.meter_rules.specs.Write.{badItem, someBad, stopIn, stopPlace, runStores}
+use Rattle.meter_rules.specs.Write.{badItem, someBad, stopIn, stopPlace, stopSide, runStores}
 use Rattle.meter_rules.specs.Steps.{judgedFrame}
 use Rattle.meter_rules.specs.Reply.{replyTo, storesOf}
 use Rattle.frame.specs.Reply.{withCheck}
@@ -138,31 +139,31 @@ pub steps-met : map (judgedFrame (lent uxSheet freshBank)) judgedFrames
     ∷ WrongCount
     ∷ WrongAddress
     ∷ WrongValue
-    ∷ BadItem 14 14
-    ∷ BadItem 1 2
+    ∷ BadItem 14 14 TooLow
+    ∷ BadItem 1 2 TooHigh
     ∷ GoodRead 1 2
     ∷ GoodWrite 14 1
     ∷ GoodClear
     ∷ []
-unfolding allOpen answerOutcome frameCheck ringFits recordArea actedOn judgedFrame replyTo storesOf withCheck runStores stopPlace stopIn badItem someBad stored passes valueOf liesIn bytesOf firstCase bankSound goodBy sound headerSound areasSound itemsSound settingsSound recordsSound each some upFrom samePlaces itemPlaces writablePlaces placesFollow areasAscend lengthsSum areas items wordAt withWord inRange sheetOf
+unfolding allOpen answerOutcome frameCheck ringFits recordArea actedOn judgedFrame replyTo storesOf withCheck runStores stopPlace stopSide stopIn badItem someBad stored passes valueOf liesIn bytesOf firstCase bankSound goodBy sound headerSound areasSound itemsSound settingsSound recordsSound each some upFrom samePlaces itemPlaces writablePlaces placesFollow areasAscend lengthsSum areas items wordAt withWord inRange sheetOf
 steps-met = refl
 
--- the reasons that are told of them, each with its address
+-- the reasons that are told of them, each with its address and its side
 pub reasons-told : map (λ frame. saidOf (explanation (lent uxSheet freshBank) frame)) judgedFrames
-    ≡ said 0 3 0
-    ∷ said 0 4 0
-    ∷ said 0 5 0
-    ∷ said 0 6 0
-    ∷ said 0 7 0
-    ∷ said 0 8 0x020B
-    ∷ said 0 9 0
-    ∷ said 0 10 0x010E
-    ∷ said 0 10 0x0102
-    ∷ said 0 0 0
-    ∷ said 0 0 0
-    ∷ said 0 0 0
+    ≡ said 0 3 0 0
+    ∷ said 0 4 0 0
+    ∷ said 0 5 0 0
+    ∷ said 0 6 0 0
+    ∷ said 0 7 0 0
+    ∷ said 0 8 0x020B 0
+    ∷ said 0 9 0 0
+    ∷ said 0 10 0x010E 1
+    ∷ said 0 10 0x0102 2
+    ∷ said 0 0 0 0
+    ∷ said 0 0 0 0
+    ∷ said 0 0 0 0
     ∷ []
-unfolding explanation lentAnswer ringFits recordArea reasonOf firstShut allOpen addressOf stopPlace stopIn badItem someBad valueOf liesIn bytesOf firstCase bankSound goodBy sound headerSound areasSound itemsSound settingsSound recordsSound each some upFrom samePlaces itemPlaces writablePlaces placesFollow areasAscend lengthsSum areas items wordAt withWord inRange sheetOf
+unfolding explanation lentAnswer ringFits recordArea reasonOf firstShut allOpen addressOf stopPlace stopSide stopIn badItem someBad valueOf liesIn bytesOf firstCase bankSound goodBy sound headerSound areasSound itemsSound settingsSound recordsSound each some upFrom samePlaces itemPlaces writablePlaces placesFollow areasAscend lengthsSum areas items wordAt withWord inRange sheetOf
 reasons-told = refl
 
 pub asked : (frame : List ℕ) → Bytes frame → Explains (lent uxSheet freshBank) frame (saidOf (explanation (lent uxSheet freshBank) frame))

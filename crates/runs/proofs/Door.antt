@@ -120,15 +120,16 @@ module _ {M : Type 1} (𝓤 : URA M) (H : Heap 𝓤) (𝓜 : Model 𝓤 H) (𝓖
         ∷ lends (toWrite buffer-at (left .1 .1 .1 .1 .0)) ∷ lends (toCount length-at (left .1 .1 .1 .1 .1 .0)) ∷ lends (toCount rate-at (left .1 .1 .1 .1 .1 .1 .0)) ∷ []
     answer-leaves-ring left = refl
 
-  module _ (sheet-at bank-at ring-at frame-at reason-at address-at : Place) (sheet bank ring frame : List ℕ) (reason address : ℕ) where
-    pub why-returns : Returns 𝓤 H 𝓜 (why-call sheet-at bank-at ring-at frame-at reason-at address-at sheet bank ring frame reason address)
+  module _ (sheet-at bank-at ring-at frame-at reason-at address-at side-at : Place) (sheet bank ring frame : List ℕ) (reason address side : ℕ) where
+    pub why-returns : Returns 𝓤 H 𝓜 (why-call sheet-at bank-at ring-at frame-at reason-at address-at side-at sheet bank ring frame reason address side)
     why-returns =
-        let call : Call = why-call sheet-at bank-at ring-at frame-at reason-at address-at sheet bank ring frame reason address in
+        let call : Call = why-call sheet-at bank-at ring-at frame-at reason-at address-at side-at sheet bank ring frame reason address side in
         returns-both 𝓤 H 𝓜 𝓖 𝓡 call why.signature why.spec _ _ (λ number left both. both) why-kept.met
         (λ loans. ((lifetimesOf (call .args) loans, sharesOf (call .args), tt, argsOf 0 (call .args) loans, valssOf 0 (call .args) loans), tt)) (refl, refl, refl)
 
-    pub why-leaves-ring : (left : Lasts (why-call sheet-at bank-at ring-at frame-at reason-at address-at sheet bank ring frame reason address .args))
-        → after (why-call sheet-at bank-at ring-at frame-at reason-at address-at sheet bank ring frame reason address .args) left
+    pub why-leaves-ring : (left : Lasts (why-call sheet-at bank-at ring-at frame-at reason-at address-at side-at sheet bank ring frame reason address side .args))
+        → after (why-call sheet-at bank-at ring-at frame-at reason-at address-at side-at sheet bank ring frame reason address side .args) left
         ≡ lends (toRead sheet-at sheet) ∷ lends (toRead bank-at bank) ∷ lends (toRead ring-at ring) ∷ lends (toRead frame-at frame)
-        ∷ lends (toCount reason-at (left .1 .1 .1 .1 .0)) ∷ lends (toCount address-at (left .1 .1 .1 .1 .1 .0)) ∷ []
+        ∷ lends (toCount reason-at (left .1 .1 .1 .1 .0)) ∷ lends (toCount address-at (left .1 .1 .1 .1 .1 .0))
+        ∷ lends (toCount side-at (left .1 .1 .1 .1 .1 .1 .0)) ∷ []
     why-leaves-ring left = refl

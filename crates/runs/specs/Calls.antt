@@ -125,12 +125,12 @@ module _ (sheet-at bank-at ring-at frame-at buffer-at length-at rate-at : Place)
         × (Bytes sheet × Bytes bank × Bytes ring × Bytes frame × Bytes buffer × Bytes (left .1 .0) × Bytes (left .1 .1 .1 .1 .0));
   }
 
-module _ (sheet-at bank-at ring-at frame-at reason-at address-at : Place) (sheet bank ring frame : List ℕ) (reason address : ℕ) where
+module _ (sheet-at bank-at ring-at frame-at reason-at address-at side-at : Place) (sheet bank ring frame : List ℕ) (reason address side : ℕ) where
   abbrev pub why-call : Call
   why-call = record {
     function = why-code.routine;
-    args = lends (toRead sheet-at sheet) ∷ lends (toRead bank-at bank) ∷ lends (toRead ring-at ring) ∷ lends (toRead frame-at frame) ∷ lends (toCount reason-at reason) ∷ lends (toCount address-at address) ∷ [];
+    args = lends (toRead sheet-at sheet) ∷ lends (toRead bank-at bank) ∷ lends (toRead ring-at ring) ∷ lends (toRead frame-at frame) ∷ lends (toCount reason-at reason) ∷ lends (toCount address-at address) ∷ lends (toCount side-at side) ∷ [];
     width = w32;
-    promise = λ number left. (said number (left .1 .1 .1 .1 .0) (left .1 .1 .1 .1 .1 .0) ≡ saidOf (explanation (lentWith sheet bank ring) frame))
+    promise = λ number left. (said number (left .1 .1 .1 .1 .0) (left .1 .1 .1 .1 .1 .0) (left .1 .1 .1 .1 .1 .1 .0) ≡ saidOf (explanation (lentWith sheet bank ring) frame))
         × (Bytes sheet × Bytes bank × Bytes ring × Bytes frame);
   }
