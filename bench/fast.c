@@ -137,9 +137,21 @@ static inline struct range range_of(const uint8_t *row)
     return range;
 }
 
-static inline int holds(struct range range, uint32_t value)
+/* A pair's bounds stand as they are. */
+static inline struct range pair_range(const uint8_t *row)
 {
-    return (value ^ range.flip) - range.low <= range.high - range.low;
+    struct range range = { 0, pair(row + 4), pair(row + 8) };
+    return range;
+}
+
+/* The end of its range that a value misses. One comparison tells that it misses none, and all that ask no more pay for
+ * that one alone. */
+static inline uint32_t side_missed(struct range range, uint32_t value)
+{
+    uint32_t moved = value ^ range.flip;
+    if (moved - range.low <= range.high - range.low)
+        return CEDARSKEIN_NO_SIDE;
+    return moved < range.low ? CEDARSKEIN_TOO_LOW : CEDARSKEIN_TOO_HIGH;
 }
 
 /* The places of the access 3 areas, as the items cover them: those from next to end are still to be covered in the area
@@ -205,7 +217,7 @@ static inline uint32_t items_judged(const uint8_t *sheet, const uint8_t *bank)
         if (word(row + 2) == rate_place)
             rate = row;
         if (bank != NULL)
-            sound &= holds(range, value_in(bank, row));
+            sound &= side_missed(range, value_in(bank, row)) == CEDARSKEIN_NO_SIDE;
     }
     if (cover.next < cover.end || opened(&cover) || !settings_sound(address, rate))
         return CEDARSKEIN_SHEET_BREAKS_RULE;
@@ -484,29 +496,34 @@ static inline const uint8_t *item_of(const uint8_t *sheet, uint32_t place)
     return row;
 }
 
-/* Stores what a write sends for a pair, and tells how many words that took; 0 where the pair would be bad. A half that is
- * not sent is the bank's. */
+/* What a pair would be by a write, and how many words of the write that takes. A half that is not sent is the bank's. */
+static inline uint32_t pair_to_be(const uint8_t *row, const uint8_t *bank, const uint8_t *values, uint32_t place,
+                                  uint32_t end, uint32_t *size)
+{
+    uint32_t first = word(row + 2);
+    const uint8_t *at = bank + 2 * first;
+    *size = 1;
+    if (place != first)
+        return word(at) << 16 | word(values);
+    if (place + 1 == end)
+        return word(values) << 16 | word(at + 2);
+    *size = 2;
+    return pair(values);
+}
+
+/* Stores what a write sends for a pair, and tells how many words that took; 0 where the pair would be bad. */
 static inline uint32_t stored_pair(const uint8_t *row, uint8_t *bank, const uint8_t *values, uint32_t place, uint32_t end)
 {
-    uint32_t first = word(row + 2), value, size = 1;
-    uint8_t *at = bank + 2 * first;
-    if (place != first) {
-        value = word(at) << 16 | word(values);
-    } else if (place + 1 == end) {
-        value = word(values) << 16 | word(at + 2);
-    } else {
-        value = pair(values);
-        size = 2;
-    }
-    if (value - pair(row + 4) > pair(row + 8) - pair(row + 4))
+    uint32_t size, value = pair_to_be(row, bank, values, place, end, &size);
+    if (side_missed(pair_range(row), value) != CEDARSKEIN_NO_SIDE)
         return 0;
-    put_pair(at, value);
+    put_pair(bank + 2 * word(row + 2), value);
     return size;
 }
 
 static inline uint32_t stored_word(const uint8_t *row, uint8_t *bank, const uint8_t *values, uint32_t place)
 {
-    if (!holds(range_of(row), word(values)))
+    if (side_missed(range_of(row), word(values)) != CEDARSKEIN_NO_SIDE)
         return 0;
     put_word(bank + 2 * place, word(values));
     return 1;
@@ -600,10 +617,10 @@ uint32_t fast_answer(const uint8_t *sheet, size_t sheet_n, uint8_t *bank, size_t
 
 /* ---- Why a frame gets silence or an error ---- */
 
-/* What a frame is judged with, and where the address goes that is told with the reason. */
+/* What a frame is judged with, and where the address and the side go that are told with the reason. */
 struct asked {
     const uint8_t *sheet, *bank, *ring, *frame;
-    uint32_t frame_n, *address;
+    uint32_t frame_n, *address, *side;
     struct records records;
 };
 
@@ -665,27 +682,21 @@ static inline uint32_t why_clear(const struct asked *asked)
     return word(asked->frame + 4) != 0 ? CEDARSKEIN_CLEAR_VALUE : CEDARSKEIN_NO_REASON;
 }
 
-/* How many words of a write a pair takes; 0 where it would be bad. As in stored_pair, and nothing is stored. */
-static inline uint32_t judged_pair(const uint8_t *row, const uint8_t *bank, const uint8_t *values, uint32_t place, uint32_t end)
+/* The end that an item of a write would miss, and how many words of the write it takes. */
+static inline uint32_t item_misses(const uint8_t *row, const uint8_t *bank, const uint8_t *values, uint32_t place,
+                                   uint32_t end, uint32_t *size)
 {
-    uint32_t first = word(row + 2), low = pair(row + 4), value, size = 1;
-    const uint8_t *at = bank + 2 * first;
-    if (place != first) {
-        value = word(at) << 16 | word(values);
-    } else if (place + 1 == end) {
-        value = word(values) << 16 | word(at + 2);
-    } else {
-        value = pair(values);
-        size = 2;
-    }
-    return value - low > pair(row + 8) - low ? 0 : size;
+    *size = 1;
+    if (row[1] == 2)
+        return side_missed(pair_range(row), pair_to_be(row, bank, values, place, end, size));
+    return side_missed(range_of(row), word(values));
 }
 
 /* Places follow each other as the run's addresses do, so a bad item's first address is as far from the run's as its first
  * place is from the run's first; in front of it, where the run begins with a lower half. */
 static inline uint32_t why_write(const struct asked *asked, const uint8_t *values, uint32_t count)
 {
-    uint32_t first = word(asked->frame + 2), start = 0, size;
+    uint32_t first = word(asked->frame + 2), start = 0, size, side;
     uint32_t closed = first_closed(asked->sheet, first, count, 3, &start), end = start + count;
     if (closed != first + count) {
         *asked->address = closed;
@@ -693,9 +704,10 @@ static inline uint32_t why_write(const struct asked *asked, const uint8_t *value
     }
     const uint8_t *row = item_of(asked->sheet, start);
     for (uint32_t place = start; place < end; place += size) {
-        size = row[1] == 2 ? judged_pair(row, asked->bank, values, place, end) : (uint32_t)holds(range_of(row), word(values));
-        if (size == 0) {
+        side = item_misses(row, asked->bank, values, place, end, &size);
+        if (side != CEDARSKEIN_NO_SIDE) {
             *asked->address = first + word(row + 2) - start;
+            *asked->side = side;
             return CEDARSKEIN_ITEM;
         }
         values += 2 * size;
@@ -731,11 +743,13 @@ static inline uint32_t why_function(const struct asked *asked)
 }
 
 uint32_t fast_why(const uint8_t *sheet, size_t sheet_n, const uint8_t *bank, size_t bank_n, const uint8_t *ring,
-                  size_t ring_n, const uint8_t *frame, size_t frame_n, uint32_t *reason, uint32_t *address)
+                  size_t ring_n, const uint8_t *frame, size_t frame_n, uint32_t *reason, uint32_t *address,
+                  uint32_t *side)
 {
-    struct asked asked = { sheet, bank, ring, frame, (uint32_t)frame_n, address, { 0, 0, 0 } };
+    struct asked asked = { sheet, bank, ring, frame, (uint32_t)frame_n, address, side, { 0, 0, 0 } };
     *reason = CEDARSKEIN_NO_REASON;
     *address = 0;
+    *side = CEDARSKEIN_NO_SIDE;
     uint32_t number = lent_judged(sheet, sheet_n, bank, bank_n, ring, ring_n, &asked.records);
     if (number != CEDARSKEIN_DONE)
         return number;

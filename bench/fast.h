@@ -19,7 +19,8 @@ uint32_t fast_answer(const uint8_t *sheet, size_t sheet_n, uint8_t *bank, size_t
                      size_t ring_n, const uint8_t *frame, size_t frame_n, uint8_t *out, size_t out_n, uint32_t *length,
                      uint32_t *rate);
 uint32_t fast_why(const uint8_t *sheet, size_t sheet_n, const uint8_t *bank, size_t bank_n, const uint8_t *ring,
-                  size_t ring_n, const uint8_t *frame, size_t frame_n, uint32_t *reason, uint32_t *address);
+                  size_t ring_n, const uint8_t *frame, size_t frame_n, uint32_t *reason, uint32_t *address,
+                  uint32_t *side);
 uint32_t fast_ring_check(const uint8_t *sheet, size_t sheet_n, const uint8_t *ring, size_t ring_n);
 uint32_t fast_add_record(const uint8_t *sheet, size_t sheet_n, uint8_t *ring, size_t ring_n, const uint8_t *record,
                          size_t record_n);

@@ -14,6 +14,9 @@
 
 enum { MOST_RECORDS = 6600, MOST_WORDS = 47, NUMBERS = 9, REASONS = 11 };
 
+/* No side: one that a call does not write is seen by it. */
+enum { UNTOLD_SIDE = 99 };
+
 /* Room for the ring of a sheet with a record and two words too many, and some bytes behind it. */
 enum { BEHIND = 8, RING_ROOM = 2 * (2 + (MOST_RECORDS + 1) * (MOST_WORDS + 2)) + 4 + BEHIND };
 
@@ -21,7 +24,7 @@ enum { BEHIND = 8, RING_ROOM = 2 * (2 + (MOST_RECORDS + 1) * (MOST_WORDS + 2)) +
 struct lent {
     uint8_t sheet[CEDARSKEIN_LONGEST_SHEET + 8], bank[CEDARSKEIN_LONGEST_BANK + 8], frame[16], out[128], record[128];
     size_t sheet_n, bank_n, ring_n, frame_n, out_n, record_n;
-    uint32_t number, length, rate, reason, address;
+    uint32_t number, length, rate, reason, address, missed_side;
 };
 
 /* The rings stand apart: only what is lent of them is copied and compared. */
@@ -159,6 +162,7 @@ static void make_lent(struct lent *lent, uint8_t *ring)
 {
     struct records records = made_records();
     memset(lent, 0, sizeof *lent);
+    lent->missed_side = UNTOLD_SIDE;
     make_sheet(lent, &records);
     make_ring(lent, ring, &records);
     make_frame(lent, &records);
@@ -183,7 +187,7 @@ static uint32_t called(int side, uint32_t sort)
                                                         l->out, l->out_n, &l->length, &l->rate);
     case 1:
         return (side ? fast_why : cedarskein_why)(l->sheet, l->sheet_n, l->bank, l->bank_n, ring, l->ring_n, l->frame, l->frame_n,
-                                                  &l->reason, &l->address);
+                                                  &l->reason, &l->address, &l->missed_side);
     case 2: return (side ? fast_ring_check : cedarskein_ring_check)(l->sheet, l->sheet_n, ring, l->ring_n);
     default:
         return (side ? fast_add_record : cedarskein_add_record)(l->sheet, l->sheet_n, ring, l->ring_n, l->record, l->record_n);
@@ -213,9 +217,9 @@ static void count_met(uint32_t sort)
 static void print_call(uint32_t sort)
 {
     for (int side = 0; side < 2; side++)
-        printf("%s: sort %" PRIu32 ", number %" PRIu32 ", length %" PRIu32 ", rate %" PRIu32 ", reason %" PRIu32 ", address %" PRIX32 "\n",
-               side ? "fast" : "archive", sort % 4, sides[side].number, sides[side].length, sides[side].rate, sides[side].reason,
-               sides[side].address);
+        printf("%s: sort %" PRIu32 ", number %" PRIu32 ", length %" PRIu32 ", rate %" PRIu32 ", reason %" PRIu32 ", address %" PRIX32
+               ", side %" PRIu32 "\n", side ? "fast" : "archive", sort % 4, sides[side].number, sides[side].length, sides[side].rate,
+               sides[side].reason, sides[side].address, sides[side].missed_side);
     printf("sheet, %zu bytes:", sides[0].sheet_n);
     for (size_t k = 0; k < sides[0].sheet_n; k++)
         printf(" %02X", sides[0].sheet[k]);

@@ -37,10 +37,11 @@ static uint32_t empty_answer(const uint8_t *sheet, size_t sheet_n, uint8_t *bank
 }
 
 static uint32_t empty_why(const uint8_t *sheet, size_t sheet_n, const uint8_t *bank, size_t bank_n, const uint8_t *ring,
-                          size_t ring_n, const uint8_t *frame, size_t frame_n, uint32_t *reason, uint32_t *address)
+                          size_t ring_n, const uint8_t *frame, size_t frame_n, uint32_t *reason, uint32_t *address,
+                          uint32_t *side)
 {
     (void)sheet, (void)sheet_n, (void)bank, (void)bank_n, (void)ring, (void)ring_n, (void)frame, (void)frame_n;
-    (void)reason, (void)address;
+    (void)reason, (void)address, (void)side;
     return 0;
 }
 
@@ -80,7 +81,7 @@ static uint32_t called(const struct side *side, struct row *row)
                             row->out, OUT_ROOM, &row->length, &row->rate);
     case WHY:
         return side->why(row->sheet, row->sheet_n, row->bank, row->bank_n, row->ring, row->ring_n, row->frame, row->frame_n,
-                         &row->reason, &row->address);
+                         &row->reason, &row->address, &row->missed_side);
     case RING_CHECK: return side->ring_check(row->sheet, row->sheet_n, row->ring, row->ring_n);
     case ADD_RECORD: return side->add_record(row->sheet, row->sheet_n, row->ring, row->ring_n, row->record, row->record_n);
     case CHECK_TAKE: return side->check_take(0xFFFF, row->frame[0]);
@@ -296,6 +297,7 @@ const char *const row_names[] = {
     "areas_1_read", "areas_2_read", "areas_4_read", "areas_8_read",
     "ux_bad_check_50", "ux_bad_check_100", "check_take_1", "check_value_8", "check_value_50", "check_value_100",
     "why_ux_bad_check_8", "why_ux_other_station", "why_ux_read_2", "why_ux_read_24", "why_ux_write_2",
+    "why_ux_too_low", "why_ux_too_high",
     "why_largest_read_47", "why_largest_write_45", "why_largest_last_bad",
     "records_1_check", "records_6600_check", "records_1_read", "records_6600_read", "records_1_add", "records_6600_add",
     "why_records_1_read", "why_records_6600_read", "record_words_1_read", "record_words_22_read", "record_words_47_read",
@@ -315,6 +317,10 @@ static void make_ux_frame(struct row *row, const char *what)
         short_frame(row, 1, 6, 0x010F, 1);
     else if (strcmp(what, "write_2") == 0)
         write_frame(row, 0x010F, 2, 0x88);
+    else if (strcmp(what, "too_low") == 0)
+        short_frame(row, 1, 6, 0x0100, 0xFFF5);
+    else if (strcmp(what, "too_high") == 0)
+        short_frame(row, 1, 6, 0x0100, 0x003D);
     else if (strcmp(what, "other_station") == 0)
         short_frame(row, 2, 3, 0x0101, 2);
     else if (sscanf(what, "bad_check_%u", &n) == 1)
@@ -403,7 +409,9 @@ int row_make(struct row *row, const char *name)
     memset(row, 0, sizeof *row);
     if (!make_named(row, name + (asks ? 4 : 0)))
         return 0;
-    if (asks)
+    if (asks) {
         row->called = WHY;
+        row->missed_side = UNTOLD_SIDE;
+    }
     return fast_bank_fresh(row->sheet, row->sheet_n, row->bank, row->bank_n) == CEDARSKEIN_DONE;
 }

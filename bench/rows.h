@@ -16,10 +16,13 @@ struct side {
     uint32_t (*answer)(const uint8_t *, size_t, uint8_t *, size_t, const uint8_t *, size_t, const uint8_t *, size_t, uint8_t *,
                        size_t, uint32_t *, uint32_t *);
     uint32_t (*why)(const uint8_t *, size_t, const uint8_t *, size_t, const uint8_t *, size_t, const uint8_t *, size_t, uint32_t *,
-                    uint32_t *);
+                    uint32_t *, uint32_t *);
     uint32_t (*ring_check)(const uint8_t *, size_t, const uint8_t *, size_t);
     uint32_t (*add_record)(const uint8_t *, size_t, uint8_t *, size_t, const uint8_t *, size_t);
 };
+
+/* No side: one that a call does not write is seen by it. */
+enum { UNTOLD_SIDE = 99 };
 
 enum called { SHEET_CHECK, ANSWER, WHY, RING_CHECK, ADD_RECORD, CHECK_TAKE, CHECK_VALUE };
 
@@ -27,7 +30,7 @@ struct row {
     uint8_t sheet[SHEET_ROOM], bank[BANK_ROOM], ring[RING_ROOM], frame[FRAME_ROOM], out[OUT_ROOM], record[RECORD_ROOM];
     size_t sheet_n, bank_n, ring_n, frame_n, record_n;
     enum called called;
-    uint32_t number, length, rate, reason, address;
+    uint32_t number, length, rate, reason, address, missed_side;
 };
 
 extern const char *const row_names[];   /* ends with NULL */

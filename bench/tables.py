@@ -21,7 +21,8 @@ LARGEST = [("largest_read_47", "largest sheet, 03 of 47 words"), ("largest_write
            ("largest_sheet_check", "largest sheet, the sheet check alone")]
 WHY = [("why_ux_bad_check_8", "why, UX, a bad check, 8 bytes"), ("why_ux_other_station", "why, UX, another station's frame"),
        ("why_ux_read_2", "why, UX, 03 of 2 words at 0101"), ("why_ux_read_24", "why, UX, 03 of 24 words at 0100, the last address bad"),
-       ("why_ux_write_2", "why, UX, 10 of 2 words at 010F"), ("why_largest_read_47", "why, largest sheet, 03 of 47 words"),
+       ("why_ux_write_2", "why, UX, 10 of 2 words at 010F"), ("why_ux_too_low", "why, UX, 06 at 0100, the item too low"),
+       ("why_ux_too_high", "why, UX, 06 at 0100, the item too high"), ("why_largest_read_47", "why, largest sheet, 03 of 47 words"),
        ("why_largest_write_45", "why, largest sheet, 10 of 45 words"),
        ("why_largest_last_bad", "why, largest sheet, 10 of 45 words, the last item bad")]
 RECORDS = [("records_1_read", "03 of a record of 22 words, ring of 1 record"),

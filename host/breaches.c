@@ -17,7 +17,8 @@ uint32_t __real_cedarskein_answer(const uint8_t *sheet, size_t sheet_n, uint8_t 
                                   size_t ring_n, const uint8_t *frame, size_t frame_n, uint8_t *out, size_t out_n, uint32_t *length,
                                   uint32_t *rate);
 uint32_t __real_cedarskein_why(const uint8_t *sheet, size_t sheet_n, const uint8_t *bank, size_t bank_n, const uint8_t *ring,
-                               size_t ring_n, const uint8_t *frame, size_t frame_n, uint32_t *reason, uint32_t *address);
+                               size_t ring_n, const uint8_t *frame, size_t frame_n, uint32_t *reason, uint32_t *address,
+                               uint32_t *side);
 uint32_t __real_cedarskein_ring_check(const uint8_t *sheet, size_t sheet_n, const uint8_t *ring, size_t ring_n);
 uint32_t __real_cedarskein_add_record(const uint8_t *sheet, size_t sheet_n, uint8_t *ring, size_t ring_n, const uint8_t *record,
                                       size_t record_n);
@@ -605,14 +606,16 @@ uint32_t __wrap_cedarskein_add_record(const uint8_t *sheet, size_t sheet_n, uint
 }
 
 /* Reasons told out of their order, or one beside the right one. */
-static void spoil_reason(const uint8_t *frame, size_t frame_n, uint32_t *reason, uint32_t *address)
+static void spoil_reason(const uint8_t *frame, size_t frame_n, uint32_t *reason, uint32_t *address, uint32_t *side)
 {
     static const uint8_t functions[4] = { 0x03, 0x05, 0x06, 0x10 };
     int known = frame_n > 1 && memchr(functions, frame[1], sizeof functions) != NULL;
     if (breach_is("why_broadcast_has_no_reason") && *reason == CEDARSKEIN_STATION && frame[0] == 0)
         *reason = CEDARSKEIN_NO_REASON;
-    if (breach_is("why_reason_off_by_one") && *reason == CEDARSKEIN_CLEAR_VALUE)
+    if (breach_is("why_reason_off_by_one") && *reason == CEDARSKEIN_CLEAR_VALUE) {
         *reason = CEDARSKEIN_ITEM;
+        *side = CEDARSKEIN_TOO_HIGH;
+    }
     if (breach_is("why_function_before_station") && *reason == CEDARSKEIN_STATION && !known)
         *reason = CEDARSKEIN_FUNCTION;
     if (breach_is("why_length_before_function") && *reason == CEDARSKEIN_FUNCTION && frame_n != 8)
@@ -635,10 +638,10 @@ static void spoil_reason(const uint8_t *frame, size_t frame_n, uint32_t *reason,
 
 /* A 10 of which only the words in front of the first bad address are asked about. */
 static void spoil_long_write(const uint8_t *sheet, size_t sheet_n, const uint8_t *bank, size_t bank_n, const uint8_t *ring,
-                             size_t ring_n, const uint8_t *frame, uint32_t *reason, uint32_t *address)
+                             size_t ring_n, const uint8_t *frame, uint32_t *reason, uint32_t *address, uint32_t *side)
 {
     uint8_t front[CEDARSKEIN_LONGEST_FRAME];
-    uint32_t words = *address - word_of(frame + 2), front_reason, front_address;
+    uint32_t words = *address - word_of(frame + 2), front_reason, front_address, front_side;
     size_t n = 7 + 2 * (size_t)words;
     uint16_t value;
     memcpy(front, frame, n);
@@ -647,11 +650,12 @@ static void spoil_long_write(const uint8_t *sheet, size_t sheet_n, const uint8_t
     value = __real_cedarskein_check_value(front, n);
     front[n] = (uint8_t)(value & 0xFF);
     front[n + 1] = (uint8_t)(value >> 8);
-    __real_cedarskein_why(sheet, sheet_n, bank, bank_n, ring, ring_n, front, n + 2, &front_reason, &front_address);
+    __real_cedarskein_why(sheet, sheet_n, bank, bank_n, ring, ring_n, front, n + 2, &front_reason, &front_address, &front_side);
     if (front_reason != CEDARSKEIN_ITEM)
         return;
     *reason = front_reason;
     *address = front_address;
+    *side = front_side;
 }
 
 /* Another address than the one to tell. */
@@ -675,7 +679,7 @@ static void spoil_address(const uint8_t *frame, uint32_t *reason, uint32_t *addr
         address[1] = 0;
 }
 
-/* What is written or read beside the two numbers. */
+/* What is written or read beside the three numbers. */
 static void spoil_lent(uint8_t *bank, size_t bank_n, uint8_t *frame, size_t frame_n)
 {
     volatile uint8_t read = 0;
@@ -688,7 +692,7 @@ static void spoil_lent(uint8_t *bank, size_t bank_n, uint8_t *frame, size_t fram
     (void)read;
 }
 
-static void spoil_refused_why(uint32_t reason_before, uint32_t *reason, uint32_t *address)
+static void spoil_refused_why(uint32_t reason_before, uint32_t side_before, uint32_t *reason, uint32_t *address, uint32_t *side)
 {
     if (breach_is("refused_why_has_a_reason"))
         *reason = CEDARSKEIN_TOO_SHORT;
@@ -696,6 +700,10 @@ static void spoil_refused_why(uint32_t reason_before, uint32_t *reason, uint32_t
         *address = 1;
     if (breach_is("refused_why_leaves_the_reason"))
         *reason = reason_before;
+    if (breach_is("refused_why_has_a_side"))
+        *side = CEDARSKEIN_TOO_LOW;
+    if (breach_is("refused_why_leaves_the_side"))
+        *side = side_before;
 }
 
 /* What is told of a read that starts at a record. */
@@ -735,12 +743,140 @@ static void spoil_outside_reason(const struct records *records, const uint8_t *f
     *address = 0;
 }
 
+/* ---- The side, as a door would tell it that judges otherwise ---- */
+
+static uint32_t pair_of(const uint8_t *bytes)
+{
+    return word_of(bytes) << 16 | word_of(bytes + 2);
+}
+
+static uint32_t place_of(const uint8_t *sheet, uint32_t address)
+{
+    const uint8_t *area = sheet + 24;
+    while (address < word_of(area) || word_of(area + 2) < address)
+        area += 8;
+    return word_of(area + 4) + address - word_of(area);
+}
+
+/* The row of the item whose first address was told. */
+static const uint8_t *item_row(const uint8_t *sheet, uint32_t address)
+{
+    const uint8_t *row = sheet + 24 + 8 * word_of(sheet + 2);
+    uint32_t place = place_of(sheet, address);
+    while (word_of(row + 2) != place)
+        row += 12;
+    return row;
+}
+
+/* What a write sends of an item: the words from its first one on, and how many words of the write that are at most. */
+struct sent {
+    const uint8_t *words;
+    uint32_t left;
+    int is_lower_half;
+};
+
+static struct sent sent_of(const uint8_t *frame, uint32_t address)
+{
+    struct sent sent;
+    uint32_t start = word_of(frame + 2), count = frame[1] == 0x06 ? 1 : word_of(frame + 4);
+    uint32_t in_front = address < start ? 0 : address - start;
+    sent.words = frame + (frame[1] == 0x06 ? 4 : 7) + 2 * in_front;
+    sent.left = count - in_front;
+    sent.is_lower_half = address < start;
+    return sent;
+}
+
+/* Of a value that misses one end. */
+static uint32_t side_by(uint32_t value, uint32_t low)
+{
+    return value < low ? CEDARSKEIN_TOO_LOW : CEDARSKEIN_TOO_HIGH;
+}
+
+/* A pair of which one half is sent, judged by that alone. */
+static void spoil_half_side(const struct sent *sent, uint32_t low, uint32_t *side)
+{
+    uint32_t word = word_of(sent->words);
+    if (breach_is("why_side_of_the_half_sent"))
+        *side = side_by(word, low);
+    if (breach_is("why_side_by_halves"))
+        *side = side_by(word, sent->is_lower_half ? low & 0xFFFF : low >> 16);
+}
+
+/* An item of which all is sent, judged as one of another kind. */
+static void spoil_kind_side(uint32_t kind, const uint8_t *words, uint32_t low, uint32_t *side)
+{
+    if (breach_is("why_side_without_sign") && kind == 1)
+        *side = side_by(word_of(words), low);
+    if (breach_is("why_side_of_a_word_with_sign") && kind == 0)
+        *side = side_by(word_of(words) ^ 0x8000, low ^ 0x8000);
+    if (breach_is("why_side_of_a_pair_with_sign") && kind == 2)
+        *side = side_by(pair_of(words) ^ 0x80000000, low ^ 0x80000000);
+    if (breach_is("why_side_of_a_pair_lower_word_first") && kind == 2)
+        *side = side_by(word_of(words + 2) << 16 | word_of(words), low);
+}
+
+/* A first bad item, told with another side than its own. */
+static void spoil_item_side(const uint8_t *sheet, const uint8_t *frame, uint32_t address, uint32_t *side)
+{
+    const uint8_t *row = item_row(sheet, address);
+    struct sent sent = sent_of(frame, address);
+    if (row[1] == 2 && (sent.is_lower_half || sent.left == 1))
+        spoil_half_side(&sent, pair_of(row + 4), side);
+    else
+        spoil_kind_side(row[1], sent.words, pair_of(row + 4), side);
+    if (breach_is("why_side_is_swapped"))
+        *side = CEDARSKEIN_TOO_LOW + CEDARSKEIN_TOO_HIGH - *side;
+    if (breach_is("why_item_has_no_side"))
+        *side = CEDARSKEIN_NO_SIDE;
+}
+
+/* The words of a write behind its first bad item, asked about on their own: where one of them is bad too, its side. */
+static void spoil_first_side(const uint8_t *sheet, size_t sheet_n, const uint8_t *bank, size_t bank_n, const uint8_t *ring,
+                             size_t ring_n, const uint8_t *frame, uint32_t address, uint32_t *side)
+{
+    uint8_t rest[CEDARSKEIN_LONGEST_FRAME] = { frame[0], 0x10 };
+    struct sent sent = sent_of(frame, address);
+    uint32_t taken = item_row(sheet, address)[1] == 2 && !sent.is_lower_half ? 2 : 1;
+    uint32_t rest_reason, rest_address, rest_side, start = address + taken + sent.is_lower_half;
+    size_t n = 7 + 2 * (size_t)(sent.left - taken);
+    uint16_t value;
+    if (sent.left <= taken)
+        return;
+    rest[2] = (uint8_t)(start >> 8);
+    rest[3] = (uint8_t)start;
+    rest[5] = (uint8_t)(sent.left - taken);
+    rest[6] = (uint8_t)(2 * rest[5]);
+    memcpy(rest + 7, sent.words + 2 * taken, rest[6]);
+    value = __real_cedarskein_check_value(rest, n);
+    rest[n] = (uint8_t)(value & 0xFF);
+    rest[n + 1] = (uint8_t)(value >> 8);
+    __real_cedarskein_why(sheet, sheet_n, bank, bank_n, ring, ring_n, rest, n + 2, &rest_reason, &rest_address, &rest_side);
+    if (rest_reason == CEDARSKEIN_ITEM)
+        *side = rest_side;
+}
+
+/* A side where there is none, or none where there is one; and what is written beside it. */
+static void spoil_side(uint32_t reason, uint32_t side_before, uint32_t *side)
+{
+    if (breach_is("why_side_is_not_written") && reason == CEDARSKEIN_ITEM)
+        *side = side_before;
+    if (breach_is("why_leaves_the_side") && reason != CEDARSKEIN_ITEM)
+        *side = side_before;
+    if (breach_is("why_no_reason_has_a_side") && reason == CEDARSKEIN_NO_REASON)
+        *side = CEDARSKEIN_TOO_LOW;
+    if (breach_is("why_clear_value_has_a_side") && reason == CEDARSKEIN_CLEAR_VALUE)
+        *side = CEDARSKEIN_TOO_LOW;
+    if (breach_is("why_side_written_wide"))
+        side[1] = 0;
+}
+
 uint32_t __wrap_cedarskein_why(const uint8_t *sheet, size_t sheet_n, const uint8_t *bank, size_t bank_n, const uint8_t *ring,
-                               size_t ring_n, const uint8_t *frame, size_t frame_n, uint32_t *reason, uint32_t *address)
+                               size_t ring_n, const uint8_t *frame, size_t frame_n, uint32_t *reason, uint32_t *address,
+                               uint32_t *side)
 {
     struct records records = records_of(sheet, sheet_n);
-    uint32_t reason_before = *reason, address_before = *address;
-    uint32_t number = __real_cedarskein_why(sheet, sheet_n, bank, bank_n, ring, ring_n, frame, frame_n, reason, address);
+    uint32_t reason_before = *reason, address_before = *address, side_before = *side;
+    uint32_t number = __real_cedarskein_why(sheet, sheet_n, bank, bank_n, ring, ring_n, frame, frame_n, reason, address, side);
     spoil_lent((uint8_t *)(uintptr_t)bank, bank_n, (uint8_t *)(uintptr_t)frame, frame_n);
     if (breach_is("why_writes_the_ring") && ring_n > 0)
         ((uint8_t *)(uintptr_t)ring)[ring_n - 1] ^= 1;
@@ -753,14 +889,19 @@ uint32_t __wrap_cedarskein_why(const uint8_t *sheet, size_t sheet_n, const uint8
     if (breach_is("why_of_a_bad_ring") && number == 8)
         return 0;
     if (breach_is("why_item_before_address") && *reason == CEDARSKEIN_ADDRESS && frame[1] == 0x10)
-        spoil_long_write(sheet, sheet_n, bank, bank_n, ring, ring_n, frame, reason, address);
+        spoil_long_write(sheet, sheet_n, bank, bank_n, ring, ring_n, frame, reason, address, side);
+    if (breach_is("why_side_of_a_later_item") && *reason == CEDARSKEIN_ITEM)
+        spoil_first_side(sheet, sheet_n, bank, bank_n, ring, ring_n, frame, *address, side);
+    if (number == 0 && *reason == CEDARSKEIN_ITEM)
+        spoil_item_side(sheet, frame, *address, side);
     if (number == 0) {
-        spoil_reason(frame, frame_n, reason, address);
+        spoil_side(*reason, side_before, side);
+        spoil_reason(frame, frame_n, reason, address, side);
         spoil_record_reason(&records, frame, frame_n, reason, address);
         spoil_outside_reason(&records, frame, reason, address);
         spoil_address(frame, reason, address);
     } else {
-        spoil_refused_why(reason_before, reason, address);
+        spoil_refused_why(reason_before, side_before, reason, address, side);
     }
     return number;
 }

@@ -6,9 +6,9 @@
 
 #include <string.h>
 
-/* The two numbers that a call hands back beside its own: length and rate, or reason and address. */
+/* The numbers that a call hands back beside its own: length and rate, or reason, address and side. */
 struct numbers {
-    uint32_t front[4], first, between[4], second, behind[4];
+    uint32_t front[4], first, between[4], second, between_last[4], third, behind[4];
 };
 
 uint16_t word_at(const uint8_t *bytes, size_t place)
@@ -205,14 +205,16 @@ uint32_t call_set_mark(struct meter *meter, uint32_t mark)
     return banked(meter, cedarskein_set_mark(meter->sheet.bytes, meter->sheet.n, meter->bank.bytes, meter->bank.n, mark));
 }
 
-/* The two numbers are written, and nothing around them. */
-static void expect_numbers_alone(const struct numbers *numbers)
+/* Two numbers are written, or all three, and nothing around them. */
+static void expect_numbers_alone(const struct numbers *numbers, int many)
 {
     struct numbers as_written;
     memset(&as_written, 0xA5, sizeof as_written);
     as_written.first = numbers->first;
     as_written.second = numbers->second;
-    expect(memcmp(&as_written, numbers, sizeof as_written) == 0, "the memory around the two numbers is as before");
+    if (many == 3)
+        as_written.third = numbers->third;
+    expect(memcmp(&as_written, numbers, sizeof as_written) == 0, "the memory around the numbers is as before");
 }
 
 /* A reply: it passes, it goes out at the rate before the frame from the station before the frame, and out behind it is as before. */
@@ -251,7 +253,7 @@ uint32_t call_answer(struct meter *meter)
     meter->length = numbers.first;
     meter->rate = numbers.second;
     expect_left_alone(meter);
-    expect_numbers_alone(&numbers);
+    expect_numbers_alone(&numbers, 2);
     if (number == CEDARSKEIN_DONE) {
         const uint8_t *bank_before = bank->before + (bank->bytes - bank->block);
         expect_reply(meter, station_of(sheet->bytes, bank_before), rate_of(sheet->bytes, bank_before));
@@ -261,7 +263,15 @@ uint32_t call_answer(struct meter *meter)
     return number;
 }
 
-/* A reason of the header, none with a refusal; and an address where the reason has one. */
+void expect_side_of(uint32_t reason, uint32_t side)
+{
+    if (reason == CEDARSKEIN_ITEM)
+        expect(side == CEDARSKEIN_TOO_LOW || side == CEDARSKEIN_TOO_HIGH, "an item has a side, 1 or 2");
+    else
+        expect_number(CEDARSKEIN_NO_SIDE, side, "the side where the reason is no item");
+}
+
+/* A reason of the header, none with a refusal; and an address and a side where the reason has one. */
 static void expect_told(const struct meter *meter, uint32_t number)
 {
     expect(meter->reason <= CEDARSKEIN_ITEM, "a reason is 0 to 10");
@@ -270,6 +280,7 @@ static void expect_told(const struct meter *meter, uint32_t number)
         expect_number(CEDARSKEIN_NO_REASON, meter->reason, "the reason of a refused call");
     if (meter->reason != CEDARSKEIN_ADDRESS && meter->reason != CEDARSKEIN_ITEM)
         expect_number(0, meter->address, "the address where the reason has none");
+    expect_side_of(meter->reason, meter->side);
 }
 
 /* Whatever is told, all that is lent is only read. */
@@ -280,10 +291,11 @@ uint32_t call_why(struct meter *meter)
     memset(&numbers, 0xA5, sizeof numbers);
     keep_all(meter);
     number = cedarskein_why(meter->sheet.bytes, meter->sheet.n, meter->bank.bytes, meter->bank.n, meter->ring.bytes, meter->ring.n,
-                            meter->frame.bytes, meter->frame.n, &numbers.first, &numbers.second);
+                            meter->frame.bytes, meter->frame.n, &numbers.first, &numbers.second, &numbers.third);
     meter->reason = numbers.first;
     meter->address = numbers.second;
-    expect_numbers_alone(&numbers);
+    meter->side = numbers.third;
+    expect_numbers_alone(&numbers, 3);
     expect_told(meter, number);
     return judged(meter, number);
 }

@@ -6,8 +6,8 @@
 
 struct meter {
     struct lent sheet, bank, ring, frame, out, words, record;
-    uint32_t length, rate;    /* of the last frame answered */
-    uint32_t reason, address; /* of the last frame asked about */
+    uint32_t length, rate;          /* of the last frame answered */
+    uint32_t reason, address, side; /* of the last frame asked about */
 };
 
 /* A sheet of n bytes, a bank of the size that it asks for, made fresh (noise where the sheet is refused), an empty ring of the size
@@ -42,6 +42,9 @@ uint16_t word_at(const uint8_t *bytes, size_t place);
 void set_word(uint8_t *bytes, size_t place, uint16_t word);
 uint8_t station_of(const uint8_t *sheet, const uint8_t *bank);
 uint8_t rate_of(const uint8_t *sheet, const uint8_t *bank);
+
+/* An item has one of the two sides, and no other reason has any. */
+void expect_side_of(uint32_t reason, uint32_t side);
 
 uint32_t call_sheet_check(struct meter *meter);
 uint32_t call_bank_check(struct meter *meter);

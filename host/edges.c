@@ -75,8 +75,11 @@ static uint32_t answer(void)
 /* Why, of the same frame: silence where it says so, and else a reply. */
 static void told_why(uint32_t *reason, uint32_t *address)
 {
+    uint32_t side[2] = { 99, 99 };
     expect_number(CEDARSKEIN_DONE, cedarskein_why(sheet.bytes, sheet.n, bank.bytes, bank.n, ring.bytes, ring.n, frame.bytes, frame.n,
-                                                  reason, address), "why");
+                                                  reason, address, side), "why");
+    expect_side_of(*reason, side[0]);
+    expect_number(99, side[1], "the number behind the side");
     expect_number((CEDARSKEIN_TOO_SHORT <= *reason && *reason <= CEDARSKEIN_STATION) || *reason == CEDARSKEIN_BODY_LENGTH
                       ? CEDARSKEIN_SILENCE : CEDARSKEIN_DONE, answer(), "the answer that the reason says");
 }

@@ -76,16 +76,44 @@ static void reasons(void)
     static uint8_t bank[CEDARSKEIN_UX_BANK_SIZE];
     uint8_t frame[8] = { 0x01, 0x03, 0x01, 0x00, 0x00, 0x18 };
     uint16_t value = cedarskein_check_value(frame, 6);
-    uint32_t reason = 99, address = 99;
+    uint32_t reason = 99, address = 99, side = 99;
     int i;
     frame[6] = (uint8_t)(value & 0xFF);
     frame[7] = (uint8_t)(value >> 8);
     for (i = 0; i < 11; i++)
         expect(numbers[i] == i, "the reasons are 0 to 10");
     cedarskein_bank_fresh(cedarskein_ux_sheet, CEDARSKEIN_UX_SHEET_SIZE, bank, sizeof bank);
-    expect(cedarskein_why(cedarskein_ux_sheet, CEDARSKEIN_UX_SHEET_SIZE, bank, sizeof bank, NULL, 0, frame, sizeof frame, &reason, &address)
-               == CEDARSKEIN_DONE, "why");
-    expect(reason == CEDARSKEIN_ADDRESS && address == 0x0117, "the reason and the address");
+    expect(cedarskein_why(cedarskein_ux_sheet, CEDARSKEIN_UX_SHEET_SIZE, bank, sizeof bank, NULL, 0, frame, sizeof frame, &reason, &address,
+                          &side) == CEDARSKEIN_DONE, "why");
+    expect(reason == CEDARSKEIN_ADDRESS && address == 0x0117 && side == CEDARSKEIN_NO_SIDE, "the reason and the address, and no side");
+}
+
+/* A write of the reference temperature, a signed word, and the end that it misses. */
+static void told_side(uint16_t word, uint32_t expected)
+{
+    static uint8_t bank[CEDARSKEIN_UX_BANK_SIZE];
+    uint8_t frame[8] = { 0x01, 0x06, CEDARSKEIN_UX_REFERENCE_TEMPERATURE >> 8, CEDARSKEIN_UX_REFERENCE_TEMPERATURE & 0xFF };
+    uint32_t reason = 99, address = 99, side = 99;
+    uint16_t value;
+    frame[4] = (uint8_t)(word >> 8);
+    frame[5] = (uint8_t)(word & 0xFF);
+    value = cedarskein_check_value(frame, 6);
+    frame[6] = (uint8_t)(value & 0xFF);
+    frame[7] = (uint8_t)(value >> 8);
+    cedarskein_bank_fresh(cedarskein_ux_sheet, CEDARSKEIN_UX_SHEET_SIZE, bank, sizeof bank);
+    expect(cedarskein_why(cedarskein_ux_sheet, CEDARSKEIN_UX_SHEET_SIZE, bank, sizeof bank, NULL, 0, frame, sizeof frame, &reason, &address,
+                          &side) == CEDARSKEIN_DONE, "why, of an item");
+    expect(reason == CEDARSKEIN_ITEM && address == CEDARSKEIN_UX_REFERENCE_TEMPERATURE && side == expected, "the item and its side");
+}
+
+static void item_sides(void)
+{
+    static const int numbers[3] = { CEDARSKEIN_NO_SIDE, CEDARSKEIN_TOO_LOW, CEDARSKEIN_TOO_HIGH };
+    int i;
+    for (i = 0; i < 3; i++)
+        expect(numbers[i] == i, "the sides are 0 to 2");
+    told_side(0xFFF5, CEDARSKEIN_TOO_LOW);
+    told_side(0x003D, CEDARSKEIN_TOO_HIGH);
 }
 
 /* A ring's size and the place of a record, by the header's own expressions. N is 3 and w 2; five records are added, 1 to 5. */
@@ -132,6 +160,7 @@ static void versions(void)
     char version[30];
     sprintf(version, "%d.%d.%d", CEDARSKEIN_VERSION_MAJOR, CEDARSKEIN_VERSION_MINOR, CEDARSKEIN_VERSION_PATCH);
     expect(strcmp(version, CEDARSKEIN_VERSION) == 0, "the version is said alike");
+    expect(CEDARSKEIN_VERSION_MAJOR >= 3, "why tells a side from version 3 on");
     expect(cedarskein_check_take(cedarskein_check_start(), 0x01) == 0x807E, "check_take");
 }
 
@@ -141,6 +170,7 @@ int main(void)
     next_rate_and_station();
     posted_and_marked();
     reasons();
+    item_sides();
     records();
     versions();
     return failures != 0;

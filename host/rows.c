@@ -1,7 +1,8 @@
 /* Rows of cases through the archive. The rows are lines of standard input, as crates/cases/src/main.rt says; four signs are
  * added, for the check value, for why and for records:
  *   C bytes value name            the check value of the bytes
- *   Y frame reason address name   the reason for a frame without its check, which is put behind it, and the address told; both hexadecimal
+ *   Y frame reason address name   the reason for a frame without its check, which is put behind it, and the address told; both hexadecimal.
+ *                                 With reason 0A the side stands behind the address; with any other it is 0
  *   Z frame reason address name   the same for a frame as it is
  *   + bytes                       adds a record to the ring, which is empty at first
  * The file that is named first gets a line for each row, the same that the program cases writes. The second word says what the rows are. */
@@ -154,15 +155,17 @@ static void ask_why(const char *line, int whole)
     uint8_t frame[130];
     size_t n = field(&line, frame, 128);
     uint32_t reason = number_field(&line), address = number_field(&line);
+    uint32_t side = reason == CEDARSKEIN_ITEM ? number_field(&line) : CEDARSKEIN_NO_SIDE;
     uint32_t number;
     if (whole)
         lend_copy(&meter.frame, frame, n, rows % LENT_SHIFTS);
     else
         meter_frame(&meter, frame, n + 2, rows % LENT_SHIFTS);
     number = call_why(&meter);
-    fprintf(lines, "%s: expected reason %lu at %04lX, got %lu at %04lX", line, (unsigned long)reason, (unsigned long)address,
-            (unsigned long)meter.reason, (unsigned long)meter.address);
-    say_verdict(number == CEDARSKEIN_DONE && meter.reason == reason && meter.address == address);
+    fprintf(lines, "%s: expected reason %lu at %04lX, side %lu, got %lu at %04lX, side %lu", line, (unsigned long)reason,
+            (unsigned long)address, (unsigned long)side, (unsigned long)meter.reason, (unsigned long)meter.address,
+            (unsigned long)meter.side);
+    say_verdict(number == CEDARSKEIN_DONE && meter.reason == reason && meter.address == address && meter.side == side);
 }
 
 static void held(const char *line)

@@ -74,6 +74,9 @@ static void station_set(const struct sheet *sheet, uint32_t station)
     set_word(frame, 1, address);
     set_word(frame, 2, (uint16_t)station);
     meter_frame(&meter, frame, sizeof frame, 0);
+    expect_number(CEDARSKEIN_DONE, call_why(&meter), "why");
+    expect_number(good ? CEDARSKEIN_NO_REASON : CEDARSKEIN_ITEM, meter.reason, "the reason");
+    expect_number(good ? CEDARSKEIN_NO_SIDE : station < LOWEST ? CEDARSKEIN_TOO_LOW : CEDARSKEIN_TOO_HIGH, meter.side, "the side");
     expect_number(CEDARSKEIN_DONE, call_answer(&meter), "answer");
     expect_number(good ? 8 : 5, meter.length, "an echo, or error 03");
     expect(good || meter.out.bytes[2] == 3, "error 03");
