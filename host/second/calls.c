@@ -21,7 +21,7 @@ struct functions {
     uint32_t (*answer)(const uint8_t *, size_t, uint8_t *, size_t, const uint8_t *, size_t,
                        const uint8_t *, size_t, uint8_t *, size_t, uint32_t *, uint32_t *);
     uint32_t (*why)(const uint8_t *, size_t, const uint8_t *, size_t, const uint8_t *, size_t,
-                    const uint8_t *, size_t, uint32_t *, uint32_t *);
+                    const uint8_t *, size_t, uint32_t *, uint32_t *, uint32_t *);
     uint32_t (*ring_check)(const uint8_t *, size_t, const uint8_t *, size_t);
     uint32_t (*add_record)(const uint8_t *, size_t, uint8_t *, size_t, const uint8_t *, size_t);
 };
@@ -102,8 +102,8 @@ void print_call(const struct call *call)
 static void print_side(int side, const struct outcome *outcome)
 {
     printf(" %s: number %" PRIu32 ", length %" PRIu32 ", rate %" PRIu32 ", reason %" PRIu32
-           ", address %04" PRIX32 "\n", side_names[side], outcome->number, outcome->length,
-           outcome->rate, outcome->reason, outcome->address);
+           ", address %04" PRIX32 ", side %" PRIu32 "\n", side_names[side], outcome->number,
+           outcome->length, outcome->rate, outcome->reason, outcome->address, outcome->side);
     print_bytes("bank after", lent_bytes(&lent[side][PART_BANK]), lent[side][PART_BANK].n);
     print_bytes("ring after", lent_bytes(&lent[side][PART_RING]), lent[side][PART_RING].n);
     print_bytes("out after", lent_bytes(&lent[side][PART_OUT]), lent[side][PART_OUT].n);
@@ -111,10 +111,10 @@ static void print_side(int side, const struct outcome *outcome)
 
 /* ---- One side ---- */
 
-/* Length and rate, or reason and address, stand between guards of their own
- * and hold noise before. */
+/* Length and rate, or reason, address and side, stand between guards of their own
+ * and hold noise before, other noise on each side: what is not written differs. */
 struct handed_back {
-    uint32_t guard_0, first, guard_1, second, guard_2;
+    uint32_t guard_0, first, guard_1, second, guard_2, third, guard_3;
 };
 
 enum { GUARD = 0x5AA5C33C };
@@ -132,7 +132,8 @@ static uint32_t ask_why(const struct functions *side, struct lent *part, struct 
 {
     return side->why(part[PART_SHEET].at, part[PART_SHEET].n, part[PART_BANK].at,
                      part[PART_BANK].n, part[PART_RING].at, part[PART_RING].n,
-                     part[PART_BYTES].at, part[PART_BYTES].n, &back->first, &back->second);
+                     part[PART_BYTES].at, part[PART_BYTES].n, &back->first, &back->second,
+                     &back->third);
 }
 
 static uint32_t ask(const struct functions *side, const struct call *call, struct lent *part,
@@ -194,7 +195,7 @@ static bool read_parts_kept(int side, const struct call *call)
     return kept;
 }
 
-/* The two numbers that were handed back, by what the call means with them. */
+/* The numbers that were handed back, by what the call means with them. */
 static void take_numbers(enum call_sort sort, const struct handed_back *back,
                          struct outcome *outcome)
 {
@@ -205,20 +206,28 @@ static void take_numbers(enum call_sort sort, const struct handed_back *back,
     if (sort == CALL_WHY) {
         outcome->reason = back->first;
         outcome->address = back->second;
+        outcome->side = back->third;
     }
+}
+
+static bool guards_stand(const struct handed_back *back)
+{
+    return back->guard_0 == GUARD && back->guard_1 == GUARD && back->guard_2 == GUARD
+        && back->guard_3 == GUARD;
 }
 
 static bool run_side(int side, const struct call *call, struct outcome *outcome)
 {
-    struct handed_back back = { GUARD, (uint32_t)noise(), GUARD, (uint32_t)noise(), GUARD };
+    struct handed_back back = { GUARD, (uint32_t)noise(), GUARD, (uint32_t)noise(), GUARD,
+                                (uint32_t)noise(), GUARD };
     for (int part = 0; part < PART_COUNT; part++)
         lend(&lent[side][part], call->part[part], call->part_n[part], below(8), chance(50));
     memset(outcome, 0, sizeof *outcome);
     outcome->number = ask(&sides[side], call, lent[side], &back);
     take_numbers(call->sort, &back, outcome);
     bool kept = all_back(side) && read_parts_kept(side, call);
-    if (back.guard_0 != GUARD || back.guard_1 != GUARD || back.guard_2 != GUARD) {
-        printf("%s wrote beside its two numbers\n", side_names[side]);
+    if (!guards_stand(&back)) {
+        printf("%s wrote beside its numbers\n", side_names[side]);
         kept = false;
     }
     return kept;
@@ -240,7 +249,7 @@ static bool same_outcome(const struct outcome *one, const struct outcome *other)
 {
     return one->number == other->number && one->length == other->length
         && one->rate == other->rate && one->reason == other->reason
-        && one->address == other->address;
+        && one->address == other->address && one->side == other->side;
 }
 
 bool same_on_both_sides(const struct call *call, struct outcome *outcome)

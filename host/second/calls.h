@@ -34,9 +34,10 @@ struct call {
     uint8_t byte;                       /* for the running state */
 };
 
-/* What a call hands back; 0 where it has no such thing. */
+/* What a call hands back; 0 where it has no such thing. The side is that of an
+ * item's range, and none of the two that are compared. */
 struct outcome {
-    uint32_t number, length, rate, reason, address;
+    uint32_t number, length, rate, reason, address, side;
 };
 
 /* Makes the call on both sides. False, with the whole call printed, if they

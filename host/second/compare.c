@@ -13,6 +13,7 @@
 #include "rings_made.h"
 #include "second.h"
 #include "sheets_made.h"
+#include "sides_met.h"
 #include "stations_met.h"
 
 #include <inttypes.h>
@@ -533,8 +534,8 @@ static bool is_refused_as_made(const struct call *call, const struct outcome *ou
         && !(call->sort == CALL_ADD_RECORD && !subject.made.records.is);
 }
 
-/* Makes the call on both sides, holds it to what is known of stations and of
- * records, and counts it. */
+/* Makes the call on both sides, holds it to what is known of stations, of records
+ * and of the sides of a range, and counts it. */
 static struct outcome make_call(const struct call *call)
 {
     struct outcome outcome;
@@ -543,6 +544,8 @@ static struct outcome make_call(const struct call *call)
     const char *breach = station_breach(call, &outcome);
     if (breach == NULL)
         breach = record_breach(call, &outcome);
+    if (breach == NULL)
+        breach = side_breach(call, &outcome);
     if (breach == NULL && is_refused_as_made(call, &outcome))
         breach = "a sheet that was made sound is refused";
     if (breach != NULL)
@@ -550,6 +553,7 @@ static struct outcome make_call(const struct call *call)
     count_call(call, &outcome);
     count_stations(&counts, call, &outcome);
     count_records(&counts, call, &outcome);
+    count_sides(&counts, call, &outcome);
     return outcome;
 }
 
@@ -750,14 +754,15 @@ static bool answer_fits(const struct call *call, const struct outcome *why,
     return answer->length == 5 && out[1] == (frame[1] | 0x80) && out[2] == error;
 }
 
-/* Whether the frame with its faults gets the reason and the address that it was
- * made for. */
+/* Whether the frame with its faults gets the reason, the address and the side that
+ * it was made for. */
 static bool as_made(const struct faulty *faulty, const struct outcome *why)
 {
     bool several = (faulty->faults & (faulty->faults - 1)) != 0;
     if (several)
         counts.reason_of_several[faulty->reason]++;
-    return why->reason == faulty->reason && why->address == faulty->address;
+    return why->reason == faulty->reason && why->address == faulty->address
+        && why->side == faulty->side;
 }
 
 /* A frame for the call's bank and ring; whether its reason is known. */
@@ -774,8 +779,19 @@ static bool choose_frame(struct call *call, struct faulty *faulty, bool own)
     return known && own && sheet_is_as_made();
 }
 
-/* A frame is asked about, then answered: the bank and the ring are the same for
+/* A frame that was asked about is answered: the bank and the ring are the same for
  * both. */
+static struct outcome answer_too(struct call *call, const struct outcome *why)
+{
+    call->sort = CALL_ANSWER;
+    choose_out(call, true);
+    struct outcome answer = make_call(call);
+    count_frame(call, &answer);
+    if (!answer_fits(call, why, &answer))
+        differs(call, "the answer is not the one that the reason says");
+    return answer;
+}
+
 static void call_why(void)
 {
     static struct faulty faulty;
@@ -787,14 +803,35 @@ static void call_why(void)
     count_why(&call, &why);
     if (known && why.number == NUMBER_DONE && !as_made(&faulty, &why))
         differs(&call, "the reason is not the one that the frame was made for");
-    call.sort = CALL_ANSWER;
-    choose_out(&call, true);
-    struct outcome answer = make_call(&call);
-    count_frame(&call, &answer);
-    if (!answer_fits(&call, &why, &answer))
-        differs(&call, "the answer is not the one that the reason says");
+    struct outcome answer = answer_too(&call, &why);
     keep_bank(&call, own);
     keep_ring(&call, &answer, own_ring);
+}
+
+/* A write at an end of an item's range is asked about, and sometimes answered. */
+static void call_end(void)
+{
+    static uint8_t bank[BANK_ROOM], frame[FRAME_ROOM];
+    struct call call = new_call(CALL_WHY);
+    memcpy(bank, subject.bank, subject.bank_n);
+    call.part[PART_BANK] = bank;
+    call.part_n[PART_BANK] = subject.bank_n;
+    lend_ring(&call);
+    call.part_n[PART_BYTES] = make_end_write(&subject.made, bank, frame);
+    call.part[PART_BYTES] = frame;
+    if (call.part_n[PART_BYTES] == 0)
+        return;
+    struct outcome why = make_call(&call);
+    count_why(&call, &why);
+    if (chance(20) && counts.calls < calls_asked)
+        answer_too(&call, &why);
+}
+
+/* Some of them, on one sheet. */
+static void call_ends(void)
+{
+    for (uint32_t ends = 1 + below(6); ends > 0 && counts.calls < calls_asked; ends--)
+        call_end();
 }
 
 /* A passing frame, damaged: whatever the frame, the reason is its check, and
@@ -888,6 +925,7 @@ static bool some_ring_call(bool sound)
 static void some_call(void)
 {
     bool sound = subject.broken == RULE_NONE && sheet_is_as_made();
+    bool writes = sound && (subject.made.functions & 12) == 12;
     uint32_t sort = below(100);
     if (some_ring_call(sound))
         return;
@@ -911,6 +949,8 @@ static void some_call(void)
         call_answer();
     else if (sort < 64 && sound)
         call_damaged();
+    else if (sort < 68 && writes)
+        call_ends();
     else
         call_why();
 }

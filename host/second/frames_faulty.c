@@ -14,6 +14,7 @@ struct making {
     uint32_t wanted;        /* bits like those of the faults */
     uint32_t closed;        /* the first address that is not open */
     uint32_t bad_item;      /* the first address of the first bad item */
+    enum second_side side;  /* at which that item misses its range */
 };
 
 /* ---- Faults ---- */
@@ -132,34 +133,38 @@ static uint32_t make_run(struct making *making, bool write, uint32_t most, uint3
 
 /* ---- The words of a write ---- */
 
-/* Whether a word would be bad as one half of a pair whose other half is in the
- * bank. */
-static bool is_bad_half(const struct making *making, const struct made_item *item, bool upper,
-                        uint32_t word)
+static enum second_side side_of(const struct made_item *item, int64_t value)
 {
-    int64_t other = get16(making->bank, item->place + (upper ? 1 : 0));
-    int64_t value = upper ? (int64_t)word * 0x10000 + other : other * 0x10000 + word;
-    return value < item->low || item->high < value;
+    return value < item->low ? SIDE_TOO_LOW : item->high < value ? SIDE_TOO_HIGH : SIDE_NONE;
 }
 
-/* One half of a pair: the bank's own word is good. False if a bad one was asked
- * for and not found. */
-static bool put_half(const struct making *making, const struct made_item *item, bool upper,
-                     bool bad, uint8_t *words)
+/* The side at which a word would be bad as one half of a pair whose other half is
+ * in the bank. */
+static enum second_side side_of_half(const struct making *making, const struct made_item *item,
+                                     bool upper, uint32_t word)
 {
+    int64_t other = get16(making->bank, item->place + (upper ? 1 : 0));
+    return side_of(item, upper ? (int64_t)word * 0x10000 + other : other * 0x10000 + word);
+}
+
+/* One half of a pair: the bank's own word is good. No side if a bad one was asked
+ * for and not found. */
+static enum second_side put_half(const struct making *making, const struct made_item *item,
+                                 bool upper, bool bad, uint8_t *words)
+{
+    enum second_side side = SIDE_NONE;
     put16(words, 0, get16(making->bank, item->place + (upper ? 0 : 1)));
-    for (int tries = 0; bad && tries < MOST_TRIES; tries++) {
+    for (int tries = 0; bad && side == SIDE_NONE && tries < MOST_TRIES; tries++) {
         uint32_t word = ONE_OF(0, 0xFFFF, below(0x10000), below(0x10000));
-        if (is_bad_half(making, item, upper, word)) {
+        side = side_of_half(making, item, upper, word);
+        if (side != SIDE_NONE)
             put16(words, 0, word);
-            return true;
-        }
     }
-    return !bad;
+    return side;
 }
 
 /* A whole item; likewise. */
-static bool put_whole(const struct made_item *item, bool bad, uint8_t *words)
+static enum second_side put_whole(const struct made_item *item, bool bad, uint8_t *words)
 {
     int64_t value = value_within(item);
     bool found = !bad;
@@ -170,7 +175,7 @@ static bool put_whole(const struct made_item *item, bool bad, uint8_t *words)
     if (item->kind == 2)
         put16(words, 0, (uint32_t)(value >> 16 & 0xFFFF));
     put16(words, item->kind == 2 ? 1 : 0, (uint32_t)(value & 0xFFFF));
-    return found;
+    return side_of(item, value);
 }
 
 /* The item at one address of a write, of which so many words are left; hands
@@ -186,9 +191,11 @@ static uint32_t put_item(struct making *making, uint32_t address, uint32_t left,
     const struct made_item *item = &making->made->items[made_item_of(making->made, place)];
     bool upper = item->place == place;
     bool half = item->kind == 2 && (!upper || left == 1);
-    bool found = half ? put_half(making, item, upper, bad, words) : put_whole(item, bad, words);
-    if (bad && found && (making->faulty->faults >> REASON_ITEM & 1) == 0) {
+    enum second_side side = half ? put_half(making, item, upper, bad, words)
+                                 : put_whole(item, bad, words);
+    if (side != SIDE_NONE && (making->faulty->faults >> REASON_ITEM & 1) == 0) {
         making->bad_item = address_of_place(making->made, item->place);
+        making->side = side;
         put_in(making, REASON_ITEM);
     }
     return item->kind == 2 && !half ? 2 : 1;
@@ -423,7 +430,7 @@ static uint32_t some_faults(void)
 void make_faulty(const struct made *made, const uint8_t *bank, uint32_t stored,
                  struct faulty *faulty)
 {
-    struct making making = { made, bank, stored, faulty, some_faults(), 0, 0 };
+    struct making making = { made, bank, stored, faulty, some_faults(), 0, 0, SIDE_NONE };
     faulty->faults = 0;
     faulty->n = make_whole(&making, faulty->frame);
     int reason = REASON_NONE + 1;
@@ -432,4 +439,5 @@ void make_faulty(const struct made *made, const uint8_t *bank, uint32_t stored,
     faulty->reason = reason < REASON_COUNT ? (enum second_reason)reason : REASON_NONE;
     faulty->address = faulty->reason == REASON_ADDRESS ? making.closed
         : faulty->reason == REASON_ITEM ? making.bad_item : 0;
+    faulty->side = faulty->reason == REASON_ITEM ? making.side : SIDE_NONE;
 }

@@ -12,6 +12,7 @@ struct faulty {
     uint32_t faults;            /* bit r is set if the fault of reason r is in */
     enum second_reason reason;  /* the earliest of them */
     uint32_t address;           /* what is told with it */
+    enum second_side side;      /* likewise */
 };
 
 /* A frame for a sound sheet, a sound bank of it and a ring with so many records

@@ -2,6 +2,8 @@
 #include "frames_made.h"
 #include "noise.h"
 
+#include <string.h>
+
 /* ---- Addresses, counts, stations ---- */
 
 /* At, inside or next to the record area. */
@@ -519,6 +521,101 @@ size_t make_passing_frame(const struct made *made, const uint8_t *bank, uint32_t
         frame[0] = own_station(made, bank);
     } while (n > 98);
     return add_check(frame, n);
+}
+
+/* ---- Writes at the ends of a range ---- */
+
+/* A write of one item, or of half a pair. */
+struct end_write {
+    uint32_t start, count;
+    uint8_t words[4];
+};
+
+/* An end of the range, the value next to it outside, or an end of what the words
+ * can hold; of a word with a sign, one that would lie on the other side of the range
+ * without it. False if an item has no such value. */
+static bool value_at_end(const struct made_item *item, uint32_t end, int64_t *value)
+{
+    int64_t least = kind_least(item->kind);
+    int64_t most = kind_most(item->kind);
+    const int64_t values[6] = { item->low - 1, item->low, item->high, item->high + 1, least, most };
+    *value = values[end];
+    if (end == 4 && item->low < 0)
+        return false;
+    if (end == 5 && item->kind == 1 && item->low >= 0)
+        return false;
+    return least <= *value && *value <= most;
+}
+
+static void put_pair(uint8_t *words, int64_t value)
+{
+    put16(words, 0, (uint32_t)(value >> 16 & 0xFFFF));
+    put16(words, 1, (uint32_t)(value & 0xFFFF));
+}
+
+/* A whole item with a value at an end; false if this item has none. */
+static bool put_end(const struct made_item *item, uint32_t end, struct end_write *write)
+{
+    int64_t value;
+    if (!value_at_end(item, end, &value))
+        return false;
+    put_pair(write->words, value);
+    write->count = item->kind == 2 ? 2 : 1;
+    if (item->kind != 2)
+        put16(write->words, 0, get16(write->words, 1));
+    return true;
+}
+
+/* Half a pair that is bad with what the bank then has: a half near one of the
+ * bounds, and often the upper half of one, which only the other half makes bad.
+ * False if it is good. */
+static bool put_bad_half(const struct made_item *item, bool upper, uint8_t *bank,
+                         struct end_write *write)
+{
+    int64_t bound = chance(60) ? item->low : item->high;
+    int64_t held = upper ? value_within(item) : bound;
+    uint32_t word = upper && chance(85) ? (uint32_t)(bound >> 16) : half_word(item, upper);
+    int64_t value = upper ? (int64_t)word * 0x10000 + (held & 0xFFFF)
+                          : (held >> 16) * 0x10000 + word;
+    if (item->low <= value && value <= item->high)
+        return false;
+    put_pair(bank + 2 * (size_t)item->place, held);
+    put16(write->words, 0, word);
+    write->start += upper ? 0 : 1;
+    write->count = 1;
+    return true;
+}
+
+/* An item of one kind at one end, or half a pair; false if the search finds none in
+ * the sheet. */
+static bool find_end_write(const struct made *made, uint8_t *bank, struct end_write *write)
+{
+    uint32_t kind = ONE_OF(0, 1, 1, 1, 2, 2, 2, 2, 2);
+    uint32_t end = ONE_OF(0, 0, 0, 1, 2, 3, 3, 4, 4, 5);
+    bool half = kind == 2 && chance(60);
+    bool upper = chance(60);
+    bool found = false;
+    for (int tries = 0; tries < 40 && !found; tries++) {
+        const struct made_item *item = &made->items[below(made->items_n)];
+        write->start = address_of_place(made, item->place);
+        found = item->kind == kind && (half ? put_bad_half(item, upper, bank, write)
+                                            : put_end(item, end, write));
+    }
+    return found;
+}
+
+size_t make_end_write(const struct made *made, uint8_t *bank, uint8_t *frame)
+{
+    struct end_write write;
+    if (!find_end_write(made, bank, &write))
+        return 0;
+    frame[0] = own_station(made, bank);
+    if (write.count == 1 && chance(70))
+        return add_check(frame, put_start(frame, 0x06, write.start, get16(write.words, 0)));
+    size_t n = put_start(frame, 0x10, write.start, write.count);
+    frame[n++] = (uint8_t)(2 * write.count);
+    memcpy(frame + n, write.words, 2 * (size_t)write.count);
+    return add_check(frame, n + 2 * (size_t)write.count);
 }
 
 /* ---- Damage ---- */

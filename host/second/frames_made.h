@@ -24,6 +24,11 @@ size_t make_frame(const struct made *made, const uint8_t *bank, uint32_t stored,
 size_t make_passing_frame(const struct made *made, const uint8_t *bank, uint32_t stored,
                           uint8_t *frame);
 
+/* A write of one item at an end of its range or next to it, or of half a pair that
+ * is bad; the pair's two words in the bank, which stays sound, are made for it. 0 if
+ * the search finds none. */
+size_t make_end_write(const struct made *made, uint8_t *bank, uint8_t *frame);
+
 /* Parts of frames: an address at, inside or next to an area, or anywhere; how
  * many addresses from one on lie in areas, or in those open to writing; the
  * address of a place; the station that a bank has; function, start and a word

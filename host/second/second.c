@@ -131,9 +131,14 @@ static int64_t item_high(const struct sheet *sheet, size_t item)
     return value_of(item_kind(sheet, item), item_word(sheet, item, 4), item_word(sheet, item, 5));
 }
 
-static bool item_range_holds(const struct sheet *sheet, size_t item, int64_t value)
+/* rule B10: where a value lies by the range of an item. Whatever asks for a range
+ * asks here: a sheet for that of its address and rate, a bank, a write, and the
+ * reason for an error. */
+static enum second_side side_missed(const struct sheet *sheet, size_t item, int64_t value)
 {
-    return item_low(sheet, item) <= value && value <= item_high(sheet, item);
+    if (value < item_low(sheet, item))
+        return SIDE_TOO_LOW;
+    return value > item_high(sheet, item) ? SIDE_TOO_HIGH : SIDE_NONE;
 }
 
 static bool item_covers(const struct sheet *sheet, size_t item, uint32_t place)
@@ -462,7 +467,7 @@ static bool keeps_rate_item(const struct sheet *sheet)
 static bool range_at_holds_1(const struct sheet *sheet, uint32_t place)
 {
     size_t item = item_at(sheet, place);
-    return item == item_count(sheet) || item_range_holds(sheet, item, 1);
+    return item == item_count(sheet) || side_missed(sheet, item, 1) == SIDE_NONE;
 }
 
 static bool keeps_address_holds_1(const struct sheet *sheet)
@@ -639,7 +644,7 @@ static int64_t item_value(const struct sheet *sheet, const uint8_t *bank, size_t
 static bool bank_sound(const struct sheet *sheet, const uint8_t *bank)
 {
     for (size_t item = 0; item < item_count(sheet); item++)
-        if (!item_range_holds(sheet, item, item_value(sheet, bank, item)))
+        if (side_missed(sheet, item, item_value(sheet, bank, item)) != SIDE_NONE)
             return false;
     return word_at(bank, bank_words(sheet)) <= 1;
 }
@@ -1092,14 +1097,15 @@ static int64_t pair_to_be(const struct query *query, uint32_t i)
     return value_of(2, upper, lower);
 }
 
-static bool written_item_good(const struct query *query, uint32_t i)
+/* rule K4: the side at which the item at the i-th word would miss its range; it is
+ * bad unless there is none. */
+static enum second_side written_side(const struct query *query, uint32_t i)
 {
     const struct sheet *sheet = &query->sheet;
     size_t item = written_item(query, i);
     if (item_is_pair(sheet, item))
-        return item_range_holds(sheet, item, pair_to_be(query, i));
-    return item_range_holds(sheet, item,
-                            value_of(item_kind(sheet, item), 0, written_word(query, i)));
+        return side_missed(sheet, item, pair_to_be(query, i));
+    return side_missed(sheet, item, value_of(item_kind(sheet, item), 0, written_word(query, i)));
 }
 
 /* rules K1 and K4: how many words of a write stand in front of its first bad
@@ -1107,7 +1113,7 @@ static bool written_item_good(const struct query *query, uint32_t i)
 static uint32_t words_before_bad(const struct query *query)
 {
     uint32_t i = 0;
-    while (i < run_of(query) && written_item_good(query, i))
+    while (i < run_of(query) && written_side(query, i) == SIDE_NONE)
         i += words_taken(query, i);
     return i;
 }
@@ -1482,22 +1488,31 @@ static uint32_t address_told(const struct query *query, enum second_reason reaso
     return reason == REASON_ITEM ? bad_item_address(query) : 0;
 }
 
-/* rule Y2 */
+/* The side at which the first bad item would miss its range, whose value the reason
+ * is about; no other reason has a side. */
+static enum second_side side_told(const struct query *query, enum second_reason reason)
+{
+    return reason == REASON_ITEM ? written_side(query, words_before_bad(query)) : SIDE_NONE;
+}
+
+/* rules Y2 and Y3 */
 uint32_t second_why(const uint8_t *sheet, size_t sheet_n,
                     const uint8_t *bank, size_t bank_n,
                     const uint8_t *ring, size_t ring_n,
                     const uint8_t *frame, size_t frame_n,
-                    uint32_t *reason, uint32_t *address)
+                    uint32_t *reason, uint32_t *address, uint32_t *side)
 {
     struct query query = { { sheet, sheet_n }, bank, ring, frame, frame_n };
     *reason = REASON_NONE;
     *address = 0;
+    *side = SIDE_NONE;
     uint32_t number = refuse_ring(&query.sheet, bank, bank_n, ring, ring_n);
     if (number != NUMBER_DONE)
         return number;
     enum second_reason first = first_reason(&query);
     *reason = first;
     *address = address_told(&query, first);
+    *side = side_told(&query, first);
     return NUMBER_DONE;
 }
 

@@ -35,7 +35,7 @@ uint32_t second_why(const uint8_t *sheet, size_t sheet_n,
                     const uint8_t *bank, size_t bank_n,
                     const uint8_t *ring, size_t ring_n,
                     const uint8_t *frame, size_t frame_n,
-                    uint32_t *reason, uint32_t *address);
+                    uint32_t *reason, uint32_t *address, uint32_t *side);
 uint32_t second_ring_check(const uint8_t *sheet, size_t sheet_n,
                            const uint8_t *ring, size_t ring_n);
 uint32_t second_add_record(const uint8_t *sheet, size_t sheet_n,
@@ -150,6 +150,14 @@ enum second_reason {
     REASON_CLEAR_VALUE = 9,
     REASON_ITEM = 10,
     REASON_COUNT
+};
+
+/* The side at which a value misses the range of its item: rule B10. */
+enum second_side {
+    SIDE_NONE = 0,                  /* the value is in range */
+    SIDE_TOO_LOW = 1,
+    SIDE_TOO_HIGH = 2,
+    SIDE_COUNT
 };
 
 /* The first rule that the sheet breaks, RULE_NONE if it is sound. */

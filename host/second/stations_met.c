@@ -174,10 +174,10 @@ static uint32_t bad_station(const struct call *call)
 {
     const uint8_t *sheet = call->part[PART_SHEET];
     const uint8_t *frame = call->part[PART_BYTES];
-    uint32_t reason, address;
+    uint32_t reason, address, side;
     second_why(sheet, call->part_n[PART_SHEET], call->part[PART_BANK], call->part_n[PART_BANK],
                call->part[PART_RING], call->part_n[PART_RING], frame, call->part_n[PART_BYTES],
-               &reason, &address);
+               &reason, &address, &side);
     if (reason != REASON_ITEM)
         return FIRST_STATION;
     for (size_t row = 12; row < get16(sheet, 4); row += 4) {
