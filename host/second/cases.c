@@ -1,7 +1,7 @@
-/* The cases that 01 lists, and more for the requests W1 to W3 of 02, run on
+/* The cases that 01 lists, and more for the requests W1 to W3 and W5 of 02, run on
  * both sides: the library and the second statement must agree, and both must
- * give what is written here. Each frame is asked about first: the reason is the
- * one that 02 names for what 01 writes. */
+ * give what is written here. Each frame is asked about first: the reason, and with
+ * an item the side, is the one that 02 names for what 01 writes. */
 #include "calls.h"
 #include "second.h"
 #include "sheets_made.h"
@@ -10,7 +10,12 @@
 #include <stdlib.h>
 #include <string.h>
 
-enum { MARK = 0x10000, WORDS = 4, OUT_ROOM = 100, MAP_UX = 0, MAP_AS_WE = 40 };
+enum { MARK = 0x10000, WORDS = 4, OUT_ROOM = 100 };
+
+/* AS-WE goes by its bore. No maker's pair can be too low, and so there is UX with
+ * another range of the pair 0103. */
+enum { MAP_UX = 0, MAP_PAIR = 1, MAP_AS_WE = 40 };
+enum { PAIR_LOW = 0x00018000, PAIR_HIGH = 0x00034000 };
 
 struct stored {
     uint32_t address, word;     /* address 0: none; MARK: the alarm mark */
@@ -25,117 +30,258 @@ struct frame_case {
     struct stored after[WORDS]; /* what has changed; the rest stays */
     enum second_reason reason;
     uint32_t address;           /* told with the reason */
+    enum second_side side;      /* likewise */
 };
 
 static const struct frame_case cases[] = {
     { "P1", MAP_UX, { { 0x0101, 1 }, { 0x0102, 0 } },
       "01 03 01 01 00 02", "01 03 04 00 01 00 00", { { 0, 0 } },
-      REASON_NONE, 0 },
+      REASON_NONE, 0, SIDE_NONE },
     { "P2", MAP_UX, { { 0, 0 } }, "01 10 01 0F 00 02 04 00 01 13 88", "01 10 01 0F 00 02",
       { { 0x010F, 1 }, { 0x0110, 0x1388 } },
-      REASON_NONE, 0 },
+      REASON_NONE, 0, SIDE_NONE },
     { "P3", MAP_UX, { { 0, 0 } }, "01 06 01 0E 00 02", "01 06 01 0E 00 02", { { 0x010E, 2 } },
-      REASON_NONE, 0 },
+      REASON_NONE, 0, SIDE_NONE },
     { "P4", MAP_UX, { { 0x0103, 0 }, { 0x0104, 0x9876 } },
       "01 06 01 03 00 01", "01 86 03", { { 0, 0 } },
-      REASON_ITEM, 0x0103 },
+      REASON_ITEM, 0x0103, SIDE_TOO_HIGH },
     { "P5 stored", MAP_UX, { { 0x0103, 0 }, { 0x0104, 0x9876 } },
       "01 10 01 03 00 02 04 00 01 86 9F", "01 10 01 03 00 02",
       { { 0x0103, 1 }, { 0x0104, 0x869F } },
-      REASON_NONE, 0 },
+      REASON_NONE, 0, SIDE_NONE },
     { "P5 refused", MAP_UX, { { 0x0103, 0 }, { 0x0104, 0x9876 } },
       "01 10 01 03 00 02 04 00 01 86 A0", "01 90 03", { { 0, 0 } },
-      REASON_ITEM, 0x0103 },
+      REASON_ITEM, 0x0103, SIDE_TOO_HIGH },
     { "P6", MAP_UX, { { 0, 0 } }, "01 10 01 01 00 03 06 00 04 00 02 00 00", "01 90 03",
       { { 0x0101, 4 } },
-      REASON_ITEM, 0x0102 },
+      REASON_ITEM, 0x0102, SIDE_TOO_HIGH },
     { "P7", MAP_UX, { { 0, 0 } }, "01 10 01 0E 00 02 04 00 02 00 02", "01 90 03",
       { { 0x010E, 2 } },
-      REASON_ITEM, 0x010F },
+      REASON_ITEM, 0x010F, SIDE_TOO_HIGH },
     { "P8 FFF6", MAP_UX, { { 0x0100, 5 } }, "01 06 01 00 FF F6", "01 06 01 00 FF F6",
       { { 0x0100, 0xFFF6 } },
-      REASON_NONE, 0 },
+      REASON_NONE, 0, SIDE_NONE },
     { "P8 003C", MAP_UX, { { 0, 0 } }, "01 06 01 00 00 3C", "01 06 01 00 00 3C",
       { { 0x0100, 0x003C } },
-      REASON_NONE, 0 },
+      REASON_NONE, 0, SIDE_NONE },
     { "P8 FFF5", MAP_UX, { { 0, 0 } }, "01 06 01 00 FF F5", "01 86 03", { { 0, 0 } },
-      REASON_ITEM, 0x0100 },
+      REASON_ITEM, 0x0100, SIDE_TOO_LOW },
     { "P8 003D", MAP_UX, { { 0, 0 } }, "01 06 01 00 00 3D", "01 86 03", { { 0, 0 } },
-      REASON_ITEM, 0x0100 },
+      REASON_ITEM, 0x0100, SIDE_TOO_HIGH },
     { "P9 23", MAP_UX, { { 0, 0 } }, "01 03 01 00 00 17",
       "01 03 2E FF F6 00 00 00 00 00 00 00 00 00 00 00 00 00 00 00 00 00 01 00 00 00 00 00 00 "
       "00 01 00 01 00 00 00 00 00 00 00 00 00 00 00 00 00 00 00 00", { { 0, 0 } },
-      REASON_NONE, 0 },
+      REASON_NONE, 0, SIDE_NONE },
     { "P9 24", MAP_UX, { { 0, 0 } }, "01 03 01 00 00 18", "01 83 02", { { 0, 0 } },
-      REASON_ADDRESS, 0x0117 },
+      REASON_ADDRESS, 0x0117, SIDE_NONE },
     { "P9 0", MAP_UX, { { 0, 0 } }, "01 03 01 00 00 00", "01 83 03", { { 0, 0 } },
-      REASON_BAD_COUNT, 0 },
+      REASON_BAD_COUNT, 0, SIDE_NONE },
     { "P10 0000", MAP_UX, { { MARK, 1 } }, "01 05 03 00 00 00", "01 05 03 00 00 00",
       { { MARK, 0 } },
-      REASON_NONE, 0 },
+      REASON_NONE, 0, SIDE_NONE },
     { "P10 0001", MAP_UX, { { MARK, 1 } }, "01 05 03 00 00 01", "01 85 03", { { 0, 0 } },
-      REASON_CLEAR_VALUE, 0 },
+      REASON_CLEAR_VALUE, 0, SIDE_NONE },
     { "P10 0301", MAP_UX, { { MARK, 1 } }, "01 05 03 01 00 01", "01 85 02", { { 0, 0 } },
-      REASON_ADDRESS, 0x0301 },
+      REASON_ADDRESS, 0x0301, SIDE_NONE },
     { "P10 AS-WE", MAP_AS_WE, { { 0, 0 } }, "01 05 03 00 00 00", "01 85 01", { { 0, 0 } },
-      REASON_FUNCTION, 0 },
+      REASON_FUNCTION, 0, SIDE_NONE },
     { "P11 0010", MAP_AS_WE, { { 0, 0 } }, "01 06 01 09 00 10", "01 06 01 09 00 10",
       { { 0x0109, 0x10 } },
-      REASON_NONE, 0 },
+      REASON_NONE, 0, SIDE_NONE },
     { "P11 0011", MAP_AS_WE, { { 0, 0 } }, "01 06 01 09 00 11", "01 86 03", { { 0, 0 } },
-      REASON_ITEM, 0x0109 },
+      REASON_ITEM, 0x0109, SIDE_TOO_HIGH },
     { "function 83", MAP_UX, { { 0, 0 } }, "01 83 01 00 00 01", "01 83 01", { { 0, 0 } },
-      REASON_FUNCTION, 0 },
+      REASON_FUNCTION, 0, SIDE_NONE },
     { "06 at 0200", MAP_UX, { { 0, 0 } }, "01 06 02 00 00 01", "01 86 02", { { 0, 0 } },
-      REASON_ADDRESS, 0x0200 },
+      REASON_ADDRESS, 0x0200, SIDE_NONE },
     { "9-byte 06", MAP_UX, { { 0, 0 } }, "01 06 01 01 00 01 00", "", { { 0, 0 } },
-      REASON_BODY_LENGTH, 0 },
+      REASON_BODY_LENGTH, 0, SIDE_NONE },
     { "W1 lower half", MAP_UX, { { 0x0103, 1 } }, "01 06 01 04 86 A0", "01 86 03", { { 0, 0 } },
-      REASON_ITEM, 0x0103 },
+      REASON_ITEM, 0x0103, SIDE_TOO_HIGH },
     { "W1 count 48", MAP_UX, { { 0, 0 } }, "01 03 04 00 00 30", "01 83 02", { { 0, 0 } },
-      REASON_BAD_COUNT, 0 },
+      REASON_BAD_COUNT, 0, SIDE_NONE },
     { "W1 byte count", MAP_UX, { { 0, 0 } }, "01 10 01 01 00 02 02 00 01", "01 90 03",
       { { 0, 0 } },
-      REASON_BAD_COUNT, 0 },
+      REASON_BAD_COUNT, 0, SIDE_NONE },
     { "W1 station", MAP_UX, { { 0, 0 } }, "02 03 01 01 00 02", "", { { 0, 0 } },
-      REASON_STATION, 0 },
+      REASON_STATION, 0, SIDE_NONE },
     { "W2 read at 0", MAP_AS_WE, { { 0, 0 } }, "00 03 01 08 00 01", "", { { 0, 0 } },
-      REASON_STATION, 0 },
+      REASON_STATION, 0, SIDE_NONE },
     { "W2 write at 0", MAP_AS_WE, { { 0, 0 } }, "00 06 01 09 00 10", "", { { 0, 0 } },
-      REASON_STATION, 0 },
+      REASON_STATION, 0, SIDE_NONE },
     { "W2 clear at 0", MAP_UX, { { MARK, 1 } }, "00 05 03 00 00 00", "", { { 0, 0 } },
-      REASON_STATION, 0 },
+      REASON_STATION, 0, SIDE_NONE },
     { "W2 read at F8", MAP_AS_WE, { { 0x0108, 0xF7 } }, "F8 03 01 08 00 01", "", { { 0, 0 } },
-      REASON_STATION, 0 },
+      REASON_STATION, 0, SIDE_NONE },
     { "W2 write at FF", MAP_AS_WE, { { 0x0108, 0xF7 } }, "FF 06 01 09 00 10", "", { { 0, 0 } },
-      REASON_STATION, 0 },
+      REASON_STATION, 0, SIDE_NONE },
     { "W2 at F7", MAP_AS_WE, { { 0x0108, 0xF7 } }, "F7 03 01 08 00 01", "F7 03 02 00 F7",
       { { 0, 0 } },
-      REASON_NONE, 0 },
+      REASON_NONE, 0, SIDE_NONE },
     { "W2 F7 stored", MAP_AS_WE, { { 0, 0 } }, "01 06 01 08 00 F7", "01 06 01 08 00 F7",
       { { 0x0108, 0xF7 } },
-      REASON_NONE, 0 },
+      REASON_NONE, 0, SIDE_NONE },
     { "W2 1 stored", MAP_AS_WE, { { 0x0108, 0xF7 } }, "F7 06 01 08 00 01", "F7 06 01 08 00 01",
       { { 0x0108, 1 } },
-      REASON_NONE, 0 },
+      REASON_NONE, 0, SIDE_NONE },
     { "W2 0 refused", MAP_AS_WE, { { 0, 0 } }, "01 06 01 08 00 00", "01 86 03", { { 0, 0 } },
-      REASON_ITEM, 0x0108 },
+      REASON_ITEM, 0x0108, SIDE_TOO_LOW },
     { "W2 F8 refused", MAP_AS_WE, { { 0, 0 } }, "01 06 01 08 00 F8", "01 86 03", { { 0, 0 } },
-      REASON_ITEM, 0x0108 },
+      REASON_ITEM, 0x0108, SIDE_TOO_HIGH },
     { "W2 FF refused", MAP_AS_WE, { { 0, 0 } }, "01 06 01 08 00 FF", "01 86 03", { { 0, 0 } },
-      REASON_ITEM, 0x0108 },
+      REASON_ITEM, 0x0108, SIDE_TOO_HIGH },
     { "W2 0101 refused", MAP_AS_WE, { { 0, 0 } }, "01 06 01 08 01 01", "01 86 03", { { 0, 0 } },
-      REASON_ITEM, 0x0108 },
+      REASON_ITEM, 0x0108, SIDE_TOO_HIGH },
     { "W2 part stored", MAP_AS_WE, { { 0, 0 } }, "01 10 01 07 00 03 06 00 00 00 F8 00 10",
       "01 90 03", { { 0x0107, 0 } },
-      REASON_ITEM, 0x0108 },
+      REASON_ITEM, 0x0108, SIDE_TOO_HIGH },
     { "W2 UX F7 stored", MAP_UX, { { 0, 0 } }, "01 06 01 0E 00 F7", "01 06 01 0E 00 F7",
       { { 0x010E, 0xF7 } },
-      REASON_NONE, 0 },
+      REASON_NONE, 0, SIDE_NONE },
     { "W2 UX 0 refused", MAP_UX, { { 0, 0 } }, "01 06 01 0E 00 00", "01 86 03", { { 0, 0 } },
-      REASON_ITEM, 0x010E },
+      REASON_ITEM, 0x010E, SIDE_TOO_LOW },
     { "W2 UX F8 refused", MAP_UX, { { 0, 0 } }, "01 06 01 0E 00 F8", "01 86 03", { { 0, 0 } },
-      REASON_ITEM, 0x010E }
+      REASON_ITEM, 0x010E, SIDE_TOO_HIGH },
+    { "W5 0109 0000", MAP_UX, { { 0, 0 } }, "01 06 01 09 00 00", "01 86 03", { { 0, 0 } },
+      REASON_ITEM, 0x0109, SIDE_TOO_LOW },
+    { "W5 0109 0001", MAP_UX, { { 0x0109, 5 } }, "01 06 01 09 00 01", "01 06 01 09 00 01",
+      { { 0x0109, 1 } },
+      REASON_NONE, 0, SIDE_NONE },
+    { "W5 0109 0010", MAP_UX, { { 0, 0 } }, "01 06 01 09 00 10", "01 06 01 09 00 10",
+      { { 0x0109, 0x10 } },
+      REASON_NONE, 0, SIDE_NONE },
+    { "W5 0109 0011", MAP_UX, { { 0, 0 } }, "01 06 01 09 00 11", "01 86 03", { { 0, 0 } },
+      REASON_ITEM, 0x0109, SIDE_TOO_HIGH },
+    { "W5 0109 FFFF", MAP_UX, { { 0, 0 } }, "01 06 01 09 FF FF", "01 86 03", { { 0, 0 } },
+      REASON_ITEM, 0x0109, SIDE_TOO_HIGH },
+    { "W5 0106 031F", MAP_AS_WE, { { 0, 0 } }, "01 06 01 06 03 1F", "01 86 03", { { 0, 0 } },
+      REASON_ITEM, 0x0106, SIDE_TOO_LOW },
+    { "W5 0106 0320", MAP_AS_WE, { { 0x0106, 0x0400 } }, "01 06 01 06 03 20", "01 06 01 06 03 20",
+      { { 0x0106, 0x0320 } },
+      REASON_NONE, 0, SIDE_NONE },
+    { "W5 0106 04B0", MAP_AS_WE, { { 0, 0 } }, "01 06 01 06 04 B0", "01 06 01 06 04 B0",
+      { { 0x0106, 0x04B0 } },
+      REASON_NONE, 0, SIDE_NONE },
+    { "W5 0106 04B1", MAP_AS_WE, { { 0, 0 } }, "01 06 01 06 04 B1", "01 86 03", { { 0, 0 } },
+      REASON_ITEM, 0x0106, SIDE_TOO_HIGH },
+    { "W5 010E FFFF", MAP_AS_WE, { { 0, 0 } }, "01 06 01 0E FF FF", "01 06 01 0E FF FF",
+      { { 0x010E, 0xFFFF } },
+      REASON_NONE, 0, SIDE_NONE },
+    { "W5 0100 8000", MAP_UX, { { 0, 0 } }, "01 06 01 00 80 00", "01 86 03", { { 0, 0 } },
+      REASON_ITEM, 0x0100, SIDE_TOO_LOW },
+    { "W5 0100 FFFF", MAP_UX, { { 0, 0 } }, "01 06 01 00 FF FF", "01 06 01 00 FF FF",
+      { { 0x0100, 0xFFFF } },
+      REASON_NONE, 0, SIDE_NONE },
+    { "W5 0100 0000", MAP_UX, { { 0, 0 } }, "01 06 01 00 00 00", "01 06 01 00 00 00",
+      { { 0x0100, 0 } },
+      REASON_NONE, 0, SIDE_NONE },
+    { "W5 0100 7FFF", MAP_UX, { { 0, 0 } }, "01 06 01 00 7F FF", "01 86 03", { { 0, 0 } },
+      REASON_ITEM, 0x0100, SIDE_TOO_HIGH },
+    { "W5 0123 FF9B", MAP_AS_WE, { { 0, 0 } }, "01 06 01 23 FF 9B", "01 86 03", { { 0, 0 } },
+      REASON_ITEM, 0x0123, SIDE_TOO_LOW },
+    { "W5 0123 FF9C", MAP_AS_WE, { { 0x0123, 0 } }, "01 06 01 23 FF 9C", "01 06 01 23 FF 9C",
+      { { 0x0123, 0xFF9C } },
+      REASON_NONE, 0, SIDE_NONE },
+    { "W5 0123 0258", MAP_AS_WE, { { 0, 0 } }, "01 06 01 23 02 58", "01 06 01 23 02 58",
+      { { 0x0123, 0x0258 } },
+      REASON_NONE, 0, SIDE_NONE },
+    { "W5 0123 0259", MAP_AS_WE, { { 0, 0 } }, "01 06 01 23 02 59", "01 86 03", { { 0, 0 } },
+      REASON_ITEM, 0x0123, SIDE_TOO_HIGH },
+    { "W5 0113 000F 423F", MAP_UX, { { 0, 0 } },
+      "01 10 01 13 00 02 04 00 0F 42 3F", "01 10 01 13 00 02",
+      { { 0x0113, 0x000F }, { 0x0114, 0x423F } },
+      REASON_NONE, 0, SIDE_NONE },
+    { "W5 0113 000F 4240", MAP_UX, { { 0, 0 } }, "01 10 01 13 00 02 04 00 0F 42 40", "01 90 03",
+      { { 0, 0 } },
+      REASON_ITEM, 0x0113, SIDE_TOO_HIGH },
+    { "W5 0113 FFFF FFFF", MAP_UX, { { 0, 0 } }, "01 10 01 13 00 02 04 FF FF FF FF", "01 90 03",
+      { { 0, 0 } },
+      REASON_ITEM, 0x0113, SIDE_TOO_HIGH },
+    { "W5 0103 0001 alone", MAP_UX, { { 0x0104, 0x869F } },
+      "01 06 01 03 00 01", "01 06 01 03 00 01", { { 0x0103, 1 } },
+      REASON_NONE, 0, SIDE_NONE },
+    { "W5 0103 0001, by 86A0", MAP_UX, { { 0x0104, 0x86A0 } }, "01 06 01 03 00 01", "01 86 03",
+      { { 0, 0 } },
+      REASON_ITEM, 0x0103, SIDE_TOO_HIGH },
+    { "W5 0103 0002 alone", MAP_UX, { { 0, 0 } }, "01 06 01 03 00 02", "01 86 03", { { 0, 0 } },
+      REASON_ITEM, 0x0103, SIDE_TOO_HIGH },
+    { "W5 0104 FFFF alone", MAP_UX, { { 0, 0 } }, "01 06 01 04 FF FF", "01 06 01 04 FF FF",
+      { { 0x0104, 0xFFFF } },
+      REASON_NONE, 0, SIDE_NONE },
+    { "W5 0104 869F, by 0001", MAP_UX, { { 0x0103, 1 } }, "01 06 01 04 86 9F", "01 06 01 04 86 9F",
+      { { 0x0104, 0x869F } },
+      REASON_NONE, 0, SIDE_NONE },
+    { "W5 up to an upper half", MAP_UX, { { 0x0104, 0x9876 } },
+      "01 10 01 02 00 02 04 00 01 00 01", "01 90 03", { { 0x0102, 1 } },
+      REASON_ITEM, 0x0103, SIDE_TOO_HIGH },
+    { "W5 from a lower half on", MAP_UX, { { 0x0103, 1 } },
+      "01 10 01 04 00 02 04 86 A0 00 00", "01 90 03", { { 0, 0 } },
+      REASON_ITEM, 0x0103, SIDE_TOO_HIGH },
+    { "W5 high, then low", MAP_AS_WE, { { 0, 0 } }, "01 10 01 05 00 02 04 00 11 03 1F", "01 90 03",
+      { { 0, 0 } },
+      REASON_ITEM, 0x0105, SIDE_TOO_HIGH },
+    { "W5 low, then high", MAP_AS_WE, { { 0, 0 } }, "01 10 01 05 00 02 04 00 00 04 B1", "01 90 03",
+      { { 0, 0 } },
+      REASON_ITEM, 0x0105, SIDE_TOO_LOW },
+    { "W5 good, then low", MAP_AS_WE, { { 0, 0 } }, "01 10 01 05 00 02 04 00 10 03 1F", "01 90 03",
+      { { 0x0105, 0x10 } },
+      REASON_ITEM, 0x0106, SIDE_TOO_LOW },
+    { "W5 pair 0001 7FFF", MAP_PAIR, { { 0, 0 } }, "01 10 01 03 00 02 04 00 01 7F FF", "01 90 03",
+      { { 0, 0 } },
+      REASON_ITEM, 0x0103, SIDE_TOO_LOW },
+    { "W5 pair 0001 8000", MAP_PAIR, { { 0x0103, 2 }, { 0x0104, 0 } },
+      "01 10 01 03 00 02 04 00 01 80 00", "01 10 01 03 00 02",
+      { { 0x0103, 1 }, { 0x0104, 0x8000 } },
+      REASON_NONE, 0, SIDE_NONE },
+    { "W5 pair 0003 4000", MAP_PAIR, { { 0, 0 } },
+      "01 10 01 03 00 02 04 00 03 40 00", "01 10 01 03 00 02",
+      { { 0x0103, 3 }, { 0x0104, 0x4000 } },
+      REASON_NONE, 0, SIDE_NONE },
+    { "W5 pair 0003 4001", MAP_PAIR, { { 0, 0 } }, "01 10 01 03 00 02 04 00 03 40 01", "01 90 03",
+      { { 0, 0 } },
+      REASON_ITEM, 0x0103, SIDE_TOO_HIGH },
+    { "W5 pair 0000 FFFF", MAP_PAIR, { { 0, 0 } }, "01 10 01 03 00 02 04 00 00 FF FF", "01 90 03",
+      { { 0, 0 } },
+      REASON_ITEM, 0x0103, SIDE_TOO_LOW },
+    { "W5 pair FFFF 0000", MAP_PAIR, { { 0, 0 } }, "01 10 01 03 00 02 04 FF FF 00 00", "01 90 03",
+      { { 0, 0 } },
+      REASON_ITEM, 0x0103, SIDE_TOO_HIGH },
+    { "W5 upper 0001, by 8000", MAP_PAIR, { { 0x0103, 2 }, { 0x0104, 0x8000 } },
+      "01 06 01 03 00 01", "01 06 01 03 00 01", { { 0x0103, 1 } },
+      REASON_NONE, 0, SIDE_NONE },
+    { "W5 upper 0001, by 7FFF", MAP_PAIR, { { 0x0103, 2 }, { 0x0104, 0x7FFF } },
+      "01 06 01 03 00 01", "01 86 03", { { 0, 0 } },
+      REASON_ITEM, 0x0103, SIDE_TOO_LOW },
+    { "W5 upper 0003, by 4000", MAP_PAIR, { { 0x0103, 2 }, { 0x0104, 0x4000 } },
+      "01 06 01 03 00 03", "01 06 01 03 00 03", { { 0x0103, 3 } },
+      REASON_NONE, 0, SIDE_NONE },
+    { "W5 upper 0003, by 4001", MAP_PAIR, { { 0x0103, 2 }, { 0x0104, 0x4001 } },
+      "01 06 01 03 00 03", "01 86 03", { { 0, 0 } },
+      REASON_ITEM, 0x0103, SIDE_TOO_HIGH },
+    { "W5 upper 0000", MAP_PAIR, { { 0x0103, 2 }, { 0x0104, 0xFFFF } },
+      "01 06 01 03 00 00", "01 86 03", { { 0, 0 } },
+      REASON_ITEM, 0x0103, SIDE_TOO_LOW },
+    { "W5 upper 0004", MAP_PAIR, { { 0x0103, 2 }, { 0x0104, 0 } }, "01 06 01 03 00 04", "01 86 03",
+      { { 0, 0 } },
+      REASON_ITEM, 0x0103, SIDE_TOO_HIGH },
+    { "W5 lower 8000, by 0001", MAP_PAIR, { { 0x0103, 1 }, { 0x0104, 0x9000 } },
+      "01 06 01 04 80 00", "01 06 01 04 80 00", { { 0x0104, 0x8000 } },
+      REASON_NONE, 0, SIDE_NONE },
+    { "W5 lower 7FFF, by 0001", MAP_PAIR, { { 0x0103, 1 }, { 0x0104, 0x9000 } },
+      "01 06 01 04 7F FF", "01 86 03", { { 0, 0 } },
+      REASON_ITEM, 0x0103, SIDE_TOO_LOW },
+    { "W5 lower 4000, by 0003", MAP_PAIR, { { 0x0103, 3 }, { 0x0104, 0 } },
+      "01 06 01 04 40 00", "01 06 01 04 40 00", { { 0x0104, 0x4000 } },
+      REASON_NONE, 0, SIDE_NONE },
+    { "W5 lower 4001, by 0003", MAP_PAIR, { { 0x0103, 3 }, { 0x0104, 0 } },
+      "01 06 01 04 40 01", "01 86 03", { { 0, 0 } },
+      REASON_ITEM, 0x0103, SIDE_TOO_HIGH },
+    { "W5 lower FFFF, by 0003", MAP_PAIR, { { 0x0103, 3 }, { 0x0104, 0 } },
+      "01 06 01 04 FF FF", "01 86 03", { { 0, 0 } },
+      REASON_ITEM, 0x0103, SIDE_TOO_HIGH },
+    { "W5 lower 0000, by 0001", MAP_PAIR, { { 0x0103, 1 }, { 0x0104, 0x9000 } },
+      "01 06 01 04 00 00", "01 86 03", { { 0, 0 } },
+      REASON_ITEM, 0x0103, SIDE_TOO_LOW }
 };
 
 static int failed;
@@ -156,13 +302,17 @@ static size_t put_hex(const char *hex, uint8_t *bytes)
     return n;
 }
 
-static size_t put_checked(const char *hex, uint8_t *bytes)
+static size_t add_check(uint8_t *bytes, size_t n)
 {
-    size_t n = put_hex(hex, bytes);
     uint16_t value = second_check_value(bytes, n);
     bytes[n] = (uint8_t)(value & 0xFF);
     bytes[n + 1] = (uint8_t)(value >> 8);
     return n + 2;
+}
+
+static size_t put_checked(const char *hex, uint8_t *bytes)
+{
+    return add_check(bytes, put_hex(hex, bytes));
 }
 
 static void put_stored(const struct made *made, const struct stored *stored, uint8_t *bank)
@@ -199,6 +349,20 @@ static void ask_why(const struct frame_case *one, struct call call)
     expect(why.number == NUMBER_DONE, one->name, "number of why");
     expect(why.reason == one->reason, one->name, "reason");
     expect(why.address == one->address, one->name, "address");
+    expect(why.side == one->side, one->name, "side");
+}
+
+static void make_map(struct made *made, uint32_t map)
+{
+    if (map != MAP_UX && map != MAP_PAIR) {
+        make_as_we(made, map);
+        return;
+    }
+    make_ux(made);
+    if (map == MAP_PAIR) {
+        made->items[3].low = PAIR_LOW;
+        made->items[3].high = PAIR_HIGH;
+    }
 }
 
 static void run_case(const struct frame_case *one)
@@ -207,10 +371,7 @@ static void run_case(const struct frame_case *one)
     uint8_t sheet[SHEET_ROOM], bank[BANK_ROOM], after[BANK_ROOM], frame[OUT_ROOM];
     struct made made;
     struct outcome outcome;
-    if (one->map == MAP_UX)
-        make_ux(&made);
-    else
-        make_as_we(&made, one->map);
+    make_map(&made, one->map);
     size_t sheet_n = put_sheet(&made, sheet);
     size_t bank_n = 2 * (size_t)made.bank_words + 2;
     expect(second_bank_fresh(sheet, sheet_n, bank, bank_n) == NUMBER_DONE, one->name, "fresh");
@@ -434,6 +595,7 @@ static void ask(struct call *call, enum call_sort sort, uint32_t number, const c
     if (outcome.number != number)
         printf("%s: %s gives %u\n", name, call_name(sort), (unsigned)outcome.number);
     expect(outcome.number == number, name, "number");
+    expect(outcome.side == SIDE_NONE, name, "side");
 }
 
 /* Asked with the ring that the sheet would have if it were sound, empty, and a
@@ -579,7 +741,7 @@ static void run_record_case(const struct record_case *one)
     static const uint8_t out[OUT_ROOM];
     uint8_t sheet[SHEET_ROOM], bank[BANK_ROOM], ring[SMALL_RING], frame[OUT_ROOM];
     struct frame_case as_frame = { one->name, 0, { { 0, 0 } }, one->frame, one->reply,
-                                   { { 0, 0 } }, one->reason, one->address };
+                                   { { 0, 0 } }, one->reason, one->address, SIDE_NONE };
     struct made made;
     struct call call;
     struct outcome outcome;
@@ -863,6 +1025,75 @@ static void run_records(void)
     run_post();
 }
 
+/* ---- W5: every item of the maps at both ends of its range and next to them ---- */
+
+static uint32_t first_address(const struct made *made, const struct made_item *item)
+{
+    const struct made_area *area = made->areas;
+    while (area->place + (area->last - area->first) < item->place)
+        area++;
+    return area->first + (item->place - area->place);
+}
+
+/* A 10 with one value for the whole item. */
+static size_t put_write(const struct made *made, const struct made_item *item, int64_t value,
+                        uint8_t *frame)
+{
+    uint32_t count = item->kind == 2 ? 2 : 1;
+    frame[0] = 1;
+    frame[1] = 0x10;
+    put16(frame + 2, 0, first_address(made, item));
+    put16(frame + 4, 0, count);
+    frame[6] = (uint8_t)(2 * count);
+    put16(frame + 7, 0, (uint32_t)(value >> 16 & 0xFFFF));
+    put16(frame + 7, count - 1, (uint32_t)(value & 0xFFFF));
+    return add_check(frame, 7 + 2 * (size_t)count);
+}
+
+static void run_end(const struct made *made, const struct made_item *item, int64_t value,
+                    enum second_side side)
+{
+    uint8_t sheet[SHEET_ROOM], bank[BANK_ROOM], frame[OUT_ROOM];
+    size_t sheet_n = put_sheet(made, sheet);
+    size_t bank_n = 2 * (size_t)made->bank_words + 2;
+    size_t frame_n = put_write(made, item, value, frame);
+    bool bad = side != SIDE_NONE;
+    struct outcome why;
+    second_bank_fresh(sheet, sheet_n, bank, bank_n);
+    struct call call = { CALL_WHY, { sheet, bank, NULL, frame, NULL },
+                         { sheet_n, bank_n, 0, frame_n, 0 }, 0, 0 };
+    expect(same_on_both_sides(&call, &why), "end of a range", "the sides differ");
+    expect(why.reason == (bad ? REASON_ITEM : REASON_NONE), "end of a range", "reason");
+    expect(why.address == (bad ? first_address(made, item) : 0), "end of a range", "address");
+    expect(why.side == side, "end of a range", "side");
+}
+
+/* A value that the item's words cannot hold is left out. */
+static void run_item_ends(const struct made *made, const struct made_item *item)
+{
+    run_end(made, item, item->low, SIDE_NONE);
+    run_end(made, item, item->high, SIDE_NONE);
+    if (item->low > kind_least(item->kind))
+        run_end(made, item, item->low - 1, SIDE_TOO_LOW);
+    if (item->high < kind_most(item->kind))
+        run_end(made, item, item->high + 1, SIDE_TOO_HIGH);
+}
+
+static void run_map_ends(uint32_t map)
+{
+    struct made made;
+    make_map(&made, map);
+    for (uint32_t i = 0; i < made.items_n; i++)
+        run_item_ends(&made, &made.items[i]);
+}
+
+static void run_ends(void)
+{
+    static const uint32_t maps[] = { MAP_UX, MAP_PAIR, MAP_AS_WE, 50, 80 };
+    for (size_t i = 0; i < sizeof maps / sizeof maps[0]; i++)
+        run_map_ends(maps[i]);
+}
+
 int main(void)
 {
     size_t n = sizeof cases / sizeof cases[0];
@@ -874,6 +1105,7 @@ int main(void)
     run_maps();
     run_stations();
     run_records();
+    run_ends();
     printf("ran %zu frame cases, %d failures\n", n + records_n, failed);
     return failed == 0 ? 0 : 1;
 }
