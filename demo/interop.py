@@ -57,7 +57,8 @@ WRITTEN = "FFFB 0003 0000 0001 869F 0000 0000 0000 0000 0001 0000 0000 0000 0001
 WRITTEN_ASWE = "0000 0003 0000 0000 0000 0001 0320 0001 0001 0000"
 BROADCAST = "the frame is for station 0, the broadcast, which is neither answered nor acted on"
 NO_METERS = "the frame is for station {}, which no meter has: stations are 1 to 247"
-LIMIT = "it takes 0 to 99999 (0.0 to 9999.9 m3/h)"
+TEMPERATURE = "the item at 0100, Reference temperature, would be too"
+LIMIT = "the item at 0103, Alarm upper limit, would be too high: it takes 0 to 99999 (0.0 to 9999.9 m3/h), this would be"
 
 
 def steps_of_reading(master, meter):
@@ -82,11 +83,13 @@ def steps_of_writing(master, meter):
         ("0100 = FFFB, minus five degrees", lambda: master.write(0x0100, 0xFFFB), "done"),
         (".. is read", lambda: master.read(0x0100, 1), "FFFB"),
         *refused(meter, "0100 = FFF5, minus eleven, too low", lambda: master.write(0x0100, 0xFFF5), "error 3",
-                 "error 03 at 9600: the item at 0100, Reference temperature, would be -11 degC; it takes -10 to 60 degC" + UNCHANGED),
-        ("0100 = 003D, 61, too high", lambda: master.write(0x0100, 0x003D), "error 3"),
+                 f"error 03 at 9600: {TEMPERATURE} low: it takes -10 to 60 degC, this would be -11 degC{UNCHANGED}"),
+        *refused(meter, "0100 = 003D, 61, too high", lambda: master.write(0x0100, 0x003D), "error 3",
+                 f"error 03 at 9600: {TEMPERATURE} high: it takes -10 to 60 degC, this would be 61 degC{UNCHANGED}"),
         (".. FFFB is read still", lambda: master.read(0x0100, 1), "FFFB"),
         *refused(meter, "0101 = 0005, too high", lambda: master.write(0x0101, 0x0005), "error 3",
-                 "error 03 at 9600: the item at 0101, Pulse constant, would be 5; it takes 0 to 4 (1, 10, 100, 1000, 10000 L/pulse)" + UNCHANGED),
+                 "error 03 at 9600: the item at 0101, Pulse constant, would be too high: it takes 0 to 4 (1, 10, 100, 1000, 10000 L/pulse), "
+                 "this would be 5" + UNCHANGED),
         (".. and which value it has still", meter.last_line, "0101 Pulse constant: 5 was not stored, it is still 10000 L/pulse"),
         (".. 0004 is read still", lambda: master.read(0x0101, 1), "0004"),
         *refused(meter, "0200, which is read only", lambda: master.write(0x0200, 0x0001), "error 2",
@@ -100,18 +103,18 @@ def steps_of_pairs(master, meter):
     return [
         ("0103 = 0000 9876, a pair", lambda: master.write(0x0103, 0x0000, 0x9876), "done"),
         *refused(meter, "0103 = 0001, its upper half: 00019876 is too high", lambda: master.write(0x0103, 0x0001), "error 3",
-                 "error 03 at 9600: the item at 0103, Alarm upper limit, would be 104566 (10456.6 m3/h), with 9876 still at 0104; "
-                 + LIMIT + UNCHANGED),
+                 f"error 03 at 9600: {LIMIT} 104566 (10456.6 m3/h), with 9876 still at 0104{UNCHANGED}"),
         (".. 0000 9876 is read still", lambda: master.read(0x0103, 2), "0000 9876"),
         ("0104 = 1388, its lower half", lambda: master.write(0x0104, 0x1388), "done"),
         ("0103 = 0001, its upper half: 00011388 is good", lambda: master.write(0x0103, 0x0001), "done"),
         (".. 0001 1388 is read", lambda: master.read(0x0103, 2), "0001 1388"),
         *refused(meter, "0103 = 0001 86A0, too high", lambda: master.write(0x0103, 0x0001, 0x86A0), "error 3",
-                 f"error 03 at 9600: the item at 0103, Alarm upper limit, would be 100000 (10000.0 m3/h); {LIMIT}{UNCHANGED}"),
+                 f"error 03 at 9600: {LIMIT} 100000 (10000.0 m3/h); a tenth of it, 10000 (1000.0 m3/h), would be taken{UNCHANGED}"),
         (".. 0001 1388 is read still", lambda: master.read(0x0103, 2), "0001 1388"),
         ("0103 = 0001 869F, the highest", lambda: master.write(0x0103, 0x0001, 0x869F), "done"),
         *refused(meter, "0101 = 0003 0002 0000, the second is bad", lambda: master.write(0x0101, 0x0003, 0x0002, 0x0000), "error 3",
-                 "error 03 at 9600: the item at 0102, Alarm contact, would be 2; it takes 0 to 1 (normally open, normally closed)"),
+                 "error 03 at 9600: the item at 0102, Alarm contact, would be too high: it takes 0 to 1 (normally open, normally closed), "
+                 "this would be 2"),
         (".. the first is stored, no more", lambda: master.read(0x0101, 4), "0003 0000 0001 869F"),
     ]
 
@@ -182,12 +185,13 @@ def steps_of_own_station(master, meter, address):
     def read():
         return master.read(address - 1, 2)
 
-    def bad(station):
+    def bad(station, side):
         return refused(meter, f"{address:04X} = {station:04X}, a station that no meter has", lambda: master.write(address, station), "error 3",
-                       f"error 03 at 9600: the item at {address:04X}, Station, would be {station}; it takes 1 to 247{UNCHANGED}")
+                       f"error 03 at 9600: the item at {address:04X}, Station, would be too {side}: it takes 1 to 247, "
+                       f"this would be {station}{UNCHANGED}")
 
     return [
-        *bad(0), *bad(248),
+        *bad(0, "low"), *bad(248, "high"),
         (".. 0001 is read still", read, "0001 0001"),
         (f"{address:04X} = 00F7, the highest station", lambda: master.write(address, 0x00F7), "done"),
         *refused(meter, ".. it no longer answers at 1", read, "silence", "silence: the frame is for station 1; this meter is station 247"),
@@ -205,8 +209,8 @@ def steps_of_station_and_rate(master, meter):
         *refused(meter, ".. it no longer answers at 247", read, "silence", "silence: the frame is for station 247; this meter is station 2"),
         (".. it answers at 2", lambda: at_station(master, 2, read), "0001 0002"),
         *refused(meter, "010E = 0003 0002, the second is bad: error from station 2", lambda: master.write(0x010E, 0x0003, 0x0002), "error 3",
-                 "error 03 at 9600: the item at 010F, Flow conversion, would be 2; it takes 0 to 1 (none, normal or standard); "
-                 "from now on station 3"),
+                 "error 03 at 9600: the item at 010F, Flow conversion, would be too high: it takes 0 to 1 (none, normal or standard), "
+                 "this would be 2; from now on station 3"),
         (".. it answers at 3", lambda: at_station(master, 3, read), "0001 0003"),
         ("010D = 0000, the rate: reply at 9600", lambda: master.write(0x010D, 0x0000), "done"),
         (".. it no longer hears 9600", read, "silence"),

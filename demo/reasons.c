@@ -9,13 +9,17 @@
 enum { LAST_ADDRESS = 0xFFFF };
 enum { BAD_FUNCTION = 1, BAD_ADDRESS = 2, BAD_VALUE = 3 };
 
+/* The bits that the halves of a pair have in its value. */
+#define UPPER_HALF UINT32_C(0xFFFF0000)
+#define LOWER_HALF UINT32_C(0x0000FFFF)
+
 uint32_t ask_reason(struct reason *reason, const struct meter *before, const uint8_t *frame, size_t n)
 {
     reason->meter = before;
     reason->frame = frame;
     reason->n = n;
     return cedarskein_why(before->sheet, before->sheet_n, before->bank, before->bank_n, before->ring, before->ring_n, frame, n,
-                          &reason->number, &reason->address);
+                          &reason->number, &reason->address, &reason->side);
 }
 
 static void print_address(const struct meter *meter, unsigned address)
@@ -195,6 +199,12 @@ static long number_of(const struct item *item, uint32_t value)
     return item->kind == SIGNED_ITEM && value >= 0x8000 ? (long)value - 0x10000 : (long)value;
 }
 
+/* The other way round. */
+static uint32_t value_of_number(const struct item *item, int64_t number)
+{
+    return item->kind == PAIR_ITEM ? (uint32_t)number : (uint16_t)number;
+}
+
 /* Whether a step of the register is not one of its unit, so that the number alone does not tell the value. */
 static int counts_otherwise(const struct register_row *row)
 {
@@ -207,11 +217,11 @@ static void print_unit_of(const struct register_row *row)
         printf(" %s", row->unit);
 }
 
-/* A bad value has no word of its own: where the values are words, the number is all that there is. */
-static void print_bad_value(const struct register_row *row, const struct item *item, uint32_t value)
+/* A bad value has no word of its own: where the values are words, the number is all that there is of it. */
+static void print_item_value(const struct register_row *row, const struct item *item, uint32_t value, int has_word)
 {
     printf("%ld", number_of(item, value));
-    if (counts_otherwise(row)) {
+    if (counts_otherwise(row) || has_word) {
         printf(" (");
         print_value(row, value);
         printf(")");
@@ -233,15 +243,46 @@ static void print_item_range(const struct register_row *row, const struct item *
     }
 }
 
+/* The bits of an item's value that the frame does not send: those of one half of a pair, or none. */
+static uint32_t bits_not_sent(const struct reason *reason, const struct item *item)
+{
+    struct run run = run_of(reason->frame);
+    unsigned second = reason->address + 1;
+    if (item->kind != PAIR_ITEM)
+        return 0;
+    if (run.start == second)
+        return UPPER_HALF;
+    return run.start + run.count == second ? LOWER_HALF : 0;
+}
+
 /* Half of a pair is judged with the half that is in the meter. */
 static void tell_other_half(const struct reason *reason, const struct item *item)
 {
-    struct run run = run_of(reason->frame);
-    unsigned first = reason->address, second = first + 1;
-    if (item->kind != PAIR_ITEM || (run.start <= first && second < run.start + run.count))
+    uint32_t not_sent = bits_not_sent(reason, item);
+    unsigned other = reason->address + (not_sent == LOWER_HALF ? 1 : 0);
+    if (not_sent != 0)
+        printf(", with %04X still at %04X", word_at(reason->meter->bank, place_of(reason->meter, other)), other);
+}
+
+/* Whether the item takes a number, and the same frame with other words in it could bring it there. Half of a pair cannot where the number needs another
+   word in the half that is not sent: a tenth of the word that is sent then makes no tenth of the value, and to speak of one would lead astray. */
+static int could_be_sent(const struct reason *reason, const struct item *item, int64_t number)
+{
+    uint32_t other_bits = value_of_number(item, number) ^ item_value(reason->meter, item);
+    return number_of(item, item->low) <= number && number <= number_of(item, item->high) && (other_bits & bits_not_sent(reason, item)) == 0;
+}
+
+/* Values are often off by a factor of ten. Above zero one that is too high can have its tenth in the range, and one that is too low ten times it; below
+   zero it is the other way round. It is never both. */
+static void tell_factor_of_ten(const struct reason *reason, const struct register_row *row, const struct item *item, int64_t number)
+{
+    int is_tenth = number % 10 == 0 && could_be_sent(reason, item, number / 10);
+    int64_t meant = is_tenth ? number / 10 : 10 * number;
+    if (!could_be_sent(reason, item, meant))
         return;
-    unsigned other = run.start == second ? first : second;
-    printf(", with %04X still at %04X", word_at(reason->meter->bank, place_of(reason->meter, other)), other);
+    printf(is_tenth ? "; a tenth of it, " : "; ten times it, ");
+    print_item_value(row, item, value_of_number(item, meant), row->values != NULL);
+    printf(", would be taken");
 }
 
 static void tell_item(const struct reason *reason)
@@ -250,13 +291,15 @@ static void tell_item(const struct reason *reason)
     struct item item = item_from(meter, place_of(meter, reason->address));
     struct register_row row = register_at(meter, reason->address);
     struct meter sent = with_all_stored(meter, reason->frame);
+    uint32_t value = item_value(&sent, &item);
     printf("the item at ");
     begin_with_address(meter, reason->address);
-    printf("would be ");
-    print_bad_value(&row, &item, item_value(&sent, &item));
-    tell_other_half(reason, &item);
-    printf("; it takes ");
+    printf("would be too %s: it takes ", reason->side == CEDARSKEIN_TOO_LOW ? "low" : "high");
     print_item_range(&row, &item);
+    printf(", this would be ");
+    print_item_value(&row, &item, value, 0);
+    tell_other_half(reason, &item);
+    tell_factor_of_ten(reason, &row, &item, number_of(&item, value));
 }
 
 /* The registers of a run: the first, and the last where that is another one. */

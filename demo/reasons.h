@@ -5,12 +5,13 @@
 
 #include "memory.h"
 
-/* A frame, the meter as it is before the frame, and what cedarskein_why says of them: a number of enum cedarskein_reason, and an address. */
+/* A frame, the meter as it is before the frame, and what cedarskein_why says of them: a number of enum cedarskein_reason, an address, and a side of
+   enum cedarskein_side. */
 struct reason {
     const struct meter *meter;
     const uint8_t *frame;
     size_t n;
-    uint32_t number, address;
+    uint32_t number, address, side;
 };
 
 /* Asks for the reason. Hands back what cedarskein_why does: only with 0 there is one. */

@@ -141,11 +141,11 @@ static void tell_limit_before(void)
 
 static void tell_refused_limit(void)
 {
-    printf("\n2. Your new limit is 10000.0 m3/h\n");
-    ask("01 10 01 03 00 02 04 00 01 86 A0");
-    printf("  Sent was 0001 86A0, which is 100000: one more than the meter takes.\n");
+    printf("\n2. Your new limit is 5000.0 m3/h\n");
+    ask("01 10 01 03 00 02 04 00 07 A1 20");
+    printf("  Sent was 0007 A120, which is 500000: in hundredths, as the Volume alarm limit counts, not in tenths.\n");
     ask("01 03 01 03 00 02");
-    tell_limit("In the meter is still", pair_read(0), ". A pair is one number: not even its 0001 was stored.");
+    tell_limit("In the meter is still", pair_read(0), ". A pair is one number: not even its 0007 was stored.");
 }
 
 static void tell_half_limit(void)

@@ -1,6 +1,6 @@
 #!/usr/bin/env python3
-"""The simulated meter's names and its end: links that are in the way, files that keep a bank, signals, and what `make meter` is told. And what
-`make why` says, which why_trials.py has. What both make of a history is in history_trials.py.
+"""The simulated meter's names and its end: links that are in the way, files that keep a bank, signals, what its screen says of a bad value, and what
+`make meter` is told. And what `make why` says, which why_trials.py has. What both make of a history is in history_trials.py.
 
   trials.py [--run RUN] SHEET METER WHY
 
@@ -18,6 +18,7 @@ import history_trials
 import why_trials
 
 ROOT = os.path.dirname(os.path.dirname(os.path.abspath(__file__)))
+FRAME_COLUMNS = 38
 
 
 class Bench:
@@ -171,6 +172,18 @@ def bank_in_use_asked(bench):
         return f"{said}; unchanged {bench.read('bank') == before}"
 
 
+def told_of_frame(bench, text):
+    """What the meter's screen says became of a frame, which is put on the line as it is."""
+    with bench.running("-l", "line") as meter:
+        line = os.open(bench.path("line"), os.O_WRONLY | os.O_NOCTTY)
+        os.write(line, bytes.fromhex(text))
+        os.close(line)
+        history_trials.wait_for_words(bench, "\nstation ")
+        ended(meter, signal.SIGTERM)
+    frames = [line for line in bench.read("screen").decode().splitlines() if line.startswith("station ")]
+    return "; then ".join(line[FRAME_COLUMNS:] for line in frames)
+
+
 def told_by_make(*words):
     done = subprocess.run(["make", "-s", "meter", *words], cwd=ROOT, capture_output=True, text=True, timeout=60, check=False)
     return f"status {done.returncode}: {done.stderr.strip().splitlines()[0].partition('*** ')[2] or done.stderr.splitlines()[0].strip()}"
@@ -210,6 +223,15 @@ TRIALS = [
      "status 1: sheet: no sheet: it breaks a rule of document 01; link left False"),
     ("AS-WE from before version 1.3", lambda bench: refused_sheet(bench, why_trials.old_aswe_sheet()),
      f"status 1: sheet: no sheet: its stations are 0 to 255; {why_trials.WITHIN}; link left False"),
+    ("a value that is too low", lambda bench: told_of_frame(bench, why_trials.sealed("01 06 01 00 FF F5")),
+     f"error 03 at 9600: {why_trials.TEMPERATURE} low: {why_trials.DEGREES} -11 degC; nothing changed"),
+    ("a value that is too high, and a tenth of it", lambda bench: told_of_frame(bench, why_trials.sealed("01 06 01 00 02 58")),
+     f"error 03 at 9600: {why_trials.TEMPERATURE} high: {why_trials.DEGREES} 600 degC; a tenth of it, 60 degC, would be taken; nothing changed"),
+    ("a limit that is too high, behind one that is stored",
+     lambda bench: told_of_frame(bench, why_trials.sealed("01 10 01 03 00 04 08 00 00 03 E8 00 01 86 A0")),
+     f"error 03 at 9600: {why_trials.LOWER} {why_trials.LIMIT} 100000 (10000.0 m3/h){why_trials.TENTH_OF_LIMIT}"),
+    ("a damaged frame with a bad value", lambda bench: told_of_frame(bench, "01 06 01 00 02 58 88 AD"),
+     "silence: the check does not agree: the frame ends in 88 AD, its other bytes give 88 AC"),
     ("a sheet that is not there", lambda _: told_by_make("SHEET=aswe 45"),
      f"status 2: there is no sheet aswe 45. SHEET= takes the name of a file, or one of: {why_trials.SHORT_NAMES}"),
     ("a sheet of three", lambda _: told_by_make("SHEET=aswe"),
@@ -258,7 +280,7 @@ def main():
         print("the trials of the meter are LEFT OUT: the system has no pseudo-terminal to give")
         return 1 if of_why else 0
     of_meter = differing(meter, run, given, lambda bench: bench)
-    print(f"{len(meter)} trials of the meter's names, its end and its history, {of_meter} came out otherwise than expected")
+    print(f"{len(meter)} trials of the meter's names, its screen, its end and its history, {of_meter} came out otherwise than expected")
     return 1 if of_why or of_meter else 0
 
 

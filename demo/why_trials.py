@@ -7,6 +7,7 @@ ROOT = os.path.dirname(os.path.dirname(os.path.abspath(__file__)))
 AT_THE_END = (0xFFFD, 0xFFFF, 0, 3)
 WITH_READINGS = (0x0010, 0x0012, 0, 3, 0x0020, 0x0021, 3, 1)
 RATE_AND_SIGNED_WORD = (0, 1, 0, 0, 0, 1, 1, 2, 0, 0xFFF6, 0, 0x3C)
+WORD, SIGNED, PAIR = 0, 1, 2
 
 
 def bytes_of(words):
@@ -36,6 +37,13 @@ def sheet_of(functions, areas, stations=(1, 0xF7), records=()):
     words = rows + len(items) + len(records)
     header = (1, len(areas) // 4, 12, 3, rows, places, functions, words, 0, 1, 0x0300 if functions & 2 else 0, 1 if records else 0)
     return bytes_of((*header, *areas, *items, *records))
+
+
+def sheet_with(kind, low, high):
+    """A sheet that is no maker's: a station and a rate, and at 0012 an item of a kind, with its bounds."""
+    bounds = [word for bound in (low, high) for word in (bound >> 16 if kind == PAIR else 0, bound & 0xFFFF)]
+    items, places = (0, 0, 0, 1, 0, 0xF7, 0, 1, 0, 0, 0, 1, kind, 2, *bounds), 3 + (kind == PAIR)
+    return bytes_of((1, 1, 12, 3, 16, places, 15, 34, 0, 1, 0x0300, 0, 0x0010, 0x0010 + places - 1, 0, 3, *items))
 
 
 def old_aswe_sheet():
@@ -135,8 +143,14 @@ def shown_in_readme(why):
     return f"{len(shown)} shown, otherwise: {otherwise}"
 
 
+FOR_TWO = "Silence: the frame is for station 2; this meter is station 1"
 BROADCAST = "the frame is for station 0, the broadcast, which is neither answered nor acted on"
-PAIR = "0 to 99999 (0.0 to 9999.9 m3/h)"
+UPPER, LOWER = "the item at 0103, Alarm upper limit,", "the item at 0105, Alarm lower limit,"
+LIMIT = "would be too high: it takes 0 to 99999 (0.0 to 9999.9 m3/h), this would be"
+TENTH_OF_LIMIT = "; a tenth of it, 10000 (1000.0 m3/h), would be taken"
+TEMPERATURE = "the item at 0100, Reference temperature, would be too"
+DEGREES = "it takes -10 to 60 degC, this would be"
+TENTHS = "Reference temperature, would be too low: it takes -100 to 600 (-10.0 to 60.0 degC), this would be"
 REASONS = [
     ("a read of one register", lambda why: why.frame("01 03 01 01 00 01"), "A reply goes out: the frame reads 0101, Pulse constant"),
     ("a read of a pair", lambda why: why.frame("01 03 01 03 00 02"), "A reply goes out: the frame reads 0103 to 0104, Alarm upper limit"),
@@ -194,28 +208,29 @@ REASONS = [
      "Error 02: there is no address above FFFF; the frame is for 3 registers from FFFE on"),
     ("a clear with a value", lambda why: why.frame("01 05 03 00 FF 00"), "Error 03: the clear has the value FF00; it takes 0000 alone"),
     ("half of a pair, P4", lambda why: why.frame("01 06 01 03 00 01", a0104=0x9876),
-     f"Error 03: the item at 0103, Alarm upper limit, would be 104566 (10456.6 m3/h), with 9876 still at 0104; it takes {PAIR}"),
+     f"Error 03: {UPPER} {LIMIT} 104566 (10456.6 m3/h), with 9876 still at 0104"),
     ("the lower half of a pair", lambda why: why.frame("01 06 01 04 98 76", a0103=1),
-     f"Error 03: the item at 0103, Alarm upper limit, would be 104566 (10456.6 m3/h), with 0001 still at 0103; it takes {PAIR}"),
+     f"Error 03: {UPPER} {LIMIT} 104566 (10456.6 m3/h), with 0001 still at 0103"),
     ("a pair, the second of three", lambda why: why.frame("01 10 01 03 00 06 0C 00 00 03 E8 00 01 86 A0 00 00 00 32"),
-     f"Error 03: the item at 0105, Alarm lower limit, would be 100000 (10000.0 m3/h); it takes {PAIR}"),
+     f"Error 03: {LOWER} {LIMIT} 100000 (10000.0 m3/h){TENTH_OF_LIMIT}"),
     ("the upper half at the end of a write", lambda why: why.frame("01 10 01 02 00 02 04 00 00 00 02", a0104=0x0001),
-     f"Error 03: the item at 0103, Alarm upper limit, would be 131073 (13107.3 m3/h), with 0001 still at 0104; it takes {PAIR}"),
+     f"Error 03: {UPPER} {LIMIT} 131073 (13107.3 m3/h), with 0001 still at 0104"),
     ("the lower half at the start of a write", lambda why: why.frame("01 10 01 04 00 02 04 98 76 00 00", a0103=1),
-     f"Error 03: the item at 0103, Alarm upper limit, would be 104566 (10456.6 m3/h), with 0001 still at 0103; it takes {PAIR}"),
+     f"Error 03: {UPPER} {LIMIT} 104566 (10456.6 m3/h), with 0001 still at 0103"),
     ("a value that is a word", lambda why: why.frame("01 06 01 01 00 05"),
-     "Error 03: the item at 0101, Pulse constant, would be 5; it takes 0 to 4 (1, 10, 100, 1000, 10000 L/pulse)"),
+     "Error 03: the item at 0101, Pulse constant, would be too high: it takes 0 to 4 (1, 10, 100, 1000, 10000 L/pulse), this would be 5"),
     ("below zero", lambda why: why.frame("01 06 01 00 FF F5"),
-     "Error 03: the item at 0100, Reference temperature, would be -11 degC; it takes -10 to 60 degC"),
+     f"Error 03: {TEMPERATURE} low: {DEGREES} -11 degC"),
     ("below zero, in tenths", lambda why: why.frame("01 06 01 23 FF 9B", "aswe_80"),
-     "Error 03: the item at 0123, Reference temperature, would be -101 (-10.1 degC); it takes -100 to 600 (-10.0 to 60.0 degC)"),
+     f"Error 03: the item at 0123, {TENTHS} -101 (-10.1 degC)"),
     ("steps of five", lambda why: why.frame("01 06 01 13 01 21", "aswe_40"),
-     "Error 03: the item at 0113, History interval, would be 289 (1445 min); it takes 1 to 288 (5 to 1440 min)"),
-    ("a number without a unit", lambda why: why.frame("01 06 01 0E 00 F8"), "Error 03: the item at 010E, Station, would be 248; it takes 1 to 247"),
+     "Error 03: the item at 0113, History interval, would be too high: it takes 1 to 288 (5 to 1440 min), this would be 289 (1445 min)"),
+    ("a number without a unit", lambda why: why.frame("01 06 01 0E 00 F8"),
+     "Error 03: the item at 010E, Station, would be too high: it takes 1 to 247, this would be 248"),
     ("the broadcast for a station", lambda why: why.frame("01 06 01 08 00 00", "aswe_40"),
-     "Error 03: the item at 0108, Station, would be 0; it takes 1 to 247"),
+     "Error 03: the item at 0108, Station, would be too low: it takes 1 to 247, this would be 0"),
     ("a meter of no maker", lambda why: why.frame("01 06 FF FF FF F5", why.file("sheet", sheet_of(15, AT_THE_END))),
-     "Error 03: the item at FFFF would be -11; it takes -10 to 60"),
+     "Error 03: the item at FFFF would be too low: it takes -10 to 60, this would be -11"),
     ("a meter of no maker, a write past an area",
      lambda why: why.frame("01 10 00 12 00 02 04 00 00 00 00", why.file("sheet", sheet_of(15, WITH_READINGS))),
      "Error 02: this meter has no register at 0013; the frame is for 2 registers from 0012 on"),
@@ -229,7 +244,100 @@ REASONS = [
      "A reply goes out: the frame reads FFFD to FFFF"),
 ]
 
-FOR_TWO = "Silence: the frame is for station 2; this meter is station 1"
+def missed(kind, low, high, number, side, more=""):
+    """A number that an item of a meter of no maker does not take, and what is said of it."""
+    words = bytes_of((number >> 16, number & 0xFFFF) if kind == PAIR else (number & 0xFFFF,))
+    frame = f"01 10 00 12 00 {len(words) // 2:02X} {len(words):02X} {words.hex(' ')}"
+    text = f"{('a word', 'a signed word', 'a pair')[kind]} of {low} to {high}: {number}"
+    return (text, lambda why: why.frame(frame, why.file("sheet", sheet_with(kind, low, high))),
+            f"Error 03: the item at 0012 would be too {side}: it takes {low} to {high}, this would be {number}{more}")
+
+
+def missed_by_half(low, high, frame, said):
+    """The same of half a pair. A fresh bank has the low bound in its other half."""
+    return f"{frame} at a pair of {low} to {high}", lambda why: why.frame(frame, why.file("sheet", sheet_with(PAIR, low, high))), f"Error 03: {said}"
+
+
+def tenth(number):
+    return f"; a tenth of it, {number}, would be taken"
+
+
+def ten_times(number):
+    return f"; ten times it, {number}, would be taken"
+
+
+SIDES = [
+    missed(WORD, 5, 50, 4, "low", ten_times(40)), missed(WORD, 5, 50, 51, "high"), missed(WORD, 5, 50, 0, "low"), missed(WORD, 0, 50, 0xFFFF, "high"),
+    missed(WORD, 0xFFF0, 0xFFFF, 0xFFEF, "low"), missed(WORD, 0x7FFF, 0x8000, 0x7FFE, "low"), missed(WORD, 0x7FFF, 0x8000, 0x8001, "high"),
+    missed(SIGNED, -10, 60, -11, "low"), missed(SIGNED, -10, 60, 61, "high"), missed(SIGNED, -10, 60, -32768, "low"),
+    missed(SIGNED, -10, 60, 32767, "high"), missed(SIGNED, 5, 60, -1, "low"), missed(SIGNED, 5, 60, 0, "low"), missed(SIGNED, -60, -5, 0, "high"),
+    missed(SIGNED, -60, -5, 1, "high"), missed(SIGNED, -60, -5, -61, "low"),
+    missed(PAIR, 70000, 99999, 69999, "low"), missed(PAIR, 70000, 99999, 100000, "high"), missed(PAIR, 0, 99999, 0xFFFFFFFF, "high"),
+    missed(PAIR, 0x80000000, 0xFFFFFFFE, 0x7FFFFFFF, "low"), missed(PAIR, 0x80000000, 0xFFFFFFFE, 0xFFFFFFFF, "high"),
+    ("a temperature that is too high", lambda why: why.frame("01 06 01 00 00 3D"), f"Error 03: {TEMPERATURE} high: {DEGREES} 61 degC"),
+    ("a bad item of a damaged frame", lambda why: why.run("ux15_25", "-f", "01 06 01 00 02 58 88 AD"),
+     "Silence: the check does not agree: the frame ends in 88 AD, its other bytes give 88 AC"),
+    ("a bad item for another station", lambda why: why.frame("02 06 01 00 02 58"), FOR_TWO),
+    ("a bad item, and an address that is none", lambda why: why.frame("01 10 01 16 00 02 04 00 0A 00 00"),
+     "Error 02: this meter has no register at 0117; the frame is for 2 registers from 0116 on"),
+]
+
+FACTOR_OF_TEN = [
+    missed(WORD, 5, 50, 500, "high", tenth(50)), missed(WORD, 5, 50, 510, "high"), missed(WORD, 5, 50, 501, "high"), missed(WORD, 5, 50, 499, "high"),
+    missed(WORD, 5, 50, 60, "high", tenth(6)), missed(WORD, 50, 60, 500, "high", tenth(50)), missed(WORD, 50, 60, 490, "high"),
+    missed(WORD, 50, 60, 600, "high", tenth(60)), missed(WORD, 50, 60, 610, "high"), missed(WORD, 50, 60, 70, "high"),
+    missed(WORD, 50, 60, 5, "low", ten_times(50)), missed(WORD, 50, 60, 6, "low", ten_times(60)), missed(WORD, 50, 60, 4, "low"),
+    missed(WORD, 50, 60, 7, "low"), missed(WORD, 0, 7000, 0xFFF0, "high", tenth(6552)), missed(WORD, 10000, 0xFFFF, 6553, "low", ten_times(65530)),
+    missed(WORD, 10000, 0xFFFF, 8000, "low"),
+    missed(SIGNED, -10, 60, 600, "high", tenth(60)), missed(SIGNED, -10, 60, 610, "high"), missed(SIGNED, -10, 60, 605, "high"),
+    missed(SIGNED, -10, 60, -100, "low", tenth(-10)), missed(SIGNED, -10, 60, -110, "low"), missed(SIGNED, -10, 60, -99, "low"),
+    missed(SIGNED, -100, -50, -5, "high", ten_times(-50)), missed(SIGNED, -100, -50, -4, "high"), missed(SIGNED, -100, -50, -11, "high"),
+    missed(SIGNED, -100, -50, -1000, "low", tenth(-100)), missed(SIGNED, 50, 600, 5, "low", ten_times(50)), missed(SIGNED, 50, 600, -5, "low"),
+    missed(SIGNED, 5000, 32767, 4000, "low"),
+    missed(PAIR, 0, 99999, 100000, "high", tenth(10000)), missed(PAIR, 0, 99999, 999990, "high", tenth(99999)),
+    missed(PAIR, 0, 99999, 1000000, "high"), missed(PAIR, 0, 99999, 999999, "high"),
+    missed(PAIR, 0, 429496729, 4294967290, "high", tenth(429496729)), missed(PAIR, 70000, 99999, 7000, "low", ten_times(70000)),
+    missed(PAIR, 70000, 99999, 6999, "low"), missed(PAIR, 70000, 99999, 9999, "low", ten_times(99990)), missed(PAIR, 70000, 99999, 10000, "low"),
+    missed(PAIR, 1000000000, 0xFFFFFFFF, 429496729, "low", ten_times(4294967290)), missed(PAIR, 1000000000, 0xFFFFFFFF, 800000000, "low"),
+    ("a tenth, in degrees", lambda why: why.frame("01 06 01 00 02 58"),
+     f"Error 03: {TEMPERATURE} high: {DEGREES} 600 degC; a tenth of it, 60 degC, would be taken"),
+    ("a tenth, below zero", lambda why: why.frame("01 06 01 00 FF 9C"),
+     f"Error 03: {TEMPERATURE} low: {DEGREES} -100 degC; a tenth of it, -10 degC, would be taken"),
+    ("a tenth, in tenths below zero", lambda why: why.frame("01 06 01 23 FC 18", "aswe_40"),
+     f"Error 03: the item at 0123, {TENTHS} -1000 (-100.0 degC); a tenth of it, -100 (-10.0 degC), would be taken"),
+    ("ten times, in its unit", lambda why: why.frame("01 06 01 06 00 50", "aswe_40"),
+     "Error 03: the item at 0106, Compressibility factor, would be too low: it takes 800 to 1200 (0.800 to 1.200), this would be 80 (0.080); "
+     "ten times it, 800 (0.800), would be taken"),
+    ("a tenth that is a word", lambda why: why.frame("01 06 01 16 00 0A"),
+     "Error 03: the item at 0116, Gas, would be too high: it takes 0 to 4 (13A, propane, butane, nitrogen, air), this would be 10; "
+     "a tenth of it, 1 (propane), would be taken"),
+    ("a tenth that is a word with a unit", lambda why: why.frame("01 06 01 01 00 1E"),
+     "Error 03: the item at 0101, Pulse constant, would be too high: it takes 0 to 4 (1, 10, 100, 1000, 10000 L/pulse), this would be 30; "
+     "a tenth of it, 3 (1000 L/pulse), would be taken"),
+    ("a pair, its tenth", lambda why: why.frame("01 10 01 03 00 02 04 00 01 86 A0"),
+     f"Error 03: {UPPER} {LIMIT} 100000 (10000.0 m3/h){TENTH_OF_LIMIT}"),
+    ("the lower half: a tenth has another upper one", lambda why: why.frame("01 06 01 04 86 A0", a0103=1),
+     f"Error 03: {UPPER} {LIMIT} 100000 (10000.0 m3/h), with 0001 still at 0103"),
+    ("the upper half: a tenth has another lower one", lambda why: why.frame("01 06 01 03 00 05"),
+     f"Error 03: {UPPER} {LIMIT} 327680 (32768.0 m3/h), with 0000 still at 0104"),
+    ("the upper half: a tenth has the same lower one", lambda why: why.frame("01 06 01 03 00 0A"),
+     f"Error 03: {UPPER} {LIMIT} 655360 (65536.0 m3/h), with 0000 still at 0104; a tenth of it, 65536 (6553.6 m3/h), would be taken"),
+    ("the upper half at the end of a write: a tenth has another lower one", lambda why: why.frame("01 10 01 02 00 02 04 00 00 00 05"),
+     f"Error 03: {UPPER} {LIMIT} 327680 (32768.0 m3/h), with 0000 still at 0104"),
+    ("both halves and more", lambda why: why.frame("01 10 01 02 00 04 08 00 00 00 05 00 00 00 00"),
+     f"Error 03: {UPPER} {LIMIT} 327680 (32768.0 m3/h); a tenth of it, 32768 (3276.8 m3/h), would be taken"),
+    missed_by_half(0, 9999, "01 06 00 13 C3 50",
+                   "the item at 0012 would be too high: it takes 0 to 9999, this would be 50000, with 0000 still at 0012" + tenth(5000)),
+    missed_by_half(1000, 60000, "01 06 00 13 00 64",
+                   "the item at 0012 would be too low: it takes 1000 to 60000, this would be 100, with 0000 still at 0012" + ten_times(1000)),
+    missed_by_half(70000, 99999, "01 06 00 12 00 00",
+                   "the item at 0012 would be too low: it takes 70000 to 99999, this would be 4464, with 1170 still at 0013"),
+    missed_by_half(70000, 99999, "01 06 00 13 00 00",
+                   "the item at 0012 would be too low: it takes 70000 to 99999, this would be 65536, with 0001 still at 0012"),
+    missed_by_half(20000, 99999, "01 06 00 13 1F 40",
+                   "the item at 0012 would be too low: it takes 20000 to 99999, this would be 8000, with 0000 still at 0012"),
+]
+
 NOT_SOUND = "it is not sound: an item is out of its range, or the mark is neither 0 nor 1"
 MOVABLE = 'and this sheet takes 1 to 247; all else in it is good, and include/cedarskein.h, "Stations", says how it gets another one'
 WITHIN = "they must lie within 1 to 247, as those of the files in sheets/ do"
@@ -321,7 +429,7 @@ MAKE = [
      f"status 2: more than one sheet begins with aswe. SHEET= takes one of: {ASWE}"),
     ("make why, a frame that is empty", lambda _: by_make("FRAME="), "status 2: empty: FRAME. Give each a name, or leave it out.  Stop."),
     ("make why, a name that is misspelt", lambda _: by_make("FRAM=01"), "status 2: make why takes no FRAM. It takes: SHEET BANK RING FRAME.  Stop."),
-    ("what the README shows of make why", shown_in_readme, "7 shown, otherwise: []"),
+    ("what the README shows of make why", shown_in_readme, "8 shown, otherwise: []"),
 ]
 
-TRIALS = [*REASONS, *BANKS, *HEX, *MAKE]
+TRIALS = [*REASONS, *SIDES, *FACTOR_OF_TEN, *BANKS, *HEX, *MAKE]
