@@ -42,6 +42,7 @@ if command -v man >/dev/null; then
     done <"$folder/entries.txt"
     grep -A1 -F "CEDARSKEIN_TOO_SHORT (1)" "$folder/page.txt" | grep -q "under 4 bytes" || fail "the man page tells too short otherwise than the header"
     grep -A1 -F "CEDARSKEIN_ITEM (10)" "$folder/page.txt" | grep -q "out of its range" || fail "the man page tells the item otherwise than the header"
+    grep -A1 -F "CEDARSKEIN_TOO_LOW (1)" "$folder/page.txt" | grep -q "below the item's low bound" || fail "the man page tells too low otherwise than the header"
 fi
 
 (cd "$host/.." && tools/install.sh uninstall) >/dev/null || fail "make uninstall"

@@ -10,9 +10,9 @@ import sys
 HEADER = os.path.join(os.path.dirname(os.path.dirname(os.path.abspath(__file__))), "include", "cedarskein.h")
 COMMENT = r"/\*((?:[^*]|\*(?!/))*)\*/"
 FUNCTION = re.compile(COMMENT + r"\n(uint\d+_t (cedarskein_\w+)\([^;]*\);)")
-# the numbers of a call have their comment above them, the reasons behind them
+# the numbers of a call have their comment above them, the reasons and the sides behind them
 NUMBER = re.compile(COMMENT + r"\s+(CEDARSKEIN_\w+) = (\d+)")
-REASON = re.compile(r"(CEDARSKEIN_\w+) = (\d+),?\s+" + COMMENT)
+TOLD = re.compile(r"(CEDARSKEIN_\w+) = (\d+),?\s+" + COMMENT)
 SIZE = re.compile(r"^#define (CEDARSKEIN_\w+) (\w+) +/\* (.*) \*/$", re.M)
 # a line that begins an entry of a list inside a comment: a dash, or the numbers or reasons that it is about
 ENTRY = re.compile(r"- |(?:\d+|the first of [\w, ]+|for (?:CEDARSKEIN_\w+|every other \w+)): ")
@@ -91,10 +91,10 @@ def numbers(text):
     return out
 
 
-def reasons(text):
-    intro, inside = enum(text, "cedarskein_reason")
-    out = [".SH REASONS", *intro]
-    for name, number, comment in REASON.findall(inside):
+def told(text, name, heading):
+    intro, inside = enum(text, name)
+    out = [".SH " + heading, *intro]
+    for name, number, comment in TOLD.findall(inside):
         out += [".TP", f".BR {name} \" ({number})\"", *body(lines_of(comment))]
     return out
 
@@ -117,7 +117,7 @@ def page(text):
     out += synopsis(functions) + [".SH DESCRIPTION"] + body(first)
     for comment, _, name in functions:
         out += [".SS " + name, *body(lines_of(comment))]
-    out += numbers(text) + reasons(text) + sizes(text)
+    out += numbers(text) + told(text, "cedarskein_reason", "REASONS") + told(text, "cedarskein_side", "SIDES") + sizes(text)
     for heading, lines in others:
         out += [".SH " + heading, *body(lines)]
     out += [".SH SEE ALSO", ".BR pkg-config (1),", "the headers", ".I cedarskein_sheets.h", "and", ".I cedarskein_registers.h"]
