@@ -54,13 +54,14 @@ STATED_FILES = ["Theorems"]
 TABLES = {
     "words": ["Edges"],
     "check_value": ["Witness"],
+    "range": ["SideCases"],
     "sheet_rules": ["Terms", "Sides", "SheetLimits"],
     "makers": ["Sheets"],
     "bank_rules": ["BankLimits"],
     "ring_rules": ["RingLimits"],
     "frame": ["Rooms"],
     "meter_rules": ["CaseSet", "FrameLimits", "RecordLimits"],
-    "why_rules": ["ReasonCases", "RecordReasons"],
+    "why_rules": ["ReasonCases", "RecordReasons", "SideReasons"],
     "listing": ["Example", "Texts", "Makers"],
 }
 
