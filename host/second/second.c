@@ -131,7 +131,7 @@ static int64_t item_high(const struct sheet *sheet, size_t item)
     return value_of(item_kind(sheet, item), item_word(sheet, item, 4), item_word(sheet, item, 5));
 }
 
-/* rule B10: where a value lies by the range of an item. Whatever asks for a range
+/* rule B13: where a value lies by the range of an item. Whatever asks for a range
  * asks here: a sheet for that of its address and rate, a bank, a write, and the
  * reason for an error. */
 static enum second_side side_missed(const struct sheet *sheet, size_t item, int64_t value)
@@ -1488,8 +1488,8 @@ static uint32_t address_told(const struct query *query, enum second_reason reaso
     return reason == REASON_ITEM ? bad_item_address(query) : 0;
 }
 
-/* The side at which the first bad item would miss its range, whose value the reason
- * is about; no other reason has a side. */
+/* rules Y23 and Y24: the side at which the first bad item would miss its range, whose
+ * value the reason is about; no other reason has a side. */
 static enum second_side side_told(const struct query *query, enum second_reason reason)
 {
     return reason == REASON_ITEM ? written_side(query, words_before_bad(query)) : SIDE_NONE;

@@ -152,7 +152,7 @@ enum second_reason {
     REASON_COUNT
 };
 
-/* The side at which a value misses the range of its item: rule B10. */
+/* The side at which a value misses the range of its item: rule B13. */
 enum second_side {
     SIDE_NONE = 0,                  /* the value is in range */
     SIDE_TOO_LOW = 1,

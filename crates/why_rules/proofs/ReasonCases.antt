@@ -50,9 +50,9 @@ pub record Row : Type 0 where
   pub address : ℕ
   pub side : ℕ
 
--- number 0: the words of the bank that are others than the meter's, the frame, the reason and the address; no side
-abbrev says : Meter → List Change → List ℕ → ℕ → ℕ → Row
-says meter before frame reason address =
+-- number 0: the words of the bank that are others than the meter's, the frame, the reason, the address and the side
+abbrev tells : Meter → List Change → List ℕ → ℕ → ℕ → ℕ → Row
+tells meter before frame reason address side =
     record {
       sheet = bytesOf (meter .sheet);
       bank = bytesOf (changed 0 (meter .bank) before);
@@ -60,21 +60,16 @@ says meter before frame reason address =
       number = 0;
       reason = reason;
       address = address;
-      side = 0;
-    }
-
--- the same with reason 10, an item: its first address, and the side, 1 too low or 2 too high
-abbrev misses : Meter → List Change → List ℕ → ℕ → ℕ → Row
-misses meter before frame address side =
-    record {
-      sheet = bytesOf (meter .sheet);
-      bank = bytesOf (changed 0 (meter .bank) before);
-      frame = frame;
-      number = 0;
-      reason = 10;
-      address = address;
       side = side;
     }
+
+-- a reason without a side
+abbrev says : Meter → List Change → List ℕ → ℕ → ℕ → Row
+says meter before frame reason address = tells meter before frame reason address 0
+
+-- reason 10, an item: its first address, and the side, 1 too low or 2 too high
+abbrev misses : Meter → List Change → List ℕ → ℕ → ℕ → Row
+misses meter before frame address side = tells meter before frame 10 address side
 
 -- numbers 2 to 4: zeros
 abbrev refuses : ℕ → List ℕ → List ℕ → List ℕ → Row
