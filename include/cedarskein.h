@@ -87,9 +87,9 @@
  * A board from version 1
  *
  *   From 2.0 on cedarskein_answer and cedarskein_why take a ring behind the bank, and a program that is compiled with this
- *   header shows each place to change: pass NULL, 0 there. Compile anew everything that calls these two. Their names are
- *   the same, and C checks no arguments at link time: an object that was compiled with version 1's header links without a
- *   word, and its calls go wrong.
+ *   header shows each place to change: pass NULL, 0 there; cedarskein_why has one pointer more since then ("A board from
+ *   version 2"). Compile anew everything that calls these two. Their names are the same, and C checks no arguments at link
+ *   time: an object that was compiled with version 1's header links without a word, and its calls go wrong.
  *
  *   Sheets of version 1.3 have word 11 at 0 and are taken as before, banks are as they were, and so is every reply. Two
  *   calls are new, cedarskein_ring_check and cedarskein_add_record, and one number, 8; a board whose sheet has no record
@@ -97,11 +97,11 @@
  *
  * A board from version 2
  *
- *   From 3.0 on cedarskein_why takes one pointer more, behind the address: the side at which an item's value misses its
- *   range. A program that is compiled with this header shows each place to change; compile anew everything that calls it.
- *   An object that was compiled with version 2's header links without a word, and its call lets the side be written to
- *   wherever the last argument would lie: that goes wrong. Every other call, sheets, banks, rings and replies are as they
- *   were.
+ *   From 3.0 on cedarskein_why takes one pointer more, behind the address, for the side at which the value misses its range
+ *   that an item would have. A program that is compiled with this header shows each place to change; compile anew
+ *   everything that calls it. An object that was compiled with version 2's header links without a word, and the side is then
+ *   written to wherever the last argument would lie. Every other call, the reasons and their addresses, sheets, banks, rings
+ *   and replies are as they were.
  *
  * What the caller owes
  *
@@ -248,9 +248,9 @@ enum cedarskein_reason {
     CEDARSKEIN_ITEM = 10          /* an item would be out of its range: error 03 */
 };
 
-/* At which end of its range the value is missed that an item would have. */
+/* Which end of its range the value misses that an item would have. */
 enum cedarskein_side {
-    CEDARSKEIN_NO_SIDE = 0,  /* the reason is no item */
+    CEDARSKEIN_NO_SIDE = 0,  /* with every reason but CEDARSKEIN_ITEM, and with a refusal */
     CEDARSKEIN_TOO_LOW = 1,  /* the value would be below the item's low bound */
     CEDARSKEIN_TOO_HIGH = 2  /* the value would be above the item's high bound */
 };
@@ -310,7 +310,8 @@ uint32_t cedarskein_answer(const uint8_t *sheet, size_t sheet_n, uint8_t *bank, 
  *   for every other reason: 0.
  * *side is 1 or 2 for CEDARSKEIN_ITEM, by the value that this item would have: its word, with a sign for kind 1; of a pair
  * both words, also where the frame sends one of them and the other is the bank's. For every other reason it is 0.
- * *reason, *address and *side are written by every call, zeros with a refusal. All that is lent is only read. */
+ * *reason, *address and *side are written by every call, zeros with a refusal. The sheet, the bank, the ring and the frame
+ * are only read. Ask before the frame is answered: an answer may have changed the station, and then the reason is another. */
 uint32_t cedarskein_why(const uint8_t *sheet, size_t sheet_n, const uint8_t *bank, size_t bank_n, const uint8_t *ring,
                         size_t ring_n, const uint8_t *frame, size_t frame_n, uint32_t *reason, uint32_t *address,
                         uint32_t *side);

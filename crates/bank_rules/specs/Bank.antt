@@ -1,4 +1,4 @@
--- The bank: its size, the value of an item, a sound bank, and the stores of a fresh bank, of posting and of setting the mark. Assumes
+-- The bank: its size, the value of an item and its side, a sound bank, and the stores of a fresh bank, of posting and of setting the mark. Assumes
 -- nothing.
 use Prim.Native.Nat.{ℕ, _+_, _*_, _/_, _%_}
 use mathlib.Core.Bool.{Bool, false, cond, _&&_, _||_}

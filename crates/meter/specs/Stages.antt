@@ -1,4 +1,5 @@
--- What the stages of judgement answer, and what those from step 4 on know of a frame. Only private promises cite this file. Assumes nothing.
+-- What the stages of judgement answer, what those from step 4 on know of a frame, and where a write would leave an item. Only private promises cite
+-- this file. Assumes nothing.
 use Prim.Native.Nat.{ℕ, _+_}
 use mathlib.Core.Path.{_≡_}
 use mathlib.Core.Bool.{Bool, true, not, cond, _||_}
@@ -49,7 +50,7 @@ pub record AsksRead (parts : Parts) : Type 0 where
   pub asks : parts .function ≡ reads
   pub some : parts .second ≡ 0 → ⊥
 
--- the side of its range at which a write would leave an item: one that it does not touch is left in range
+-- the side of its range at which a write would leave an item: one that it does not touch stays as it is, which in a sound bank is in range
 abbrev pub sideLeft : ℕ → ℕ → List ℕ → List ℕ → Item → Side
 sideLeft first many bank frame item = cond (touched first many item) (sideBy (wouldBe first many bank frame) item) InRange
 

@@ -1,4 +1,5 @@
--- A write, item by item: the places of a run, the item that a write stops at, and what it stores (rules K1 to K6 and K12). Assumes nothing.
+-- A write, item by item: the places of a run, the item that a write stops at and its side, and what it stores (rules K1 to K6, K12 and J71).
+-- Assumes nothing.
 use Prim.Native.Nat.{ℕ, _+_, _-_}
 use mathlib.Core.Bool.{Bool, not, cond, _&&_, _||_}
 use mathlib.Core.List.{List, [], _∷_, map}
@@ -33,7 +34,7 @@ wouldBe first many bank frame place = cond (inRun first many place) (sent frame 
 abbrev pub touched : ℕ → ℕ → Item → Bool
 touched first many item = inRun first many (item .place) || (isPair item && inRun first many (item .place + 1))
 
--- rules K2 to K4 and K11
+-- rules K2 to K4: touched, and its value would be out of range; a pair is one value (rule K11)
 unfoldable pub badItem : ℕ → ℕ → List ℕ → List ℕ → Item → Bool
 badItem first many bank frame item = touched first many item && not (goodBy (wouldBe first many bank frame) item)
 
@@ -52,7 +53,7 @@ stopIn first many bank frame (item ∷ behind) =
 unfoldable pub stopOf : Lent → List ℕ → Stop
 stopOf given frame = stopIn (firstPlace (given .sheet) frame) (count frame) (given .bank) frame (items (given .sheet))
 
--- the place and the side of a stop; 0 and in range where no item is bad
+-- the place and the side of a stop. Where no item is bad nothing asks for them: they are 0 and in range
 abbrev pub placeOfStop : Stop → ℕ
 placeOfStop (StopsAt place side) = place
 placeOfStop NoBadItem = 0
@@ -73,7 +74,7 @@ stopSide given frame = sideOfStop (stopOf given frame)
 abbrev pub runStore : List ℕ → ℕ → ℕ → Store
 runStore frame first k = record { place = first + k; word = sent frame k }
 
--- rules K5 and K6, the words of a run, from its first place on, that stand in front of a stop; none where the stop is in front of the run, as
--- where its first word is the lower half of a bad pair
+-- rules K5 to K7, the words of a run, from its first place on, that stand in front of a place: its stop, or its end. None where the stop is in front of
+-- the run, as where its first word is the lower half of a bad pair
 unfoldable pub runStores : List ℕ → ℕ → ℕ → List Store
 runStores frame first stop = map (runStore frame first) (upFrom 0 (stop - first))

@@ -9,8 +9,8 @@ pub enum Stop {
     NoBadItem,
 }
 
-// Where a frame stops in the order of judgement, or that it is good. `first` is the place of its first address, `stop` the place of
-// the first bad item and `side` the side at which that item would miss its range, `many` the number of registers. Of a record, `first`
+// Where a frame stops in the order of judgement, or that it is good. `first` is the place of its first address, `stop` the first
+// place of the first bad item and `side` the side at which that item would miss its range, `many` the number of registers. Of a record, `first`
 // is the word of the ring at which it begins, `many` its words.
 pub enum Judged {
     FailsCheck,

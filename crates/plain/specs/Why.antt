@@ -52,13 +52,13 @@ pub record Under (kind a b : ℕ) : Type 0 where
   pub plain : (kind ≡ 1 → ⊥) → a < b
   pub signed : kind ≡ 1 → signedAndMore a < signedAndMore b
 
--- rules B13 and Y23, the side at which a value misses its range: 1 below the low bound, 2 above the high one
+-- rules B13 and Y23, the side at which a value misses its range: 1 below the low bound, 2 above the high one. Of bounds in order (rule S44) it is one alone
 pub data Misses (kind low high value : ℕ) : ℕ → Type 0 where
   tooLow : Under kind value low → Misses kind low high value 1
   tooHigh : Under kind high value → Misses kind low high value 2
 
--- rules Y19, Y21 and Y23, the first bad item of a write: one that it touches and whose value would then miss its range, with every such item in front
--- of it in range; the address that its first place has, and the side
+-- rules Y19, Y21 and Y23, the first bad item of a write: one that it touches and whose value would then miss its range, with every item that it touches
+-- in front of that one in range; the address that its first place has, and the side
 pub record FirstBadItem (given : Lent) (frame : List ℕ) (at side : ℕ) : Type 0 where
   pub writes : (byte frame 1 ≡ 0x06) ⊎ (byte frame 1 ≡ 0x10)
   pub kind : ℕ

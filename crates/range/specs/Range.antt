@@ -1,4 +1,4 @@
--- The kinds of items, the number that a value stands for, and the judgement of a value by its bounds: rules S41, S43, S44, B10, B13 and H3.
+-- The kinds of items, the number that a value stands for, and the judgement of a value by its bounds: rules S41, S43, B10, B13, H3 and Y23.
 -- A value is the item's word or, for a pair, the upper word * 65536 + the lower word (rule B3). Assumes nothing.
 use Prim.Native.Nat.{ℕ, zero, suc}
 use mathlib.Core.Bool.{Bool, true, false, not, cond}
@@ -29,7 +29,7 @@ numberOf zero value = pos value
 numberOf (suc zero) value = signedOf value
 numberOf (suc (suc kind)) value = pos value
 
--- one value of a kind is not above another, as numbers
+-- rule S44: one value of a kind is not above another, as numbers
 unfoldable pub notAbove : ℕ → ℕ → ℕ → Bool
 unfolding numberOf
 notAbove kind a b = leZ (numberOf kind a) (numberOf kind b)
@@ -39,13 +39,13 @@ unfoldable pub below : ℕ → ℕ → ℕ → Bool
 unfolding notAbove
 below kind a b = not (notAbove kind b a)
 
--- rules B10 and B13, at which side of its range a value of a kind lies: below the low bound it is too low, above the high bound too high, and
+-- rules B13 and H3, at which side of its range a value of a kind lies: below the low bound it is too low; else, above the high bound, too high; and
 -- else in range
 unfoldable pub sideOf : ℕ → ℕ → ℕ → ℕ → Side
 unfolding below
 sideOf kind low high value = cond (below kind value low) TooLow (cond (below kind high value) TooHigh InRange)
 
--- the same as yes or no
+-- rule B10, the same as yes or no
 abbrev pub inside : Side → Bool
 inside InRange = true
 inside TooLow = false
@@ -55,7 +55,7 @@ unfoldable pub inRange : ℕ → ℕ → ℕ → ℕ → Bool
 unfolding sideOf
 inRange kind low high value = inside (sideOf kind low high value)
 
--- rule Y23: the number by which a side is told
+-- rules Y23 and Y24: the number by which a side is told
 abbrev pub sideNumber : Side → ℕ
 sideNumber InRange = 0
 sideNumber TooLow = 1

@@ -16,7 +16,7 @@ pub fn number(kind: u16, value: u32) -> i64
     value as i64 - 0x10000
 }
 
-// The key of a signed word, the number that it stands for and 10000 more: keys have no sign, and stand in the order of the numbers.
+// The key of a signed word, the number that it stands for and 0x10000 more: keys have no sign, and stand in the order of the numbers.
 fn key(value: u32) -> u32
     ensures { λ r. ⌜ pos r ≡ numberOf signedWord value +ℤ pos 0x10000 ⌝ }
 {

@@ -1,4 +1,4 @@
-// Why a meter gives silence or an error to a frame: the frame is judged as for an answer, and where it stops is told in the words of W1.
+// Why a meter gives silence or an error to a frame: the frame is judged as for an answer, and where it stops is told in the words of W1 and W5.
 ghost use mathlib.Core.Path.{_≡_};
 ghost use Rattle.bank_rules.specs.Calls.{lentWith};
 ghost use Rattle.why_rules.specs.Reasons.{explanation};

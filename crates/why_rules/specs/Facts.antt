@@ -64,10 +64,10 @@ firstBadAddress sheet frame =
     cond (eqb (function frame) reads) (firstShut Read sheet (run frame))
     (cond (isWrite frame) (firstShut Write sheet (run frame)) (start frame))
 
--- rule Y21: the first address of the first bad item, as the listing has it
+-- rule Y21: the first address of the first bad item, as the listing has it; told only where an item is bad
 abbrev pub firstBadItem : Lent → List ℕ → ℕ
 firstBadItem given frame = addressOf (areas (given .sheet)) (stopPlace given frame)
 
--- rule Y23: the side at which the value that it would have misses its range
+-- rule Y23: the side at which the value that the first bad item would have misses its range; told only where an item is bad
 abbrev pub firstBadSide : Lent → List ℕ → Side
 firstBadSide given frame = stopSide given frame

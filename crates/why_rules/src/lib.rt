@@ -3,8 +3,9 @@
 use range::Side;
 use refusals::Refusal;
 
-// The reason for silence or an error, in the order in which reasons are told. `address` is the first bad address of a run, or that of a clear
-// elsewhere; of an item, the first address of the first bad one, and `side` the side at which that item would miss its range.
+// The reason for silence or an error, none in front, and then in the order in which reasons are told. `address` is the first bad address of a run, or
+// that of a clear elsewhere or of a record that is not stored; of an item, the first address of the first bad one, and `side` the side at which the
+// value that this item would have misses its range.
 pub enum Reason {
     None,
     TooShort,
