@@ -311,7 +311,7 @@ uint32_t cedarskein_answer(const uint8_t *sheet, size_t sheet_n, uint8_t *bank, 
  * *side is 1 or 2 for CEDARSKEIN_ITEM, by the value that this item would have: its word, with a sign for kind 1; of a pair
  * both words, also where the frame sends one of them and the other is the bank's. For every other reason it is 0.
  * *reason, *address and *side are written by every call, zeros with a refusal. The sheet, the bank, the ring and the frame
- * are only read. Ask before the frame is answered: an answer may have changed the station, and then the reason is another. */
+ * are only read. Ask before the frame is answered: an answer may have changed the station, and with it the reason. */
 uint32_t cedarskein_why(const uint8_t *sheet, size_t sheet_n, const uint8_t *bank, size_t bank_n, const uint8_t *ring,
                         size_t ring_n, const uint8_t *frame, size_t frame_n, uint32_t *reason, uint32_t *address,
                         uint32_t *side);
