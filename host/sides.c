@@ -52,13 +52,19 @@ static uint16_t put_range(size_t k, uint16_t place)
 }
 
 /* One area, from address 0 on, so that an item's address is its place. */
-static void make_sheet(void)
+static void put_front(void)
 {
     static const uint16_t front[16] = { 1, 1, 12, RANGES, 16, PLACES, 13, sizeof made / 2, 0, 1, 0, 0, 0, PLACES - 1, 0, 3 };
-    uint16_t place = 0;
     size_t k;
     for (k = 0; k < 16; k++)
         set_word(made, k, front[k]);
+}
+
+static void make_sheet(void)
+{
+    uint16_t place = 0;
+    size_t k;
+    put_front();
     for (k = 0; k < RANGES; k++)
         place = put_range(k, place);
     at_case("the sheet made here");
@@ -215,22 +221,31 @@ static void half(const struct sheet *sheet, const struct item *item, uint32_t he
     expect_judged(item, joined);
 }
 
+static void either_half(const struct sheet *sheet, const struct item *item, uint32_t held, uint16_t sent)
+{
+    half(sheet, item, held, 0, sent);
+    half(sheet, item, held, 1, sent);
+}
+
+/* The half of a bound and its neighbours, each as the half that it is of. */
+static void around(const struct sheet *sheet, const struct item *item, uint32_t held, uint32_t bound)
+{
+    uint16_t k;
+    for (k = 0; k < 3; k++) {
+        half(sheet, item, held, 0, (uint16_t)((bound >> 16) + k - 1));
+        half(sheet, item, held, 1, (uint16_t)(bound + k - 1));
+    }
+}
+
 /* A bank that holds one bound, and as each half the words around both bounds' halves and the ends of all words. */
 static void halves(const struct sheet *sheet, const struct item *item, uint32_t held)
 {
     static const uint16_t ends[4] = { 0, 0x7FFF, 0x8000, 0xFFFF };
-    uint32_t low = (uint32_t)item->low, high = (uint32_t)item->high;
     size_t k;
-    for (k = 0; k < 4; k++) {
-        half(sheet, item, held, 0, ends[k]);
-        half(sheet, item, held, 1, ends[k]);
-    }
-    for (k = 0; k < 3; k++) {
-        half(sheet, item, held, 0, (uint16_t)((low >> 16) + k - 1));
-        half(sheet, item, held, 1, (uint16_t)(low + k - 1));
-        half(sheet, item, held, 0, (uint16_t)((high >> 16) + k - 1));
-        half(sheet, item, held, 1, (uint16_t)(high + k - 1));
-    }
+    for (k = 0; k < 4; k++)
+        either_half(sheet, item, held, ends[k]);
+    around(sheet, item, held, (uint32_t)item->low);
+    around(sheet, item, held, (uint32_t)item->high);
 }
 
 static void every_item(const struct sheet *sheet)

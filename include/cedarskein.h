@@ -87,7 +87,7 @@
  * A board from version 1
  *
  *   From 2.0 on cedarskein_answer and cedarskein_why take a ring behind the bank, and a program that is compiled with this
- *   header shows each place to change: pass NULL, 0 there; cedarskein_why has one pointer more since then ("A board from
+ *   header shows each place to change: pass NULL, 0 there; cedarskein_why has one pointer more since 3.0 ("A board from
  *   version 2"). Compile anew everything that calls these two. Their names are the same, and C checks no arguments at link
  *   time: an object that was compiled with version 1's header links without a word, and its calls go wrong.
  *
@@ -97,8 +97,8 @@
  *
  * A board from version 2
  *
- *   From 3.0 on cedarskein_why takes one pointer more, behind the address, for the side at which the value misses its range
- *   that an item would have. A program that is compiled with this header shows each place to change; compile anew
+ *   From 3.0 on cedarskein_why takes one pointer more, behind the address, for the side at which the value that an item
+ *   would have misses its range. A program that is compiled with this header shows each place to change; compile anew
  *   everything that calls it. An object that was compiled with version 2's header links without a word, and the side is then
  *   written to wherever the last argument would lie. Every other call, the reasons and their addresses, sheets, banks, rings
  *   and replies are as they were.
@@ -248,7 +248,7 @@ enum cedarskein_reason {
     CEDARSKEIN_ITEM = 10          /* an item would be out of its range: error 03 */
 };
 
-/* Which end of its range the value misses that an item would have. */
+/* Which end of its range an item's value would miss. */
 enum cedarskein_side {
     CEDARSKEIN_NO_SIDE = 0,  /* with every reason but CEDARSKEIN_ITEM, and with a refusal */
     CEDARSKEIN_TOO_LOW = 1,  /* the value would be below the item's low bound */

@@ -94,8 +94,8 @@ def numbers(text):
 def told(text, name, heading):
     intro, inside = enum(text, name)
     out = [".SH " + heading, *intro]
-    for name, number, comment in TOLD.findall(inside):
-        out += [".TP", f".BR {name} \" ({number})\"", *body(lines_of(comment))]
+    for case, number, comment in TOLD.findall(inside):
+        out += [".TP", f".BR {case} \" ({number})\"", *body(lines_of(comment))]
     return out
 
 

@@ -156,8 +156,7 @@ enum second_reason {
 enum second_side {
     SIDE_NONE = 0,                  /* the value is in range */
     SIDE_TOO_LOW = 1,
-    SIDE_TOO_HIGH = 2,
-    SIDE_COUNT
+    SIDE_TOO_HIGH = 2
 };
 
 /* The first rule that the sheet breaks, RULE_NONE if it is sound. */

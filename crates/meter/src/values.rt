@@ -85,7 +85,7 @@ fn touches(write: Write, item: Item) -> bool
     in_run(write, place + 1)
 }
 
-// The side of its range at which a write would leave an item. One that it does not touch is left as it is: in range.
+// The side of its range at which a write would leave an item. One that it does not touch stays as it is, which in a sound bank is in range.
 fn side_left(bank: &[u8], frame: &[u8], write: Write, item: Item) -> Side
     requires { ⌜ write .values ≡ valuesAt (now frame) ⌝ }
     ensures { λ r. ⌜ r ≡ sideLeft (write .first) (write .many) (now (bank .entry)) (now (frame .entry)) item ⌝ }
@@ -120,7 +120,7 @@ fn first_near(sheet: &[u8], place: u32) -> u16
     near
 }
 
-// Where a write stops: at the first bad item, or that there is none. Items ascend, so none outside the run is looked at.
+// Where a write stops: at the first bad item, or that there is none. Items ascend, so those that end in front of the run, or begin behind it, are passed over.
 pub(crate) fn stop_of(sheet: &[u8], bank: &[u8], frame: &[u8], write: Write) -> Stop
     requires { ⌜ sound (now sheet) ≡ true ⌝ }
     requires { ⌜ write .values ≡ valuesAt (now frame) ⌝ }

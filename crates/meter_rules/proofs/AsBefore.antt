@@ -1,5 +1,6 @@
 -- Replies and banks are what they were before W5. What a value's judgement was, yes or no, and what a write's stop was, a place or the end of the run,
--- stand here once more as 01 has them; a bank is sound, and a frame is acted on, exactly as by them. Assumes nothing.
+-- stand here once more as 01 has them; a bank is sound, a frame is acted on and a call comes out exactly as by them. (What a sound sheet is goes by a range
+-- in one thing, that it holds 1, and that is as it was by `in-range-between` of range.) Assumes nothing.
 use mathlib.Core.Path.{_≡_, refl, sym, ap, ap₂, _∙_}
 use mathlib.Core.Bool.{Bool, true, false, not, cond, _&&_, _||_}
 use mathlib.Core.List.{List, [], _∷_}
@@ -16,16 +17,18 @@ use Rattle.lists.specs.Cases.{Case, when, firstCase}
 use Rattle.lists.proofs.Tests.{second-of}
 use Rattle.bank_rules.specs.Stores.{wordOf}
 use Rattle.bank_rules.specs.Bank.{valueBy, goodBy, bankSound, markPlace}
-use Rattle.bank_rules.specs.Calls.{Lent}
+use Rattle.refusals.specs.declared.Refusal.the-variants.{BrokenSheet, MisfittingBank, UnsoundBank, SmallBuffer, BadRing}
+use Rattle.refusals.specs.Answers.{answerBy}
+use Rattle.sheet_rules.specs.Rules.{brokenSheet}
+use Rattle.bank_rules.specs.Calls.{Lent, misfittingBank}
+use Rattle.ring_rules.specs.Calls.{badRing}
 use Rattle.frame.specs.Frame.{count, isWrite}
-use Rattle.meter_rules.specs.declared.Stop.{Stop}
-use Rattle.meter_rules.specs.declared.Stop.the-variants.{StopsAt, NoBadItem}
 use Rattle.meter_rules.specs.declared.Judged.{Judged}
 use Rattle.meter_rules.specs.declared.Judged.the-variants.{FailsCheck, OtherStation, FunctionNotAllowed, WrongLength, WrongCount, WrongAddress, WrongValue, BadItem}
 use Rattle.meter_rules.specs.Write.{firstPlace, wouldBe, touched, badItem, someBad, stopIn, stopOf, stopPlace, stopSide}
 use Rattle.meter_rules.specs.Steps.{failsCheck, otherStation, functionNotAllowed, wrongLength, wrongCount, wrongAddress, wrongValue, badWrite, goodFrame, judgedFrame}
 use Rattle.meter_rules.specs.Reply.{replyTo, storesOf}
-use Rattle.meter_rules.specs.Answer.{Outcome, actedOn}
+use Rattle.meter_rules.specs.Answer.{Outcome, actedOn, smallBuffer, unlessRefused, frameCheck, answerOutcome}
 use Rattle.meter_rules.proofs.Stopping.{stopsAt, storesTo}
 use Rattle.meter_rules.proofs.Soundness.{stores-to-stop}
 
@@ -48,7 +51,7 @@ stopBefore first many bank frame [] = first + many
 stopBefore first many bank frame (item ∷ behind) =
     cond (badBefore first many bank frame item) (item .place) (stopBefore first many bank frame behind)
 
--- rules J1, J71 and J80: a write with a bad item is one, whatever the side
+-- rules J1, J71 and J80, by the old judgement. No side was told, and none is looked at: in range is filled in
 unfoldable pub judgedBefore : Lent → List ℕ → Judged
 judgedBefore given frame =
     firstCase
@@ -63,6 +66,18 @@ judgedBefore given frame =
     (BadItem (firstPlace (given .sheet) frame) (stopBefore (firstPlace (given .sheet) frame) (count frame) (given .bank) frame (items (given .sheet))) InRange)
     ∷ [])
     (goodFrame given frame)
+
+-- rules N50 to N52, by the old judgement of a bank
+unfoldable pub answerBefore : Lent → List ℕ → List ℕ → Outcome
+answerBefore given frame buffer =
+    unlessRefused
+    (answerBy (when (brokenSheet (given .sheet)) BrokenSheet
+    ∷ when (misfittingBank given) MisfittingBank
+    ∷ when (not (soundBefore (given .sheet) (given .bank))) UnsoundBank
+    ∷ when (badRing (given .sheet) (given .ring)) BadRing
+    ∷ when (smallBuffer buffer) SmallBuffer
+    ∷ []))
+    given buffer (actedOn (judgedBefore given frame) given frame buffer)
 
 -- ---- an item, and a bank
 
@@ -152,6 +167,7 @@ module _ (given : Lent) (frame buffer : List ℕ) where
       side-unseen (stopPlace given frame) (stopSide given frame) InRange
       ∙ ap (λ (place : ℕ). actedOn (BadItem first place InRange) given frame buffer) (place-as-before (second-of (isWrite frame) (someBad given frame) e))
 
+  -- a frame that is not refused
   pub acted-as-before : actedOn (judgedFrame given frame) given frame buffer ≡ actedOn (judgedBefore given frame) given frame buffer
   unfolding judgedFrame judgedBefore
   acted-as-before =
@@ -160,3 +176,14 @@ module _ (given : Lent) (frame buffer : List ℕ) where
       ∙ ap (λ (some : Bool). actedOn (front (failsCheck frame) (otherStation given frame) (functionNotAllowed (given .sheet) frame) (wrongLength frame)
       (wrongCount (given .sheet) frame) (wrongAddress given frame) (wrongValue frame) (when (isWrite frame && some) (BadItem first stop InRange))) given frame buffer)
       some-as-before
+
+  -- the whole outcome of a call
+  pub answer-as-before : answerOutcome given frame buffer ≡ answerBefore given frame buffer
+  unfolding answerOutcome frameCheck answerBefore
+  answer-as-before =
+      ap (λ (fine : Bool). unlessRefused (answerBy (when (brokenSheet (given .sheet)) BrokenSheet ∷ when (misfittingBank given) MisfittingBank
+      ∷ when (not fine) UnsoundBank ∷ when (badRing (given .sheet) (given .ring)) BadRing ∷ when (smallBuffer buffer) SmallBuffer ∷ [])) given buffer
+      (actedOn (judgedFrame given frame) given frame buffer)) (sound-as-before (given .sheet) (given .bank))
+      ∙ ap (unlessRefused (answerBy (when (brokenSheet (given .sheet)) BrokenSheet ∷ when (misfittingBank given) MisfittingBank
+      ∷ when (not (soundBefore (given .sheet) (given .bank))) UnsoundBank ∷ when (badRing (given .sheet) (given .ring)) BadRing ∷ when (smallBuffer buffer) SmallBuffer ∷ []))
+      given buffer) acted-as-before

@@ -1,13 +1,11 @@
--- The side that a write's stop tells: it is that of the value that the first bad item would have, and never in range; and of a pair of which one
--- half is sent that value is the joined one. Assumes nothing.
-use mathlib.Core.Path.{_≡_, refl, sym, ap, ap₂, _∙_}
-use mathlib.Core.Bool.{Bool, true, false, not, cond, _&&_, false≢true}
+-- The side that a write's stop tells: it is that of the value that a bad item would have, and never in range; and of a pair of which one half is sent
+-- that value is the joined one. (That no item in front of the stop is bad is `front-fine` of Keeping.) Assumes nothing.
+use mathlib.Core.Path.{_≡_, sym, ap, ap₂, _∙_}
+use mathlib.Core.Bool.{Bool, true, false, not, cond, false≢true}
 use mathlib.Core.List.{List}
 use mathlib.Core.Logic.{_⊎_, inl, inr}
 use Prim.Native.Nat.{ℕ, _+_, _-_, _*_}
 use borrow.Author.Tests.{not-true}
-use Rattle.range.specs.declared.Side.{Side}
-use Rattle.range.specs.declared.Side.the-variants.{InRange}
 use Rattle.range.specs.Range.{sideOf, inside}
 use Rattle.sheet_rules.specs.declared.Item.{Item}
 use Rattle.sheet_rules.specs.Rows.{items}
@@ -18,8 +16,7 @@ use Rattle.bank_rules.specs.Stores.{wordOf}
 use Rattle.bank_rules.specs.Bank.{valueBy, sideBy, goodBy}
 use Rattle.bank_rules.specs.Calls.{Lent}
 use Rattle.frame.specs.Frame.{count, sent}
-use Rattle.meter_rules.specs.declared.Stop.{Stop}
-use Rattle.meter_rules.specs.declared.Stop.the-variants.{StopsAt, NoBadItem}
+use Rattle.meter_rules.specs.declared.Stop.the-variants.{NoBadItem}
 use Rattle.meter_rules.specs.Write.{firstPlace, inRun, wouldBe, touched, badItem, someBad, stopOf, placeOfStop, sideOfStop, stopPlace, stopSide}
 use Rattle.meter_rules.proofs.Stopping.{stopsAt, stops}
 use Rattle.meter_rules.proofs.Keeping.{stop-at}

@@ -1,4 +1,4 @@
--- A write, item by item: the places of a run, the item that a write stops at and its side, and what it stores (rules K1 to K6, K12 and J71).
+-- A write, item by item: the places of a run, the item that a write stops at and its side, and what it stores (rules K1 to K7, K11, K12 and J71).
 -- Assumes nothing.
 use Prim.Native.Nat.{ℕ, _+_, _-_}
 use mathlib.Core.Bool.{Bool, not, cond, _&&_, _||_}

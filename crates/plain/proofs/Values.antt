@@ -1,4 +1,5 @@
--- Condition 7 in plain numbers is what step 7 tests: the value of a clear, and each item that a write touches within its bounds. Assumes nothing.
+-- Condition 7 in plain numbers is what step 7 tests: the value of a clear, and each item that a write touches within its bounds; and the side at which a
+-- value misses its range. Assumes nothing.
 use mathlib.Core.Path.{_≡_, refl, sym, ap, ap₂, subst, _∙_}
 use mathlib.Core.Bool.{Bool, true, false, not, cond, _&&_, _||_, false≢true, true≢false}
 use mathlib.Core.List.{List}

@@ -1,5 +1,5 @@
--- The side of its range at which a value lies, once for all kinds: too low exactly below the low bound, too high exactly above the high one, and
--- never both where the bounds are in order. What was yes or no follows. Assumes nothing.
+-- The side of its range at which a value lies, once for all kinds: too low exactly below the low bound; where the bounds are in order, too high exactly
+-- above the high one, and never both. What was yes or no follows. Assumes nothing.
 use mathlib.Core.Path.{_≡_, refl, sym, ap, _∙_}
 use mathlib.Core.Bool.{Bool, true, false, not, cond, _&&_, false≢true}
 use mathlib.Core.Logic.{_↔_}

@@ -1,4 +1,4 @@
--- The kinds of items, the number that a value stands for, and the judgement of a value by its bounds: rules S41, S43, B10, B13, H3 and Y23.
+-- The kinds of items, the number that a value stands for, and the judgement of a value by its bounds: rules S41, S43, S44, B10, B13, H3, Y23 and Y24.
 -- A value is the item's word or, for a pair, the upper word * 65536 + the lower word (rule B3). Assumes nothing.
 use Prim.Native.Nat.{ℕ, zero, suc}
 use mathlib.Core.Bool.{Bool, true, false, not, cond}

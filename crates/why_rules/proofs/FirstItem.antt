@@ -1,17 +1,14 @@
 -- The first bad item of a write: the address that is told is its own first one. (That the write stops at one that is bad, and the side that is told,
 -- is `stopped` of meter_rules; that none in front of the stop is bad, `front-fine`.) Assumes nothing.
 use mathlib.Core.Path.{_≡_, refl, sym, ap, _∙_}
-use mathlib.Core.Bool.{Bool, true, _&&_, _||_, true≢false}
-use mathlib.Core.Logic.{_⊎_, inl, inr}
+use mathlib.Core.Bool.{Bool, true, _&&_, _||_}
 use mathlib.Core.List.{List}
 use Prim.Native.Nat.{ℕ, _+_, _<_}
 use native.Mathlib.Omega.{arith}
-use lib.Dec.{ltb, eqb}
-use borrow.Author.Tests.{le-ltb, eq-eqb}
-use Rattle.lists.proofs.Among.{Among}
-use Rattle.sheet_rules.specs.declared.Item.{Item}
+use lib.Dec.{eqb}
+use borrow.Author.Tests.{eq-eqb}
 use Rattle.sheet_rules.specs.declared.Lies.the-variants.{At}
-use Rattle.sheet_rules.specs.Rows.{areas, items, bankWords}
+use Rattle.sheet_rules.specs.Rows.{areas, bankWords}
 use Rattle.sheet_rules.specs.Rules.{isPair, readAndWrite, sound}
 use Rattle.sheet_rules.proofs.Places.{inWritable}
 use Rattle.sheet_rules.specs.Lookup.{liesIn}
@@ -19,16 +16,11 @@ use Rattle.sheet_rules.proofs.Sound.{sound-numbers}
 use Rattle.sheet_rules.proofs.Addresses.{address-lies}
 use Rattle.bank_rules.specs.Calls.{Lent}
 use Rattle.bank_rules.proofs.Held.{held-writable, writable-below, writable-access}
-use Rattle.frame.specs.Frame.{count}
-use Rattle.meter_rules.specs.Write.{firstPlace, badItem, someBad, stopPlace}
+use Rattle.meter_rules.specs.Write.{someBad, stopPlace}
 use Rattle.meter_rules.proofs.WhichSide.{stopped}
 use Rattle.why_rules.specs.Facts.{firstBadItem}
 
 module _ (given : Lent) (frame : List ℕ) where
-  -- an item is bad in this write
-  abbrev pub isBad : Item → Bool
-  isBad item = badItem (firstPlace (given .sheet) frame) (count frame) (given .bank) frame item
-
   module _ (one : someBad given frame ≡ true) where
     module _ (keeps : sound (given .sheet) ≡ true) where
       held : inWritable (areas (given .sheet)) (stopPlace given frame) ≡ true
