@@ -23,6 +23,7 @@ use Rattle.ring_rules.specs.Calls.{ringFits}
 use Rattle.meter_rules.specs.Judgement.{lentAnswer}
 use Rattle.meter_rules.specs.Write.{badItem, someBad, stopIn, stopPlace, stopSide}
 use Rattle.meter_rules.proofs.FrameLimits.{Meter, small, allowing, wide, full, pairUpper, otherUpper, mark}
+use Rattle.why_rules.specs.declared.Explained.{Explained}
 use Rattle.why_rules.specs.Facts.{firstShut}
 use Rattle.why_rules.specs.Reasons.{reasonOf, explanation, explainedNumber, reasonIn, addressIn, sideIn}
 
@@ -75,12 +76,14 @@ misses meter before frame address side = tells meter before frame 10 address sid
 abbrev refuses : ℕ → List ℕ → List ℕ → List ℕ → Row
 refuses number sheet bank frame = record { sheet = sheet; bank = bank; frame = frame; number = number; reason = 0; address = 0; side = 0 }
 
+-- what is told, by the four numbers that are handed back
+unfoldable pub tellsSo : Explained → ℕ → ℕ → ℕ → ℕ → Bool
+tellsSo explained number reason address side =
+    eqb (explainedNumber explained) number && eqb (reasonIn explained) reason && eqb (addressIn explained) address && eqb (sideIn explained) side
+
 unfoldable pub right : Row → Bool
-right row =
-    eqb (explainedNumber (explanation (lent (row .sheet) (row .bank)) (row .frame))) (row .number)
-    && eqb (reasonIn (explanation (lent (row .sheet) (row .bank)) (row .frame))) (row .reason)
-    && eqb (addressIn (explanation (lent (row .sheet) (row .bank)) (row .frame))) (row .address)
-    && eqb (sideIn (explanation (lent (row .sheet) (row .bank)) (row .frame))) (row .side)
+unfolding tellsSo
+right row = tellsSo (explanation (lent (row .sheet) (row .bank)) (row .frame)) (row .number) (row .reason) (row .address) (row .side)
 
 pub table : List Row
 table =

@@ -1,10 +1,9 @@
 -- The reasons for reads, writes and clears at and about a record area, and the ring's refusal, as one table under one statement: the sheet and
 -- the rings of the meter's own table, a frame, the reason and its address. What is expected is typed from 02. Assumes nothing.
 use mathlib.Core.Path.{_≡_, refl}
-use mathlib.Core.Bool.{Bool, true, _&&_}
+use mathlib.Core.Bool.{Bool, true}
 use mathlib.Core.List.{List, [], _∷_}
 use Prim.Native.Nat.{ℕ}
-use lib.Dec.{eqb}
 use lib.ListN.{take}
 use Rattle.words.specs.Words.{wordAt, withWord, bytesOf}
 use Rattle.words.specs.Changes.{at, changed}
@@ -25,7 +24,8 @@ use Rattle.meter_rules.specs.Write.{badItem, someBad, stopIn, stopPlace}
 use Rattle.meter_rules.proofs.FrameLimits.{small}
 use Rattle.meter_rules.proofs.RecordLimits.{history, freshBank, ringOf, full, partFull, empty}
 use Rattle.why_rules.specs.Facts.{firstShut}
-use Rattle.why_rules.specs.Reasons.{reasonOf, explanation, explainedNumber, reasonIn, addressIn, sideIn}
+use Rattle.why_rules.specs.Reasons.{reasonOf, explanation}
+use Rattle.why_rules.proofs.ReasonCases.{tellsSo}
 
 pub record Row : Type 0 where
   pub sheet : List ℕ
@@ -57,11 +57,9 @@ refuses number sheet bank ring frame =
     record { sheet = sheet; bank = bank; ring = ring; frame = frame; number = number; reason = 0; address = 0; side = 0 }
 
 unfoldable pub right : Row → Bool
+unfolding tellsSo
 right row =
-    eqb (explainedNumber (explanation (lentWith (row .sheet) (row .bank) (row .ring)) (row .frame))) (row .number)
-    && eqb (reasonIn (explanation (lentWith (row .sheet) (row .bank) (row .ring)) (row .frame))) (row .reason)
-    && eqb (addressIn (explanation (lentWith (row .sheet) (row .bank) (row .ring)) (row .frame))) (row .address)
-    && eqb (sideIn (explanation (lentWith (row .sheet) (row .bank) (row .ring)) (row .frame))) (row .side)
+    tellsSo (explanation (lentWith (row .sheet) (row .bank) (row .ring)) (row .frame)) (row .number) (row .reason) (row .address) (row .side)
 
 pub table : List Row
 table =

@@ -2,10 +2,9 @@
 -- which one half is sent; two bad items; and reasons without a side. What is expected is typed from W5 and 01; the comment in front of a row says what
 -- it is about, and `: none` that there is no reason. Assumes nothing.
 use mathlib.Core.Path.{_≡_, refl}
-use mathlib.Core.Bool.{Bool, true, _&&_}
+use mathlib.Core.Bool.{Bool, true}
 use mathlib.Core.List.{List, [], _∷_}
 use Prim.Native.Nat.{ℕ}
-use lib.Dec.{eqb}
 use Rattle.words.specs.Words.{wordAt, withWord, bytesOf}
 use Rattle.words.specs.Changes.{Change, at, changed}
 use Rattle.check_value.specs.Check.{valueOf}
@@ -25,7 +24,8 @@ use Rattle.meter_rules.specs.Write.{badItem, someBad, stopIn, stopPlace, stopSi
 use Rattle.meter_rules.proofs.CaseSet.{Meter, uxMeter, asweMeter}
 use Rattle.meter_rules.proofs.FrameLimits as made-up
 use Rattle.why_rules.specs.Facts.{firstShut}
-use Rattle.why_rules.specs.Reasons.{reasonOf, explanation, explainedNumber, reasonIn, addressIn, sideIn}
+use Rattle.why_rules.specs.Reasons.{reasonOf, explanation}
+use Rattle.why_rules.proofs.ReasonCases.{tellsSo}
 
 -- the makers' UX and AS-WE 40 sheets with a fresh bank, whose words are told by their addresses; and the meter of the frames' own table, by places
 abbrev ux : Meter
@@ -55,11 +55,8 @@ abbrev bankOf : Row → List ℕ
 bankOf this = bytesOf (changed (this .meter .origin) (this .meter .fresh) (this .before))
 
 unfoldable pub right : Row → Bool
-right this =
-    eqb (explainedNumber (explanation (lent (this .meter .sheet) (bankOf this)) (this .frame))) 0
-    && eqb (reasonIn (explanation (lent (this .meter .sheet) (bankOf this)) (this .frame))) (this .reason)
-    && eqb (addressIn (explanation (lent (this .meter .sheet) (bankOf this)) (this .frame))) (this .address)
-    && eqb (sideIn (explanation (lent (this .meter .sheet) (bankOf this)) (this .frame))) (this .side)
+unfolding tellsSo
+right this = tellsSo (explanation (lent (this .meter .sheet) (bankOf this)) (this .frame)) 0 (this .reason) (this .address) (this .side)
 
 pub table : List Row
 table =
