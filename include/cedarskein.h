@@ -2,8 +2,9 @@
  *
  * A sheet says which registers a meter has. A bank holds their words, and a ring the records of the meter's history, where
  * the sheet has any. The functions check all three, make a bank fresh, post readings, set the alarm mark, add records,
- * answer frames and tell why a frame gets silence or an error. They call nothing, keep nothing between calls and use no
- * heap: all that a call works on is lent to it, as a pointer and a number of bytes.
+ * answer frames and tell why a frame gets silence or an error. For the box at the other end of the line two build the query
+ * of an order and read the meter's reply to it. They call nothing, keep nothing between calls and use no heap: all that a
+ * call works on is lent to it, as a pointer and a number of bytes.
  *
  * docs/RULES.md has the rules that the functions are proved against, by number.
  *
@@ -103,15 +104,37 @@
  *   written to wherever the last argument would lie. Every other call, the reasons and their addresses, sheets, banks, rings
  *   and replies are as they were.
  *
+ * The box that asks
+ *
+ *   cedarskein_query and cedarskein_reply are the other half of the line: a box that asks meters. They know no sheet and
+ *   no bank. Both take the same order, five things that say what is asked of which station:
+ *
+ *     order      station    address          number               values
+ *     0 read     1 to 247   the first one    how many, 1 to 47    not looked at
+ *     1 record   1 to 247   the record's     its words, 1 to 47   not looked at
+ *     2 write    1 to 247   the register's   the value            not looked at
+ *     3 writes   1 to 247   the first one    not looked at        1 to 45 words, upper byte first
+ *     4 clear    1 to 247   the clear's own  not looked at        not looked at
+ *
+ *   The query is built, sent, and what comes back is read against the same order:
+ *
+ *     number = cedarskein_query(0, station, address, count, NULL, 0, out, out_n, &length);
+ *     .. send the first length bytes of out, and take in what comes until the line is quiet ..
+ *     number = cedarskein_reply(0, station, address, count, NULL, 0, reply, reply_n, out, out_n, &length, &error);
+ *
+ *   A reply names neither the addresses of a read nor the values of 10, so it cannot be told from a late one to another
+ *   order that differs in nothing else: after no answer, wait until the line is quiet before the next query.
+ *
  * What the caller owes
  *
  *   The proofs hold for any bytes in the buffers, and for calls that keep to this:
  *
  *   - each pointer is valid for the number of bytes given with it; it may be null only where that number is 0;
- *   - the pointers length, rate, reason, address and side are valid and aligned; byte buffers may start at any address;
- *   - what a call writes (bank, out, *length, *rate, *reason, *address, *side, and the ring, which only
+ *   - the pointers length, rate, reason, address, side and error are valid and aligned; byte buffers may start at any
+ *     address;
+ *   - what a call writes (bank, out, *length, *rate, *reason, *address, *side, *error, and the ring, which only
  *     cedarskein_add_record writes) overlaps nothing else that the call is lent: a frame is not answered in its own buffer,
- *     and a record that is added does not lie in the ring;
+ *     a reply is not read into its own, and a record that is added does not lie in the ring;
  *   - while a call runs nobody else writes what it is lent, or reads what it writes: one bank is not used by two tasks,
  *     or a task and an interrupt, at once, and no record is added while a frame is answered from the ring. Calls on
  *     different banks may run at once, on one sheet and on one ring too.
@@ -188,9 +211,9 @@ extern "C" {
 #endif
 
 #define CEDARSKEIN_VERSION_MAJOR 3
-#define CEDARSKEIN_VERSION_MINOR 0
+#define CEDARSKEIN_VERSION_MINOR 1
 #define CEDARSKEIN_VERSION_PATCH 0
-#define CEDARSKEIN_VERSION "3.0.0"
+#define CEDARSKEIN_VERSION "3.1.0"
 
 #define CEDARSKEIN_LONGEST_FRAME 100 /* bytes, its check included; a longer frame gets silence */
 #define CEDARSKEIN_LEAST_OUT 100     /* bytes that out must have at least, for the longest reply */
@@ -198,7 +221,8 @@ extern "C" {
 #define CEDARSKEIN_LONGEST_BANK 514  /* bytes of a bank with 256 words and the mark */
 
 /* The numbers that a call hands back, and what the firmware does then. With any number but 0 the bank, the ring and out are
- * as they were. Where several would hold, the first of 2, 3, 4, 8, 5, 7, 6 is told, of those that the call can give. */
+ * as they were. Where several would hold, the first of 2, 3, 4, 8, 9, 5, 7, 6, 10, 11, 12, 13 is told, of those that the call
+ * can give. */
 enum cedarskein_number {
     /* Done. Keep the bank, or the record that was added (see "A power cut"). Of cedarskein_answer: then send the first
      * *length bytes of out at *rate, and go on at the bank's rate. An error reply is a reply. */
@@ -217,7 +241,7 @@ enum cedarskein_number {
      * refused from now on. Put the last good copy back, or make the bank fresh (see "A power cut"). Setting the mark does
      * not mend a bad mark. */
     CEDARSKEIN_BANK_NOT_SOUND = 4,
-    /* out has under 100 bytes, also where the frame would get silence. Lend a larger one. */
+    /* out has under 100 bytes, also where the frame would get silence, or the reply brings no values. Lend a larger one. */
     CEDARSKEIN_SMALL_OUT = 5,
     /* Not all posted addresses lie in access 1 (read only) areas; none of the words is stored. Mend the address or the
      * number of words. */
@@ -228,7 +252,21 @@ enum cedarskein_number {
      * record is not below N, the number stored is above N, or an empty ring is not at place 0. Where ring_n is wrong, mend
      * the program. Else a power cut or a stray write has spoiled the two words, and every frame is refused from now on,
      * those for registers too. Put a good copy of the two words back, or make the ring empty (see "A power cut"). */
-    CEDARSKEIN_BAD_RING = 8
+    CEDARSKEIN_BAD_RING = 8,
+    /* The order has no frame in 100 bytes: none of the five, a station outside 1 to 247, a read or a record outside 1 to 47
+     * words, writes of an odd number of bytes or outside 1 to 45 words, a value above FFFF, or an address above FFFF, be it
+     * the last of a run. Mend the order. */
+    CEDARSKEIN_NO_FRAME = 9,
+    /* What came has under 4 or over 100 bytes, or its last two are not the check of those in front. Ask again. */
+    CEDARSKEIN_REPLY_DAMAGED = 10,
+    /* It comes from another station than the order's. Wait until the line is quiet, and ask again. */
+    CEDARSKEIN_REPLY_STATION = 11,
+    /* It has another function than the order's query, also with the top bit set, which marks an error. As with 11. */
+    CEDARSKEIN_REPLY_FUNCTION = 12,
+    /* Its body does not fit the order: another number of bytes or words, another address or value than the query's, or an
+     * error that is not one code of 1 to 3. As with 11; a record has other words than number says, or the meter is no such
+     * meter, where it stays so. */
+    CEDARSKEIN_REPLY_BODY = 13
 };
 
 /* Why a frame gets silence or an error: the first that holds, in this order. */
@@ -253,6 +291,15 @@ enum cedarskein_side {
     CEDARSKEIN_NO_SIDE = 0,  /* with every reason but CEDARSKEIN_ITEM, and with a refusal */
     CEDARSKEIN_TOO_LOW = 1,  /* the value would be below the item's low bound */
     CEDARSKEIN_TOO_HIGH = 2  /* the value would be above the item's high bound */
+};
+
+/* What a box asks of a meter (see "The box that asks"). */
+enum cedarskein_order {
+    CEDARSKEIN_READ = 0,   /* registers, by 03: number is how many */
+    CEDARSKEIN_RECORD = 1, /* one record of a history, by 03 with count 1: number is how many words it has */
+    CEDARSKEIN_WRITE = 2,  /* one register, by 06: number is the value */
+    CEDARSKEIN_WRITES = 3, /* registers, by 10, also one: values */
+    CEDARSKEIN_CLEAR = 4   /* the alarm mark, by 05 with value 0 */
 };
 
 /* The check value as a running state: the state before any byte. Touches no memory. */
@@ -325,6 +372,26 @@ uint32_t cedarskein_ring_check(const uint8_t *sheet, size_t sheet_n, const uint8
  * record's place and the two words change, and nothing else of the ring. */
 uint32_t cedarskein_add_record(const uint8_t *sheet, size_t sheet_n, uint8_t *ring, size_t ring_n, const uint8_t *record,
                                size_t record_n);
+
+/* Builds the query of an order (see "The box that asks"). Gives back
+ *   0: the query is the first *length bytes of out (8 to 99), its check included. The bytes of out behind it are as they
+ *      were;
+ *   the first of 9 and 5: *length is 0, and out is as it was.
+ * *length is written by every call. The values are only read, and only by order 3; where the order has no use for number or
+ * for values they are not looked at. */
+uint32_t cedarskein_query(uint32_t order, uint32_t station, uint32_t address, uint32_t number, const uint8_t *values,
+                          size_t values_n, uint8_t *out, size_t out_n, uint32_t *length);
+
+/* Reads what came back to the query of an order, its check included, as it came from the line. Gives back
+ *   0: with *error 0 the order is done. *length is then the number of bytes of values that stand in the first bytes of out,
+ *      upper byte first: twice number for orders 0 and 1, and 0 for the others. With *error 1, 2 or 3 the meter refused
+ *      with that code, and *length is 0. The bytes of out behind the values are as they were;
+ *   the first of 9, 5, 10, 11, 12 and 13: *length and *error are 0, and out is as it was.
+ * *length and *error are written by every call. The values and the reply are only read; of order 3's values only their
+ * number is looked at. */
+uint32_t cedarskein_reply(uint32_t order, uint32_t station, uint32_t address, uint32_t number, const uint8_t *values,
+                          size_t values_n, const uint8_t *reply, size_t reply_n, uint8_t *out, size_t out_n,
+                          uint32_t *length, uint32_t *error);
 
 #ifdef __cplusplus
 }
