@@ -111,6 +111,11 @@ fn number_of(refusal: Refusal) -> u16 {
         Refusal::NotReadOnly => 6,
         Refusal::BadInput => 7,
         Refusal::BadRing => 8,
+        Refusal::NoFrame => 9,
+        Refusal::ReplyDamaged => 10,
+        Refusal::ReplyStation => 11,
+        Refusal::ReplyFunction => 12,
+        Refusal::ReplyBody => 13,
     }
 }
 

@@ -1,4 +1,4 @@
-// The number of each case of the library's answers: rules N0 to N8, and Y0 to Y24 for the reasons.
+// The number of each case of the library's answers: rules N0 to N13, and Y0 to Y24 for the reasons.
 ghost use mathlib.Core.Path.{_≡_};
 ghost use Rattle.refusals.specs.Answers.{refusalNumber, answerNumber};
 ghost use Rattle.meter_rules.specs.Answer.{answeredNumber, lengthIn, rateIn};
@@ -22,6 +22,11 @@ fn of_refusal(refusal: Refusal) -> u32
         Refusal::NotReadOnly => 6,
         Refusal::BadInput => 7,
         Refusal::BadRing => 8,
+        Refusal::NoFrame => 9,
+        Refusal::ReplyDamaged => 10,
+        Refusal::ReplyStation => 11,
+        Refusal::ReplyFunction => 12,
+        Refusal::ReplyBody => 13,
     }
 }
 

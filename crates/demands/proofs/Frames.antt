@@ -13,7 +13,8 @@ use Rattle.lists.specs.Cases.{firstCase}
 use Rattle.bank_rules.specs.Bank.{bankBytes}
 use Rattle.bank_rules.specs.Calls.{Lent}
 use Rattle.meter_rules.specs.Steps.{judgedFrame}
-use Rattle.meter_rules.specs.Answer.{leastBuffer, frameCheck, actedOn, answerOutcome}
+use Rattle.frame.specs.Reply.{leastBuffer}
+use Rattle.meter_rules.specs.Answer.{frameCheck, actedOn, answerOutcome}
 use Rattle.plain.specs.Numbers.{Bytes, byte, word}
 use Rattle.plain.specs.Sheet.{LiesAt}
 use Rattle.plain.specs.Frame as fates

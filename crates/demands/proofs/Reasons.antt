@@ -11,7 +11,7 @@ use Rattle.lists.specs.Cases.{firstCase, mapped, InOrder}
 use Rattle.refusals.specs.declared.Answer.{Answer}
 use Rattle.refusals.specs.declared.Answer.the-variants.{Done, Refused}
 use Rattle.refusals.specs.declared.Refusal.{Refusal}
-use Rattle.refusals.specs.declared.Refusal.the-variants.{BrokenSheet, MisfittingBank, UnsoundBank, SmallBuffer, NotReadOnly, BadInput, BadRing}
+use Rattle.refusals.proofs.Numbers.{refusal-from-two}
 use Rattle.refusals.specs.Answers.{refusalNumber}
 use Rattle.bank_rules.specs.Calls.{Lent}
 use Rattle.bank_rules.proofs.Changes.{Passed}
@@ -40,15 +40,6 @@ use Rattle.demands.proofs.Frames.{frame-leaves}
 
 -- ---- what is told is true
 
-some-number : (refusal : Refusal) → refusalNumber refusal ≡ 0 → ⊥
-some-number BrokenSheet e = omega (arith, e)
-some-number MisfittingBank e = omega (arith, e)
-some-number UnsoundBank e = omega (arith, e)
-some-number SmallBuffer e = omega (arith, e)
-some-number NotReadOnly e = omega (arith, e)
-some-number BadInput e = omega (arith, e)
-some-number BadRing e = omega (arith, e)
-
 module _ (given : Lent) (frame : List ℕ) {told : Said} (call : Explains given frame told) (taken : told .number ≡ 0) where
   -- nothing was refused, so sheet and bank are sound and the ring goes with the sheet, and the reason is that of the facts
   record Explained : Type 0 where
@@ -61,7 +52,7 @@ module _ (given : Lent) (frame : List ℕ) {told : Said} (call : Explains given 
     where
       go : (answer : Answer) → lentAnswer given ≡ answer → told ≡ saidOf (explainedBy answer (reasonOf given frame)) → Explained
       go Done e is = record { passed = lent-passed given e .0; is = is }
-      go (Refused refusal) e is = absurd (some-number refusal (sym (ap (λ (s : Said). s .number) is) ∙ taken))
+      go (Refused refusal) e is = absurd (omega (arith, refusal-from-two refusal, ap (λ (s : Said). s .number) is, taken))
 
   sheet-bytes : Bytes (given .sheet)
   sheet-bytes = explains-bytes call .0

@@ -31,7 +31,8 @@ use Rattle.ring_rules.proofs.Calls.{ring-numbers, add-numbers, add-refused}
 use Rattle.meter_rules.specs.Judgement.{lentAnswer}
 use Rattle.meter_rules.proofs.Lending.{lent-numbers}
 use Rattle.meter_rules.specs.Steps.{judgedFrame}
-use Rattle.meter_rules.specs.Answer.{Outcome, answeredNumber, smallBuffer, frameRefusals, frameCheck, unlessRefused, actedOn, answerOutcome}
+use Rattle.frame.specs.Reply.{smallBuffer}
+use Rattle.meter_rules.specs.Answer.{Outcome, answeredNumber, frameRefusals, frameCheck, unlessRefused, actedOn, answerOutcome}
 use Rattle.meter_rules.proofs.Outcomes.{outcome-cases, frame-numbers, answered-takes}
 use Rattle.why_rules.specs.Reasons.{reasonOf, explainedBy, explanation}
 use Rattle.cedarskein.specs.Door.{Told, RingTold, Handed, Said, told, toldOf, handed, handedOf, said, saidOf}

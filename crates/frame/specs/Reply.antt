@@ -54,6 +54,13 @@ errorLength = 5
 abbrev pub laid : List ℕ → List ℕ → List ℕ
 laid reply buffer = reply ++ drop (length reply) buffer
 
+-- rule N5: a buffer with too few bytes
+abbrev pub leastBuffer : ℕ
+leastBuffer = 100
+
+abbrev pub smallBuffer : List ℕ → Bool
+smallBuffer buffer = ltb (length buffer) leastBuffer
+
 -- a reply has room: it is neither longer than a frame can be nor longer than the buffer
 abbrev pub hasRoom : List ℕ → List ℕ → Bool
 hasRoom reply buffer = leb (length reply) longest && leb (length reply) (length buffer)

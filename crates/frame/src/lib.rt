@@ -25,6 +25,9 @@ pub const ERROR_LENGTH: u32 = 5;
 
 pub const ECHO_LENGTH: u32 = 8;
 
+// The least buffer for a frame: it has room for each that is laid.
+pub const LEAST_BUFFER: usize = 100;
+
 // The parts of a frame that the order of judgement speaks of.
 pub struct Parts {
     pub station: u8,

@@ -14,7 +14,8 @@ use Rattle.bank_rules.specs.Calls.{Lent}
 use Rattle.meter_rules.specs.Judgement.{lentRefusals, lentAnswer}
 use Rattle.meter_rules.specs.declared.Answered.the-variants.{Refused}
 use Rattle.meter_rules.specs.Steps.{judgedFrame}
-use Rattle.meter_rules.specs.Answer.{Outcome, outcome, smallBuffer, frameCheck, unlessRefused, actedOn, answerOutcome}
+use Rattle.frame.specs.Reply.{smallBuffer}
+use Rattle.meter_rules.specs.Answer.{Outcome, outcome, frameCheck, unlessRefused, actedOn, answerOutcome}
 
 module _ (given : Lent) (frame buffer : List ℕ) {checked : Answer} (is : checked ≡ lentAnswer given) where
   abbrev acted : Outcome

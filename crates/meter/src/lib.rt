@@ -13,9 +13,6 @@ use meter_rules::Judgement;
 use refusals::Answer;
 use refusals::Refusal;
 
-// The least answer buffer: it has room for every reply.
-pub const LEAST_BUFFER: usize = 100;
-
 // The refusals of every call with a frame, 2, 3, 4 and 8 in this order: those of the bank's check, and a ring that does not go with the sheet.
 fn check(sheet: &[u8], bank: &[u8], ring: &[u8]) -> Answer
     ensures { λ r. ⌜ r ≡ lentAnswer (lentWith (now (sheet .entry)) (now (bank .entry)) (now (ring .entry))) ⌝ }
@@ -55,7 +52,7 @@ pub fn answer(
         Answer::Done => {}
         Answer::Refused(refusal) => return Answered::Refused(refusal),
     }
-    if buffer.len() < LEAST_BUFFER {
+    if buffer.len() < frame::LEAST_BUFFER {
         return Answered::Refused(Refusal::SmallBuffer);
     }
     let judged = stages::judged_frame(sheet, bank, ring, frame);

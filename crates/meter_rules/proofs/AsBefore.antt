@@ -28,7 +28,8 @@ use Rattle.meter_rules.specs.declared.Judged.the-variants.{FailsCheck, O
 use Rattle.meter_rules.specs.Write.{firstPlace, wouldBe, touched, badItem, someBad, stopIn, stopOf, stopPlace, stopSide}
 use Rattle.meter_rules.specs.Steps.{failsCheck, otherStation, functionNotAllowed, wrongLength, wrongCount, wrongAddress, wrongValue, badWrite, goodFrame, judgedFrame}
 use Rattle.meter_rules.specs.Reply.{replyTo, storesOf}
-use Rattle.meter_rules.specs.Answer.{Outcome, actedOn, smallBuffer, unlessRefused, frameCheck, answerOutcome}
+use Rattle.frame.specs.Reply.{smallBuffer}
+use Rattle.meter_rules.specs.Answer.{Outcome, actedOn, unlessRefused, frameCheck, answerOutcome}
 use Rattle.meter_rules.proofs.Stopping.{stopsAt, storesTo}
 use Rattle.meter_rules.proofs.Soundness.{stores-to-stop}
 

@@ -15,14 +15,13 @@ use Rattle.frame.specs.Frame.{mostRead, function, reads, start, count, run, sec
 use Rattle.sheet_rules.specs.Rows.{recordArea}
 use Rattle.sheet_rules.specs.Rules.{sound}
 use Rattle.sheet_rules.proofs.Records.{in-records-has, records-rules}
-use Rattle.frame.specs.Reply.{readReply, withCheck, hasRoom}
+use Rattle.frame.specs.Reply.{readReply, withCheck, hasRoom, leastBuffer}
 use Rattle.sheet_rules.specs.declared.Purpose.the-variants.{Read}
 use Rattle.meter_rules.specs.Reply.{replyTo}
 use Rattle.frame.proofs.Reading.{write-echo, read-length}
 use Rattle.lists.specs.Cases.{firstCase, when}
 use Rattle.meter_rules.specs.Steps.{startsInRecords, askedStart, wrongAddress, judgedFrame, failsCheck, goodFrame, otherStation, functionNotAllowed, wrongLength, wrongCount, wrongValue, badWrite}
 use Rattle.frame.proofs.Closing.{closed-length, closed-checked, Closed, error-closed, closing, echo-closed}
-use Rattle.meter_rules.specs.Answer.{leastBuffer}
 use lib.Dec.{leb, ltb, eqb}
 use Rattle.frame.proofs.Laying.{has-room}
 use Rattle.sheet_rules.specs.Runs.{allOpen}

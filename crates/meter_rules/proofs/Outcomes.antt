@@ -10,9 +10,9 @@ use lib.Seq.{take-at}
 use lib.Dec.{eqb}
 use borrow.Author.Tests.{eq-eqb, ne-eqb, eqb-true, eqb-false, not-false}
 use Rattle.check_value.specs.Frame.{passes}
-use Rattle.frame.specs.Reply.{errorReply, withCheck}
+use Rattle.frame.specs.Reply.{errorReply, withCheck, smallBuffer}
 use Rattle.refusals.specs.declared.Refusal.{Refusal}
-use Rattle.refusals.specs.declared.Refusal.the-variants.{BrokenSheet, MisfittingBank, UnsoundBank, SmallBuffer, NotReadOnly, BadInput, BadRing}
+use Rattle.refusals.proofs.Numbers.{refusal-from-two}
 use Rattle.refusals.specs.declared.Answer.{Answer}
 use Rattle.refusals.specs.declared.Answer.the-variants as answer
 use Rattle.refusals.specs.declared.Answer.the-variants.{Done}
@@ -32,7 +32,7 @@ use Rattle.meter_rules.specs.declared.Judged.{Judged}
 use Rattle.meter_rules.specs.declared.Judged.the-variants.{FailsCheck, OtherStation, FunctionNotAllowed, WrongLength, WrongCount, WrongAddress, WrongValue, BadItem, GoodRead, GoodRecord, GoodClear, GoodWrite}
 use Rattle.meter_rules.specs.Steps.{judgedFrame}
 use Rattle.meter_rules.specs.Reply.{errorCode, goodReply, replyTo, storesOf}
-use Rattle.meter_rules.specs.Answer.{Outcome, outcome, answeredNumber, lengthIn, answeredBy, smallBuffer, frameRefusals, frameCheck, frameEffect, unlessRefused, actedOn, answerOutcome}
+use Rattle.meter_rules.specs.Answer.{Outcome, outcome, answeredNumber, lengthIn, answeredBy, frameRefusals, frameCheck, frameEffect, unlessRefused, actedOn, answerOutcome}
 use Rattle.meter_rules.proofs.Closing.{readFits, judged-fits, reply-sized, reply-passes}
 
 -- ---- a refusal, or what becomes of the frame
@@ -126,15 +126,6 @@ pub record Sized (outcome : Outcome) : Type 0 where
   pub most : lengthIn (outcome .answered) ≤ 99
   pub checked : passes (take (lengthIn (outcome .answered)) (outcome .buffer)) ≡ true
 
-refused-number : (refusal : Refusal) → 2 ≤ answeredNumber (Refused refusal)
-refused-number BrokenSheet = omega arith
-refused-number MisfittingBank = omega arith
-refused-number UnsoundBank = omega arith
-refused-number SmallBuffer = omega arith
-refused-number NotReadOnly = omega arith
-refused-number BadInput = omega arith
-refused-number BadRing = omega arith
-
 acted-sized : (judged : Judged) (given : Lent) (frame buffer : List ℕ) → readFits judged ≡ true
     → answeredNumber (actedOn judged given frame buffer .answered) ≡ 0 → Sized (actedOn judged given frame buffer)
 unfolding actedOn
@@ -153,7 +144,7 @@ pub answer-sized : (given : Lent) (frame buffer : List ℕ) → answeredNumber (
     → Sized (answerOutcome given frame buffer)
 answer-sized given frame buffer =
     outcome-cases given frame buffer (λ o. answeredNumber (o .answered) ≡ 0 → Sized o)
-    (λ refusal e. absurd (omega (arith, refused-number refusal)))
+    (λ refusal e. absurd (omega (arith, refusal-from-two refusal)))
     (λ found ringed. acted-sized (judgedFrame given frame) given frame buffer (judged-fits given frame (found .right)))
 
 -- ---- what leaves the bank as it is
@@ -208,7 +199,7 @@ refused-as-before given frame buffer refusal =
     (λ other e. (refl, refl))
     (λ found ringed e. absurd (omega (
       arith,
-      refused-number refusal,
+      refusal-from-two refusal,
       ap answeredNumber e,
       answered-takes (judgedFrame given frame) (given .bank) (given .ring) frame (rateOf (given .sheet) (given .bank)),
     )))

@@ -1,8 +1,8 @@
 -- The whole outcome of a call with one frame: what is handed back, the bank afterwards and the answer buffer afterwards. Assumes nothing.
 use Prim.Native.Nat.{ℕ}
-use mathlib.Core.Bool.{Bool, cond}
+use mathlib.Core.Bool.{cond}
 use mathlib.Core.List.{List, [], _∷_, _++_}
-use lib.Dec.{ltb, eqb}
+use lib.Dec.{eqb}
 use lib.ListN.{length}
 use Rattle.bank_rules.specs.Stores.{Store, stored}
 use Rattle.bank_rules.specs.Bank.{rateOf}
@@ -20,7 +20,7 @@ use Rattle.meter_rules.specs.declared.Judged.{Judged}
 use Rattle.meter_rules.specs.Steps.{judgedFrame}
 use Rattle.meter_rules.specs.Judgement.{lentRefusals}
 use Rattle.meter_rules.specs.Reply.{errorCode, replyTo, storesOf}
-use Rattle.frame.specs.Reply.{errorLength, laid}
+use Rattle.frame.specs.Reply.{errorLength, laid, smallBuffer}
 
 -- rules N0 to N5, N8 and F4: the number of each answer
 abbrev pub answeredNumber : Answered → ℕ
@@ -41,13 +41,6 @@ rateIn (Reply length rate) = rate
 rateIn (Error code rate) = rate
 rateIn Silence = 0
 rateIn (Refused refusal) = 0
-
--- rule N5
-abbrev pub leastBuffer : ℕ
-leastBuffer = 100
-
-abbrev pub smallBuffer : List ℕ → Bool
-smallBuffer buffer = ltb (length buffer) leastBuffer
 
 -- what a call hands back, the bank afterwards, and the answer buffer afterwards
 pub record Outcome : Type 0 where

@@ -3,11 +3,11 @@ use Prim.Native.Nat.{ℕ}
 use mathlib.Core.List.{List}
 use Rattle.lists.specs.Cases.{Case, mapped, firstCase}
 use Rattle.refusals.specs.declared.Refusal.{Refusal}
-use Rattle.refusals.specs.declared.Refusal.the-variants.{BrokenSheet, MisfittingBank, UnsoundBank, SmallBuffer, NotReadOnly, BadInput, BadRing}
+use Rattle.refusals.specs.declared.Refusal.the-variants.{BrokenSheet, MisfittingBank, UnsoundBank, SmallBuffer, NotReadOnly, BadInput, BadRing, NoFrame, ReplyDamaged, ReplyStation, ReplyFunction, ReplyBody}
 use Rattle.refusals.specs.declared.Answer.{Answer}
 use Rattle.refusals.specs.declared.Answer.the-variants.{Done, Refused}
 
--- rules N2 to N8 and F4
+-- rules N2 to N13 and F4
 abbrev pub refusalNumber : Refusal → ℕ
 refusalNumber BrokenSheet = 2
 refusalNumber MisfittingBank = 3
@@ -16,6 +16,11 @@ refusalNumber SmallBuffer = 5
 refusalNumber NotReadOnly = 6
 refusalNumber BadInput = 7
 refusalNumber BadRing = 8
+refusalNumber NoFrame = 9
+refusalNumber ReplyDamaged = 10
+refusalNumber ReplyStation = 11
+refusalNumber ReplyFunction = 12
+refusalNumber ReplyBody = 13
 
 -- rule N0, done
 abbrev pub answerNumber : Answer → ℕ

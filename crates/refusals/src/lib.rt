@@ -1,6 +1,6 @@
 // What a call answers: done, or refused and why. specs/ has the numbers of the refusals. There is no code here.
 
-// Why a call is refused: rules N2 to N8, in the order of their numbers.
+// Why a call is refused: rules N2 to N13, in the order of their numbers.
 pub enum Refusal {
     BrokenSheet,
     MisfittingBank,
@@ -9,6 +9,11 @@ pub enum Refusal {
     NotReadOnly,
     BadInput,
     BadRing,
+    NoFrame,
+    ReplyDamaged,
+    ReplyStation,
+    ReplyFunction,
+    ReplyBody,
 }
 
 // What a call answers.

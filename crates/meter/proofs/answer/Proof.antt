@@ -11,7 +11,8 @@ use Rattle.bank_rules.specs.Calls.{Lent, lentWith}
 use Rattle.meter_rules.proofs.Lending.{lent-passed}
 use Rattle.meter_rules.specs.declared.Judged.{Judged}
 use Rattle.meter_rules.specs.Judgement.{lentAnswer}
-use Rattle.meter_rules.specs.Answer.{leastBuffer, actedOn}
+use Rattle.frame.specs.Reply.{leastBuffer}
+use Rattle.meter_rules.specs.Answer.{actedOn}
 use Rattle.meter_rules.proofs.Closing.{judged-room}
 use Rattle.meter.proofs.Answering.{answer-refused, answer-small, answer-acted}
 use borrow.Author.Needs.{needs}
