@@ -1,0 +1,2 @@
+pub mod QueryCases
+pub mod ReplyCases
