@@ -10,7 +10,7 @@ use Rattle.lists.specs.Lists.{each, samePlaces}
 use Rattle.lists.specs.Cases.{firstCase}
 use Rattle.check_value.specs.Check.{valueOf}
 use Rattle.frame.specs.Reply.{withCheck}
-use Rattle.controller_rules.specs.Order.{ask, orderBy, noFrame}
+use Rattle.controller_rules.specs.Order.{askedBy, noFrame}
 use Rattle.controller_rules.specs.Query.{QueryOutcome, query, builtQuery, buildOutcome, builtNumber, builtLength}
 
 -- what is handed over: the order by its number, the station, the address, the number, the values, and a buffer of so many bytes; and what is handed
@@ -44,7 +44,7 @@ builtSo outcome this =
 unfoldable pub right : Row → Bool
 unfolding buildOutcome
 right this =
-    builtSo (buildOutcome (ask (orderBy (this .order) (this .address) (this .number)) (this .station) (this .values)) (replicate (this .room) 0xA5)) this
+    builtSo (buildOutcome (askedBy (this .order) (this .station) (this .address) (this .number) (this .values)) (replicate (this .room) 0xA5)) this
 
 unfoldable pub table : List Row
 table =

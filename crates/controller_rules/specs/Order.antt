@@ -27,6 +27,10 @@ orderBy kind address number =
     (cond (eqb kind 3) (Writes address)
     (cond (eqb kind 4) (Clear address) Unknown))))
 
+-- what is asked, by the numbers that are handed over
+abbrev pub askedBy : ℕ → ℕ → ℕ → ℕ → List ℕ → Asked
+askedBy kind station address number values = ask (orderBy kind address number) station values
+
 -- rule Q3: its function. (Of an order of no known kind nothing asks for this, nor for the address.)
 abbrev pub functionOf : Order → ℕ
 functionOf (Read start count) = reads
@@ -92,6 +96,10 @@ noStation station = not (between leastStation mostStation station)
 abbrev pub mostWritten : ℕ
 mostWritten = 45
 
+-- rule Q13: the bytes of several writes are odd in number, or too few or too many
+abbrev pub wrongValues : List ℕ → Bool
+wrongValues values = not (eqb (length values % 2) 0) || not (between 1 mostWritten (valueCount values))
+
 -- a word has sixteen bits
 abbrev pub highestWord : ℕ
 highestWord = 0xFFFF
@@ -101,7 +109,7 @@ abbrev pub wrongNumber : Order → List ℕ → Bool
 wrongNumber (Read start count) values = not (between 1 mostRead count)
 wrongNumber (Record address words) values = not (between 1 mostRead words)
 wrongNumber (Write address value) values = ltb highestWord value
-wrongNumber (Writes start) values = not (eqb (length values % 2) 0) || not (between 1 mostWritten (valueCount values))
+wrongNumber (Writes start) values = wrongValues values
 wrongNumber (Clear address) values = false
 wrongNumber Unknown values = true
 

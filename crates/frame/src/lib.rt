@@ -64,7 +64,7 @@ pub fn taken_apart(frame: &[u8]) -> Passed
 const TOP_BIT: u8 = 0x80;
 
 // A function byte in an error: rule R5.
-fn top_bit_set(function: u8) -> u8
+pub fn top_bit_set(function: u8) -> u8
     ensures { λ r. ⌜ r ≡ topBitSet function ⌝ }
 {
     if function < TOP_BIT {

@@ -1,0 +1,4 @@
+pub mod Tests
+pub mod Building
+pub mod Reading
+pub mod Determined
