@@ -24,6 +24,10 @@ use Rattle.cedarskein.proofs.cedarskein_answer.Kinds as answer
 use Rattle.cedarskein.proofs.cedarskein_answer.Reads as answer-reads
 use Rattle.cedarskein.proofs.cedarskein_why.Kinds as why
 use Rattle.cedarskein.proofs.cedarskein_why.Reads as why-reads
+use Rattle.cedarskein.proofs.cedarskein_query.Kinds as query
+use Rattle.cedarskein.proofs.cedarskein_query.Reads as query-reads
+use Rattle.cedarskein.proofs.cedarskein_reply.Kinds as reply
+use Rattle.cedarskein.proofs.cedarskein_reply.Reads as reply-reads
 
 pub cedarskein-check-start-determined : Determined 0 check-start.ps check-start.r check-start-reads.Post
 cedarskein-check-start-determined κs a x y = read-off (λ r. (r, x .1))
@@ -62,3 +66,11 @@ cedarskein-answer-determined κs a x y p q =
 pub cedarskein-why-determined : Determined 7 why.ps why.r why-reads.Post
 cedarskein-why-determined κs a x y p q =
     read-off (λ s. (s .number, (tt, (tt, (tt, (tt, (s .reason, (s .address, (s .side, tt))))))))) (p .0) (q .0)
+
+pub cedarskein-query-determined : Determined 3 query.ps query.r query-reads.Post
+cedarskein-query-determined κs a x y p q =
+    read-off (λ t. (t .number, (tt, (tt, (tt, (tt, (tt, (t .buffer, (t .length, tt))))))))) (p .0) (q .0)
+
+pub cedarskein-reply-determined : Determined 5 reply.ps reply.r reply-reads.Post
+cedarskein-reply-determined κs a x y p q =
+    read-off (λ t. (t .number, (tt, (tt, (tt, (tt, (tt, (tt, (t .buffer, (t .length, (t .error, tt))))))))))) (p .0) (q .0)

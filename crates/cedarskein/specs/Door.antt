@@ -1,10 +1,12 @@
--- What the firmware is handed: the numbers of sections N and Y of the rules, and the lent buffers as they are afterwards. Assumes nothing.
+-- What the firmware is handed: the numbers of sections N, Y and Q of the rules, and the lent buffers as they are afterwards. Assumes nothing.
 use Prim.Native.Nat.{ℕ}
 use mathlib.Core.List.{List}
 use Rattle.refusals.specs.Answers.{answerNumber}
 use Rattle.bank_rules.specs.Calls.{BankOutcome}
 use Rattle.ring_rules.specs.Calls.{RingOutcome}
 use Rattle.meter_rules.specs.Answer.{Outcome, answeredNumber, lengthIn, rateIn}
+use Rattle.controller_rules.specs.Query.{QueryOutcome, builtNumber, builtLength}
+use Rattle.controller_rules.specs.Reading.{ReplyOutcome, readingNumber, readingLength, readingError}
 use Rattle.why_rules.specs.declared.Explained.{Explained}
 use Rattle.why_rules.specs.Reasons.{explainedNumber, reasonIn, addressIn, sideIn}
 
@@ -58,3 +60,29 @@ said number reason address side = record { number = number; reason = reason; add
 
 abbrev pub saidOf : Explained → Said
 saidOf explained = said (explainedNumber explained) (reasonIn explained) (addressIn explained) (sideIn explained)
+
+-- rule Q23: the number and the length of a call that builds a query, and the buffer afterwards
+pub record QueryTold : Type 0 where
+  pub number : ℕ
+  pub length : ℕ
+  pub buffer : List ℕ
+
+abbrev pub queryTold : ℕ → ℕ → List ℕ → QueryTold
+queryTold number length buffer = record { number = number; length = length; buffer = buffer }
+
+abbrev pub queryToldOf : QueryOutcome → QueryTold
+queryToldOf outcome = queryTold (builtNumber (outcome .built)) (builtLength (outcome .built)) (outcome .buffer)
+
+-- rules Q41 and Q42: the number, the length and the error code of a call that reads a reply, and the buffer afterwards
+pub record ReplyTold : Type 0 where
+  pub number : ℕ
+  pub length : ℕ
+  pub error : ℕ
+  pub buffer : List ℕ
+
+abbrev pub replyTold : ℕ → ℕ → ℕ → List ℕ → ReplyTold
+replyTold number length error buffer = record { number = number; length = length; error = error; buffer = buffer }
+
+abbrev pub replyToldOf : ReplyOutcome → ReplyTold
+replyToldOf outcome =
+    replyTold (readingNumber (outcome .reading)) (readingLength (outcome .reading)) (readingError (outcome .reading)) (outcome .buffer)

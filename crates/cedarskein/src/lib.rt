@@ -1,4 +1,4 @@
-// The door for the board's firmware: the library's calls over byte slices (a pointer and a length) and numbers, as C has them.
+// The door for the firmware of a board, and of a box that asks boards: the library's calls over byte slices (a pointer and a length) and numbers, as C has them.
 ghost use mathlib.Core.Path.{_≡_};
 ghost use Rattle.words.specs.Words.{Bytes};
 ghost use Rattle.check_value.specs.Check.{startState, taken, valueOf};
@@ -8,7 +8,10 @@ ghost use Rattle.bank_rules.specs.Calls.{lent, lentWith, checkAnswer, freshOutc
 ghost use Rattle.ring_rules.specs.Calls.{ringAnswer, addOutcome};
 ghost use Rattle.meter_rules.specs.Answer.{answerOutcome};
 ghost use Rattle.why_rules.specs.Reasons.{explanation};
-ghost use Rattle.cedarskein.specs.Door.{told, toldOf, ringTold, ringToldOf, handed, handedOf, said, saidOf};
+ghost use Rattle.controller_rules.specs.Order.{askedBy};
+ghost use Rattle.controller_rules.specs.Query.{buildOutcome};
+ghost use Rattle.controller_rules.specs.Reading.{readingOutcome};
+ghost use Rattle.cedarskein.specs.Door.{told, toldOf, ringTold, ringToldOf, handed, handedOf, said, saidOf, queryTold, queryToldOf, replyTold, replyToldOf};
 
 mod numbers;
 
@@ -137,4 +140,49 @@ pub extern "C" fn cedarskein_why(
     *address = numbers::address_in(explained);
     *side = numbers::side_in(explained);
     numbers::of_explained(explained)
+}
+
+// Builds the query of an order: 0 with its length, or 9, 5 in this order. The length is written on every call, 0 with a refusal. The second promise
+// is as above.
+#[no_mangle]
+pub extern "C" fn cedarskein_query(
+    order: u32,
+    station: u32,
+    address: u32,
+    number: u32,
+    values: &[u8],
+    out: &mut [u8],
+    length: &mut u32,
+) -> u32
+    ensures { λ r. ⌜ queryTold r (now (length .exit)) (now (out .exit)) ≡ queryToldOf (buildOutcome (askedBy order station address number (now (values .entry))) (now (out .entry))) ⌝ }
+    ensures { λ r. ⌜ Bytes (now (values .entry)) × Bytes (now (out .entry)) × Bytes (now (out .exit)) ⌝ }
+{
+    let asked = numbers::order_of(order, address, number);
+    let built = controller::query(asked, station, values, out);
+    *length = numbers::length_built(built);
+    numbers::of_built(built)
+}
+
+// Reads a reply against the order that it answers: 0 with the length of the values and the error code, or 9, 5, 10, 11, 12, 13 in this order. Both
+// are written on every call, zeros with a refusal. The second promise is as above.
+#[no_mangle]
+pub extern "C" fn cedarskein_reply(
+    order: u32,
+    station: u32,
+    address: u32,
+    number: u32,
+    values: &[u8],
+    reply: &[u8],
+    out: &mut [u8],
+    length: &mut u32,
+    error: &mut u32,
+) -> u32
+    ensures { λ r. ⌜ replyTold r (now (length .exit)) (now (error .exit)) (now (out .exit)) ≡ replyToldOf (readingOutcome (askedBy order station address number (now (values .entry))) (now (reply .entry)) (now (out .entry))) ⌝ }
+    ensures { λ r. ⌜ Bytes (now (values .entry)) × Bytes (now (reply .entry)) × Bytes (now (out .entry)) × Bytes (now (out .exit)) ⌝ }
+{
+    let asked = numbers::order_of(order, address, number);
+    let reading = controller::reply(asked, station, values, reply, out);
+    *length = numbers::length_read(reading);
+    *error = numbers::error_read(reading);
+    numbers::of_reading(reading)
 }

@@ -1,9 +1,15 @@
-// The number of each case of the library's answers: rules N0 to N13, and Y0 to Y24 for the reasons.
+// The number of each case of the library's answers: rules N0 to N13, Y0 to Y24 for the reasons, and Q2, Q23 and Q41 for orders.
 ghost use mathlib.Core.Path.{_≡_};
 ghost use Rattle.refusals.specs.Answers.{refusalNumber, answerNumber};
 ghost use Rattle.meter_rules.specs.Answer.{answeredNumber, lengthIn, rateIn};
 ghost use Rattle.why_rules.specs.Reasons.{reasonNumber, reasonAddress, reasonSide, explainedNumber, reasonIn, addressIn, sideIn};
 ghost use Rattle.range.specs.Range.{sideNumber};
+ghost use Rattle.controller_rules.specs.Order.{orderBy};
+ghost use Rattle.controller_rules.specs.Query.{builtNumber, builtLength};
+ghost use Rattle.controller_rules.specs.Reading.{readingNumber, readingLength, readingError};
+use controller_rules::Built;
+use controller_rules::Order;
+use controller_rules::Reading;
 use meter_rules::Answered;
 use range::Side;
 use refusals::Answer;
@@ -177,5 +183,89 @@ pub(crate) fn side_in(explained: Explained) -> u32
     match explained {
         Explained::Refused(_) => 0,
         Explained::Because(reason) => side_with(reason),
+    }
+}
+
+// An order by its number.
+pub(crate) fn order_of(kind: u32, address: u32, number: u32) -> Order
+    ensures { λ r. ⌜ r ≡ orderBy kind address number ⌝ }
+{
+    if kind == 0 {
+        return Order::Read {
+            start: address,
+            count: number,
+        };
+    }
+    if kind == 1 {
+        return Order::Record {
+            address,
+            words: number,
+        };
+    }
+    if kind == 2 {
+        return Order::Write {
+            address,
+            value: number,
+        };
+    }
+    if kind == 3 {
+        return Order::Writes { start: address };
+    }
+    if kind == 4 {
+        return Order::Clear { address };
+    }
+    Order::Unknown
+}
+
+// The number of what building a query answers, and the length of the query; 0 with a refusal.
+pub(crate) fn of_built(built: Built) -> u32
+    ensures { λ r. ⌜ r ≡ builtNumber built ⌝ }
+{
+    match built {
+        Built::Query { length: _ } => 0,
+        Built::Refused(refusal) => of_refusal(refusal),
+    }
+}
+
+pub(crate) fn length_built(built: Built) -> u32
+    ensures { λ r. ⌜ r ≡ builtLength built ⌝ }
+{
+    match built {
+        Built::Query { length } => length,
+        Built::Refused(_) => 0,
+    }
+}
+
+// The number of what reading a reply answers, the length of the values and the error code; 0 where there is none.
+pub(crate) fn of_reading(reading: Reading) -> u32
+    ensures { λ r. ⌜ r ≡ readingNumber reading ⌝ }
+{
+    match reading {
+        Reading::Values { length: _ } => 0,
+        Reading::Done => 0,
+        Reading::Error { code: _ } => 0,
+        Reading::Refused(refusal) => of_refusal(refusal),
+    }
+}
+
+pub(crate) fn length_read(reading: Reading) -> u32
+    ensures { λ r. ⌜ r ≡ readingLength reading ⌝ }
+{
+    match reading {
+        Reading::Values { length } => length,
+        Reading::Done => 0,
+        Reading::Error { code: _ } => 0,
+        Reading::Refused(_) => 0,
+    }
+}
+
+pub(crate) fn error_read(reading: Reading) -> u32
+    ensures { λ r. ⌜ r ≡ readingError reading ⌝ }
+{
+    match reading {
+        Reading::Values { length: _ } => 0,
+        Reading::Done => 0,
+        Reading::Error { code } => code as u32,
+        Reading::Refused(_) => 0,
     }
 }
