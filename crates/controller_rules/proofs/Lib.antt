@@ -1,3 +1,4 @@
 pub mod Framed
+pub mod Queries
 pub mod QueryCases
 pub mod ReplyCases

@@ -1,11 +1,15 @@
--- Every reply with its check behind it has 5 to 99 bytes and passes the check. Assumes nothing.
+-- Every reply with its check behind it has 5 to 99 bytes, is of bytes and passes the check. Assumes nothing.
 use mathlib.Core.Path.{_≡_, refl, ap, _∙_}
 use mathlib.Core.Bool.{true}
-use mathlib.Core.List.{List}
-use Prim.Native.Nat.{ℕ, _+_, _≤_}
+use mathlib.Core.List.{List, [], _∷_}
+use Prim.Native.Nat.{ℕ, _+_, _/_, _%_, _<_, _≤_}
 use native.Mathlib.Omega.{arith}
 use lib.ListN.{length}
+use Rattle.words.specs.Words.{Bytes}
+use Rattle.words.proofs.Small.{are-bytes, bytes-none, bytes-one, bytes-both}
+use Rattle.check_value.specs.Check.{valueOf}
 use Rattle.check_value.specs.Frame.{passes}
+use Rattle.check_value.proofs.Shift.{value-below}
 use Rattle.check_value.proofs.Zero.{closed-passes}
 use Rattle.frame.specs.Reply.{errorReply, echo, withCheck}
 use Rattle.frame.proofs.Reading.{check-length}
@@ -25,6 +29,15 @@ error-closed frame code = closing (errorReply frame code) (omega arith) (omega a
 
 pub echo-closed : (frame : List ℕ) → Closed (withCheck (echo frame))
 echo-closed frame = closing (echo frame) (omega arith) (omega arith)
+
+-- a check of bytes is two bytes
+pub closed-bytes : (bytes : List ℕ) → Bytes bytes → Bytes (withCheck bytes)
+unfolding withCheck
+closed-bytes bytes small =
+    let value : ℕ = valueOf bytes in
+    let below : value < 0x10000 = value-below bytes (are-bytes bytes small) in
+    bytes-both bytes (value % 256 ∷ value / 256 ∷ []) small
+    (bytes-one (value % 256) (value / 256 ∷ []) (omega arith) (bytes-one (value / 256) [] (omega (arith, below)) bytes-none))
 
 module _ {reply : List ℕ} (closed : Closed reply) where
   pub closed-length : (5 ≤ length reply) × (length reply ≤ 99)

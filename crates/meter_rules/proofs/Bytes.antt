@@ -2,18 +2,17 @@
 use mathlib.Core.Path.{_≡_, refl}
 use mathlib.Core.Bool.{Bool, true, false, cond}
 use mathlib.Core.List.{List, [], _∷_, _++_, map}
-use Prim.Native.Nat.{ℕ, _+_, _-_, _*_, _/_, _%_, _<_, _≤_}
+use Prim.Native.Nat.{ℕ, _+_, _-_, _*_, _<_, _≤_}
 use native.Mathlib.Omega.{arith}
 use lib.Dec.{ltb, eqb}
 use lib.ListN.{length, drop}
 use borrow.Author.Tests.{ltb-true, leb-true}
 use Rattle.lists.specs.Lists.{upFrom}
 use Rattle.words.specs.Words.{Bytes, withWord, wordBytes, bytesOf}
-use Rattle.words.proofs.Small.{word-below, are-bytes, bytes-none, bytes-one, bytes-both, bytes-behind, bytes-word, bytes-stored, bytes-words}
-use Rattle.check_value.specs.Check.{valueOf}
-use Rattle.check_value.proofs.Shift.{value-below}
+use Rattle.words.proofs.Small.{word-below, bytes-none, bytes-one, bytes-both, bytes-behind, bytes-word, bytes-stored, bytes-words}
 use Rattle.frame.specs.Frame.{reads, writesMany, mostRead, station, function, start, second, valuesAt, sent}
-use Rattle.frame.specs.Reply.{wordsFrom, readReply, echo, writeReply, topBit, topBitSet, errorReply, withCheck}
+use Rattle.frame.specs.Reply.{wordsFrom, readReply, echo, writeReply, topBit, topBitSet, errorReply}
+use Rattle.frame.proofs.Closing.{closed-bytes}
 use Rattle.bank_rules.specs.Stores.{stored}
 use Rattle.bank_rules.specs.Bank.{markPlace}
 use Rattle.bank_rules.specs.Calls.{Lent}
@@ -27,15 +26,6 @@ use Rattle.meter_rules.proofs.Closing.{readFits, judged-fits}
 use Rattle.meter_rules.proofs.Outcomes.{outcome-cases}
 
 -- ---- the reply
-
--- a check of bytes is two bytes
-closed-bytes : (bytes : List ℕ) → Bytes bytes → Bytes (withCheck bytes)
-unfolding withCheck
-closed-bytes bytes small =
-    let value : ℕ = valueOf bytes in
-    let below : value < 0x10000 = value-below bytes (are-bytes bytes small) in
-    bytes-both bytes (value % 256 ∷ value / 256 ∷ []) small
-    (bytes-one (value % 256) (value / 256 ∷ []) (omega arith) (bytes-one (value / 256) [] (omega (arith, below)) bytes-none))
 
 module _ (frame : List ℕ) (small : Bytes frame) where
   top-bit-byte : (byte : ℕ) → byte < 256 → topBitSet byte < 256
