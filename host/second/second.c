@@ -1247,14 +1247,18 @@ static uint32_t reply_body(const struct query *query, uint8_t *out, enum second_
     return reply_echo(query, out);
 }
 
-/* rule R6 */
-static uint32_t reply(const struct query *query, uint8_t *out, enum second_step step)
+/* rule R6: the check behind n bytes; the length of the whole frame is handed back. */
+static uint32_t add_check(uint8_t *out, uint32_t n)
 {
-    uint32_t n = reply_body(query, out, step);
     uint16_t value = second_check_value(out, n);
     out[n] = (uint8_t)(value & 0xFF);
     out[n + 1] = (uint8_t)(value >> 8);
     return n + 2;
+}
+
+static uint32_t reply(const struct query *query, uint8_t *out, enum second_step step)
+{
+    return add_check(out, reply_body(query, out, step));
 }
 
 /* rule R7: the rate is taken before anything is stored, and the station is that
@@ -1519,4 +1523,215 @@ uint32_t second_why(const uint8_t *sheet, size_t sheet_n,
 const char *second_reason_name(enum second_reason reason)
 {
     return reasons[reason].name;
+}
+
+/* ---- The box that asks: its orders ----
+ * The box has no sheet and no bank. All that it goes by is the order, and what comes
+ * back is read against that alone. */
+
+struct order {
+    uint32_t kind;                  /* one of enum second_order, or none */
+    uint32_t station, address;
+    uint32_t number;                /* how many words, or the value of a write */
+    const uint8_t *values;          /* for several writes */
+    size_t values_n;
+};
+
+/* What fits 100 bytes: the reply to a read, and the query of a write. */
+enum { MOST_ASKED = 47, MOST_WRITTEN = 45 };
+
+static bool words_fit(size_t words, size_t most)
+{
+    return 1 <= words && words <= most;
+}
+
+/* Whether a run of addresses ends by FFFF. 64 bits, since the sum of two numbers of
+ * 32 bits need not fit these. */
+static bool run_fits(const struct order *order, uint64_t addresses)
+{
+    return order->address + addresses <= 0x10000;
+}
+
+static size_t words_to_write(const struct order *order)
+{
+    return order->values_n / 2;
+}
+
+/* Several writes have whole words. */
+static bool values_fit(const struct order *order)
+{
+    return order->values_n % 2 == 0 && words_fit(words_to_write(order), MOST_WRITTEN);
+}
+
+/* Number and values are asked about only where the order has a use for them. A
+ * record has one address, however many words it has. */
+static bool has_frame(const struct order *order)
+{
+    if (order->station < LOWEST_STATION || order->station > HIGHEST_STATION)
+        return false;
+    switch (order->kind) {
+    case ORDER_READ:
+        return words_fit(order->number, MOST_ASKED) && run_fits(order, order->number);
+    case ORDER_RECORD: return words_fit(order->number, MOST_ASKED) && run_fits(order, 1);
+    case ORDER_WRITE: return order->number <= 0xFFFF && run_fits(order, 1);
+    case ORDER_WRITES: return values_fit(order) && run_fits(order, words_to_write(order));
+    case ORDER_CLEAR: return run_fits(order, 1);
+    default: return false;
+    }
+}
+
+/* 9, then 5: the buffer must have room for the longest frame, also where nothing is
+ * written to it. */
+static uint32_t refuse_order(const struct order *order, size_t out_n)
+{
+    if (!has_frame(order))
+        return NUMBER_NO_FRAME;
+    return out_n < 100 ? NUMBER_BUFFER : NUMBER_DONE;
+}
+
+static uint8_t function_asked(const struct order *order)
+{
+    switch (order->kind) {
+    case ORDER_WRITE: return WRITE_ONE;
+    case ORDER_WRITES: return WRITE_MANY;
+    case ORDER_CLEAR: return CLEAR;
+    default: return READ;
+    }
+}
+
+/* The word behind the address: a count, or a value. A record is read alone, and a
+ * clear has the value 0. */
+static uint32_t word_asked(const struct order *order)
+{
+    switch (order->kind) {
+    case ORDER_RECORD: return 1;
+    case ORDER_WRITES: return (uint32_t)words_to_write(order);
+    case ORDER_CLEAR: return 0;
+    default: return order->number;
+    }
+}
+
+/* ---- The query of an order ---- */
+
+/* All but the check; how many bytes that is. */
+static uint32_t put_query(const struct order *order, uint8_t *out)
+{
+    out[0] = (uint8_t)order->station;
+    out[1] = function_asked(order);
+    put_word(out + 2, 0, order->address);
+    put_word(out + 2, 1, word_asked(order));
+    if (order->kind != ORDER_WRITES)
+        return 6;
+    out[6] = (uint8_t)order->values_n;
+    memcpy(out + 7, order->values, order->values_n);
+    return 7 + (uint32_t)order->values_n;
+}
+
+uint32_t second_query(uint32_t order, uint32_t station, uint32_t address, uint32_t number,
+                      const uint8_t *values, size_t values_n,
+                      uint8_t *out, size_t out_n, uint32_t *length)
+{
+    struct order asked = { order, station, address, number, values, values_n };
+    *length = 0;
+    uint32_t refused = refuse_order(&asked, out_n);
+    if (refused != NUMBER_DONE)
+        return refused;
+    *length = add_check(out, put_query(&asked, out));
+    return NUMBER_DONE;
+}
+
+/* ---- The reply to an order ---- */
+
+enum { ERROR_BIT = 0x80 };
+
+/* What stands between the function and the check. */
+struct body {
+    const uint8_t *bytes;
+    size_t n;
+};
+
+/* 10: rule J10 once more, of what has come back. */
+static bool reply_passes(const uint8_t *reply, size_t reply_n)
+{
+    return 4 <= reply_n && reply_n <= 100 && check_agrees(reply, reply_n);
+}
+
+/* 12: the query's own function, or that with the top bit set. */
+static bool function_fits(const struct order *order, uint8_t function)
+{
+    return function == function_asked(order) || function == (function_asked(order) | ERROR_BIT);
+}
+
+/* 10, 11 and 12, in this order. */
+static uint32_t refuse_reply(const struct order *order, const uint8_t *reply, size_t reply_n)
+{
+    if (!reply_passes(reply, reply_n))
+        return NUMBER_REPLY_DAMAGED;
+    if (reply[0] != order->station)
+        return NUMBER_REPLY_STATION;
+    return function_fits(order, reply[1]) ? NUMBER_DONE : NUMBER_REPLY_FUNCTION;
+}
+
+/* Which code can follow which function is not asked. */
+static bool is_error_body(const struct body *body)
+{
+    return body->n == 1 && 1 <= body->bytes[0] && body->bytes[0] <= 3;
+}
+
+static bool brings_values(const struct order *order)
+{
+    return order->kind == ORDER_READ || order->kind == ORDER_RECORD;
+}
+
+/* The byte count and as many bytes: those of the words that were asked for. */
+static bool is_values_body(const struct order *order, const struct body *body)
+{
+    size_t bytes = 2 * (size_t)order->number;
+    return body->n == 1 + bytes && body->bytes[0] == bytes;
+}
+
+/* The two words behind the query's function, and nothing more. */
+static bool is_echo_body(const struct order *order, const struct body *body)
+{
+    return body->n == 4 && word_at(body->bytes, 0) == order->address
+        && word_at(body->bytes, 1) == word_asked(order);
+}
+
+static uint32_t read_error(const struct body *body, uint32_t *error)
+{
+    if (!is_error_body(body))
+        return NUMBER_REPLY_BODY;
+    *error = body->bytes[0];
+    return NUMBER_DONE;
+}
+
+static uint32_t read_values(const struct order *order, const struct body *body, uint8_t *out,
+                            uint32_t *length)
+{
+    if (!is_values_body(order, body))
+        return NUMBER_REPLY_BODY;
+    *length = 2 * order->number;
+    memcpy(out, body->bytes + 1, *length);
+    return NUMBER_DONE;
+}
+
+uint32_t second_reply(uint32_t order, uint32_t station, uint32_t address, uint32_t number,
+                      const uint8_t *values, size_t values_n,
+                      const uint8_t *reply, size_t reply_n,
+                      uint8_t *out, size_t out_n, uint32_t *length, uint32_t *error)
+{
+    struct order asked = { order, station, address, number, values, values_n };
+    *length = 0;
+    *error = 0;
+    uint32_t refused = refuse_order(&asked, out_n);
+    if (refused == NUMBER_DONE)
+        refused = refuse_reply(&asked, reply, reply_n);
+    if (refused != NUMBER_DONE)
+        return refused;
+    struct body body = { reply + 2, reply_n - 4 };
+    if ((reply[1] & ERROR_BIT) != 0)
+        return read_error(&body, error);
+    if (brings_values(&asked))
+        return read_values(&asked, &body, out, length);
+    return is_echo_body(&asked, &body) ? NUMBER_DONE : NUMBER_REPLY_BODY;
 }

@@ -1,6 +1,6 @@
 /* A second statement of the rules of docs/RULES.md, for the host tests.
  *
- * The twelve functions do what the library's twelve do. They are written for
+ * The fourteen functions do what the library's fourteen do. They are written for
  * reading, rule by rule in that page's order, and share nothing with the library.
  * Words are two bytes, upper byte first. A null pointer with length 0 is an
  * empty slice, as the ring of a sheet without a record area. Frame and answer
@@ -41,8 +41,15 @@ uint32_t second_ring_check(const uint8_t *sheet, size_t sheet_n,
 uint32_t second_add_record(const uint8_t *sheet, size_t sheet_n,
                            uint8_t *ring, size_t ring_n,
                            const uint8_t *record, size_t record_n);
+uint32_t second_query(uint32_t order, uint32_t station, uint32_t address, uint32_t number,
+                      const uint8_t *values, size_t values_n,
+                      uint8_t *out, size_t out_n, uint32_t *length);
+uint32_t second_reply(uint32_t order, uint32_t station, uint32_t address, uint32_t number,
+                      const uint8_t *values, size_t values_n,
+                      const uint8_t *reply, size_t reply_n,
+                      uint8_t *out, size_t out_n, uint32_t *length, uint32_t *error);
 
-/* The numbers of the rules N0 to N8. */
+/* The numbers of the rules N0 to N8, and those of a box that asks. */
 enum second_number {
     NUMBER_DONE = 0,
     NUMBER_SILENCE = 1,
@@ -53,7 +60,22 @@ enum second_number {
     NUMBER_POSTED_ADDRESS = 6,
     NUMBER_BAD_INPUT = 7,           /* posted bytes, a mark or a record */
     NUMBER_RING = 8,
+    NUMBER_NO_FRAME = 9,
+    NUMBER_REPLY_DAMAGED = 10,
+    NUMBER_REPLY_STATION = 11,
+    NUMBER_REPLY_FUNCTION = 12,
+    NUMBER_REPLY_BODY = 13,
     NUMBER_COUNT
+};
+
+/* What a box can ask of a meter. */
+enum second_order {
+    ORDER_READ = 0,                 /* registers */
+    ORDER_RECORD = 1,               /* one record of a history */
+    ORDER_WRITE = 2,                /* one register, by 06 */
+    ORDER_WRITES = 3,               /* registers, by 10, also where it is one */
+    ORDER_CLEAR = 4,
+    ORDER_COUNT
 };
 
 /* The rules of a sheet, in their order: rules S0 to S64, and rules S81 to S85 of
