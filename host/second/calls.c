@@ -8,7 +8,7 @@
 #include <stdio.h>
 #include <string.h>
 
-/* The twelve functions of one side. */
+/* The fourteen functions of one side. */
 struct functions {
     uint16_t (*check_start)(void);
     uint16_t (*check_take)(uint16_t, uint8_t);
@@ -24,6 +24,10 @@ struct functions {
                     const uint8_t *, size_t, uint32_t *, uint32_t *, uint32_t *);
     uint32_t (*ring_check)(const uint8_t *, size_t, const uint8_t *, size_t);
     uint32_t (*add_record)(const uint8_t *, size_t, uint8_t *, size_t, const uint8_t *, size_t);
+    uint32_t (*query)(uint32_t, uint32_t, uint32_t, uint32_t, const uint8_t *, size_t,
+                      uint8_t *, size_t, uint32_t *);
+    uint32_t (*reply)(uint32_t, uint32_t, uint32_t, uint32_t, const uint8_t *, size_t,
+                      const uint8_t *, size_t, uint8_t *, size_t, uint32_t *, uint32_t *);
 };
 
 enum { LIBRARY, SECOND, SIDES };
@@ -34,19 +38,21 @@ static const struct functions sides[SIDES] = {
     { cedarskein_check_start, cedarskein_check_take, cedarskein_check_value,
       cedarskein_sheet_check, cedarskein_bank_check, cedarskein_bank_fresh,
       cedarskein_post, cedarskein_set_mark, cedarskein_answer, cedarskein_why,
-      cedarskein_ring_check, cedarskein_add_record },
+      cedarskein_ring_check, cedarskein_add_record, cedarskein_query, cedarskein_reply },
     { second_check_start, second_check_take, second_check_value,
       second_sheet_check, second_bank_check, second_bank_fresh,
       second_post, second_set_mark, second_answer, second_why,
-      second_ring_check, second_add_record }
+      second_ring_check, second_add_record, second_query, second_reply }
 };
 
 static const char *const call_names[CALL_COUNT] = {
-    "check_start", "check_take", "check_value", "sheet_check", "bank_check", "bank_fresh",
-    "post", "set_mark", "answer", "why", "ring_check", "add_record"
+    "check_start", "check_take", "check_value", "query", "reply", "sheet_check", "bank_check",
+    "bank_fresh", "post", "set_mark", "answer", "why", "ring_check", "add_record"
 };
 
-static const char *const part_names[PART_COUNT] = { "sheet", "bank", "ring", "bytes", "out" };
+static const char *const part_names[PART_COUNT] = {
+    "sheet", "bank", "ring", "bytes", "out", "values"
+};
 
 static struct lent lent[SIDES][PART_COUNT];
 
@@ -92,8 +98,12 @@ static void print_bytes(const char *name, const uint8_t *bytes, size_t n)
 
 void print_call(const struct call *call)
 {
+    const struct asked *asked = &call->asked;
     printf("call %s, value %" PRIX32 ", byte %02X\n", call_names[call->sort], call->value,
            call->byte);
+    if (call->sort == CALL_QUERY || call->sort == CALL_REPLY)
+        printf("  order %" PRIu32 ", station %" PRIu32 ", address %04" PRIX32 ", number %" PRIu32
+               "\n", asked->order, asked->station, asked->address, asked->number);
     for (int part = 0; part < PART_COUNT; part++)
         if (call->part_n[part] > 0)
             print_bytes(part_names[part], call->part[part], call->part_n[part]);
@@ -102,8 +112,9 @@ void print_call(const struct call *call)
 static void print_side(int side, const struct outcome *outcome)
 {
     printf(" %s: number %" PRIu32 ", length %" PRIu32 ", rate %" PRIu32 ", reason %" PRIu32
-           ", address %04" PRIX32 ", side %" PRIu32 "\n", side_names[side], outcome->number,
-           outcome->length, outcome->rate, outcome->reason, outcome->address, outcome->side);
+           ", address %04" PRIX32 ", side %" PRIu32 ", error %" PRIu32 "\n", side_names[side],
+           outcome->number, outcome->length, outcome->rate, outcome->reason, outcome->address,
+           outcome->side, outcome->error);
     print_bytes("bank after", lent_bytes(&lent[side][PART_BANK]), lent[side][PART_BANK].n);
     print_bytes("ring after", lent_bytes(&lent[side][PART_RING]), lent[side][PART_RING].n);
     print_bytes("out after", lent_bytes(&lent[side][PART_OUT]), lent[side][PART_OUT].n);
@@ -111,8 +122,9 @@ static void print_side(int side, const struct outcome *outcome)
 
 /* ---- One side ---- */
 
-/* Length and rate, or reason, address and side, stand between guards of their own
- * and hold noise before, other noise on each side: what is not written differs. */
+/* Length and rate, reason, address and side, or length and error, stand between guards
+ * of their own and hold noise before, other noise on each side: what is not written
+ * differs. */
 struct handed_back {
     uint32_t guard_0, first, guard_1, second, guard_2, third, guard_3;
 };
@@ -136,6 +148,23 @@ static uint32_t ask_why(const struct functions *side, struct lent *part, struct 
                      &back->third);
 }
 
+static uint32_t ask_query(const struct functions *side, const struct asked *asked,
+                          struct lent *part, struct handed_back *back)
+{
+    return side->query(asked->order, asked->station, asked->address, asked->number,
+                       part[PART_VALUES].at, part[PART_VALUES].n, part[PART_OUT].at,
+                       part[PART_OUT].n, &back->first);
+}
+
+static uint32_t ask_reply(const struct functions *side, const struct asked *asked,
+                          struct lent *part, struct handed_back *back)
+{
+    return side->reply(asked->order, asked->station, asked->address, asked->number,
+                       part[PART_VALUES].at, part[PART_VALUES].n, part[PART_BYTES].at,
+                       part[PART_BYTES].n, part[PART_OUT].at, part[PART_OUT].n, &back->first,
+                       &back->second);
+}
+
 static uint32_t ask(const struct functions *side, const struct call *call, struct lent *part,
                     struct handed_back *back)
 {
@@ -151,6 +180,8 @@ static uint32_t ask(const struct functions *side, const struct call *call, struc
     case CALL_CHECK_START: return side->check_start();
     case CALL_CHECK_TAKE: return side->check_take((uint16_t)call->value, call->byte);
     case CALL_CHECK_VALUE: return side->check_value(bytes, bytes_n);
+    case CALL_QUERY: return ask_query(side, &call->asked, part, back);
+    case CALL_REPLY: return ask_reply(side, &call->asked, part, back);
     case CALL_SHEET_CHECK: return side->sheet_check(sheet, sheet_n);
     case CALL_BANK_CHECK: return side->bank_check(sheet, sheet_n, bank, bank_n);
     case CALL_BANK_FRESH: return side->bank_fresh(sheet, sheet_n, bank, bank_n);
@@ -178,7 +209,7 @@ static bool all_back(int side)
  * two calls the bank too, and to all but one the ring. */
 static bool is_only_read(enum call_sort sort, int part)
 {
-    return part == PART_SHEET || part == PART_BYTES
+    return part == PART_SHEET || part == PART_BYTES || part == PART_VALUES
         || (part == PART_BANK && (sort == CALL_BANK_CHECK || sort == CALL_WHY))
         || (part == PART_RING && sort != CALL_ADD_RECORD);
 }
@@ -208,6 +239,10 @@ static void take_numbers(enum call_sort sort, const struct handed_back *back,
         outcome->address = back->second;
         outcome->side = back->third;
     }
+    if (sort == CALL_QUERY || sort == CALL_REPLY)
+        outcome->length = back->first;
+    if (sort == CALL_REPLY)
+        outcome->error = back->second;
 }
 
 static bool guards_stand(const struct handed_back *back)
@@ -249,7 +284,8 @@ static bool same_outcome(const struct outcome *one, const struct outcome *other)
 {
     return one->number == other->number && one->length == other->length
         && one->rate == other->rate && one->reason == other->reason
-        && one->address == other->address && one->side == other->side;
+        && one->address == other->address && one->side == other->side
+        && one->error == other->error;
 }
 
 bool same_on_both_sides(const struct call *call, struct outcome *outcome)

@@ -6,10 +6,13 @@
 #include <stddef.h>
 #include <stdint.h>
 
+/* Those without a sheet come first. */
 enum call_sort {
     CALL_CHECK_START,
     CALL_CHECK_TAKE,
     CALL_CHECK_VALUE,
+    CALL_QUERY,
+    CALL_REPLY,
     CALL_SHEET_CHECK,
     CALL_BANK_CHECK,
     CALL_BANK_FRESH,
@@ -23,8 +26,14 @@ enum call_sort {
 };
 
 /* The buffers of a call; those it does not have are empty. The bytes are a
- * frame, posted words or a record. */
-enum part { PART_SHEET, PART_BANK, PART_RING, PART_BYTES, PART_OUT, PART_COUNT };
+ * frame, posted words, a record or what came back to a query; the values are those of
+ * an order. */
+enum part { PART_SHEET, PART_BANK, PART_RING, PART_BYTES, PART_OUT, PART_VALUES, PART_COUNT };
+
+/* The numbers of an order. */
+struct asked {
+    uint32_t order, station, address, number;
+};
 
 struct call {
     enum call_sort sort;
@@ -32,12 +41,13 @@ struct call {
     size_t part_n[PART_COUNT];
     uint32_t value;                     /* address, mark, or running state */
     uint8_t byte;                       /* for the running state */
+    struct asked asked;                 /* for a query and a reply */
 };
 
 /* What a call hands back; 0 where it has no such thing. The side is that of an
  * item's range, and none of the two that are compared. */
 struct outcome {
-    uint32_t number, length, rate, reason, address, side;
+    uint32_t number, length, rate, reason, address, side, error;
 };
 
 /* Makes the call on both sides. False, with the whole call printed, if they

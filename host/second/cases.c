@@ -12,6 +12,9 @@
 
 enum { MARK = 0x10000, WORDS = 4, OUT_ROOM = 100 };
 
+/* For the calls of a meter. */
+#define NO_ORDER { 0, 0, 0, 0 }
+
 /* AS-WE goes by its bore. No maker's pair can be too low, and so there is UX with
  * another range of the pair 0103. */
 enum { MAP_UX = 0, MAP_PAIR = 1, MAP_AS_WE = 40 };
@@ -380,7 +383,7 @@ static void run_case(const struct frame_case *one)
     put_stored(&made, one->after, after);
     size_t frame_n = put_checked(one->frame, frame);
     struct call call = { CALL_ANSWER, { sheet, bank, NULL, frame, out },
-                         { sheet_n, bank_n, 0, frame_n, OUT_ROOM }, 0, 0 };
+                         { sheet_n, bank_n, 0, frame_n, OUT_ROOM }, 0, 0, NO_ORDER };
     ask_why(one, call);
     expect(same_on_both_sides(&call, &outcome), one->name, "the sides differ");
     judge_case(one, &call, &outcome, after);
@@ -391,7 +394,7 @@ static void run_check_values(void)
 {
     struct call call = { CALL_CHECK_VALUE,
                          { NULL, NULL, NULL, (const uint8_t *)"123456789", NULL },
-                         { 0, 0, 0, 9, 0 }, 0, 0 };
+                         { 0, 0, 0, 9, 0 }, 0, 0, NO_ORDER };
     struct outcome outcome;
     expect(same_on_both_sides(&call, &outcome) && outcome.number == 0x4B37, "P12", "value");
     call.part[PART_BYTES] = (const uint8_t *)"\x01\x03";
@@ -414,7 +417,7 @@ static void run_listed_sheet(void)
     for (size_t i = 0; i < 34; i++)
         put16(sheet, i, words[i]);
     struct call call = { CALL_SHEET_CHECK, { sheet, NULL, NULL, NULL, NULL }, { 68, 0, 0, 0, 0 },
-                         0, 0 };
+                         0, 0, NO_ORDER };
     struct outcome outcome;
     expect(same_on_both_sides(&call, &outcome) && outcome.number == NUMBER_DONE,
            "listed sheet", "number");
@@ -470,7 +473,7 @@ static void run_range(const struct range_case *one, uint32_t bore)
     put_sheet(&made, sheet);
     size_t frame_n = put_checked("01 03 01 08 00 01", frame);
     struct call call = { CALL_SHEET_CHECK, { sheet, bank, NULL, frame, out },
-                         { sheet_n, 0, 0, 0, 0 }, 0, 0 };
+                         { sheet_n, 0, 0, 0, 0 }, 0, 0, NO_ORDER };
     expect(same_on_both_sides(&call, &outcome), one->name, "the sides differ");
     expect(outcome.number == one->number, one->name, "number of the sheet");
     call.sort = CALL_ANSWER;
@@ -509,7 +512,7 @@ static void run_bank(const struct bank_case *one, uint32_t bore)
     second_bank_fresh(sheet, sheet_n, bank, bank_n);
     put16(bank, made.address_place, one->station);
     struct call call = { CALL_BANK_CHECK, { sheet, bank, NULL, NULL, NULL },
-                         { sheet_n, bank_n, 0, 0, 0 }, 0, 0 };
+                         { sheet_n, bank_n, 0, 0, 0 }, 0, 0, NO_ORDER };
     expect(same_on_both_sides(&call, &outcome), one->name, "the sides differ");
     expect(outcome.number == one->number, one->name, "number");
 }
@@ -611,7 +614,7 @@ static void run_sheet(const struct sheet_case *one)
     size_t record_n = sound ? 2 * (size_t)one->words : 2;
     memset(big_ring, 0, 4);
     struct call call = { CALL_SHEET_CHECK, { sheet, NULL, big_ring, record, NULL },
-                         { put_sheet(&made, sheet), 0, ring_n, record_n, 0 }, 0, 0 };
+                         { put_sheet(&made, sheet), 0, ring_n, record_n, 0 }, 0, 0, NO_ORDER };
     ask(&call, CALL_SHEET_CHECK, one->number, one->name);
     ask(&call, CALL_RING_CHECK, one->number, one->name);
     ask(&call, CALL_ADD_RECORD, one->number, one->name);
@@ -638,7 +641,7 @@ static void run_sheet_lengths(void)
         put16(sheet, 7, lengths[i].word_7);
         put16(sheet, 11, lengths[i].word_11);
         struct call call = { CALL_SHEET_CHECK, { sheet, NULL, NULL, NULL, NULL },
-                             { 2 * (size_t)lengths[i].words, 0, 0, 0, 0 }, 0, 0 };
+                             { 2 * (size_t)lengths[i].words, 0, 0, 0, 0 }, 0, 0, NO_ORDER };
         ask(&call, CALL_SHEET_CHECK, lengths[i].number, "lengths");
     }
 }
@@ -844,7 +847,7 @@ static void run_no_ring(void)
     size_t bytes_n = put_checked("01 03 01 01 00 02", bytes);
     for (size_t i = 0; i < sizeof sizes / sizeof sizes[0]; i++) {
         struct call call = { CALL_ANSWER, { sheet, bank, zeros, bytes, zeros },
-                             { sheet_n, bank_n, sizes[i], bytes_n, 100 }, 0, 0 };
+                             { sheet_n, bank_n, sizes[i], bytes_n, 100 }, 0, 0, NO_ORDER };
         uint32_t number = sizes[i] == 0 ? NUMBER_DONE : NUMBER_RING;
         ask(&call, CALL_RING_CHECK, number, "no ring");
         ask(&call, CALL_ANSWER, number, "no ring");
@@ -907,7 +910,7 @@ static void run_add(const struct add_case *one)
     size_t record_n = put_hex(one->record, record);
     put_hex(one->after, after);
     struct call call = { CALL_ADD_RECORD, { sheet, NULL, before, record, NULL },
-                         { sheet_n, 0, ring_n, record_n, 0 }, 0, 0 };
+                         { sheet_n, 0, ring_n, record_n, 0 }, 0, 0, NO_ORDER };
     ask(&call, CALL_ADD_RECORD, one->number, one->name);
     expect(memcmp(part_after(PART_RING), after, ring_n) == 0, one->name, "ring");
 }
@@ -924,7 +927,7 @@ static void read_history(const uint8_t *sheet, size_t sheet_n, const char *hex, 
     second_bank_fresh(sheet, sheet_n, bank, bank_n);
     struct call call = { CALL_ANSWER, { sheet, bank, big_ring, frame, out },
                          { sheet_n, bank_n, 4 + 44 * 6600, put_checked(hex, frame), OUT_ROOM },
-                         0, 0 };
+                         0, 0, NO_ORDER };
     expect(same_on_both_sides(&call, &outcome), hex, "the sides differ");
     expect(outcome.number == NUMBER_DONE && outcome.length == length, hex, "length");
     const uint8_t *reply = part_after(PART_OUT);
@@ -975,7 +978,7 @@ static void run_longest(void)
     put16(ring, 1, 2);
     struct call call = { CALL_ANSWER, { sheet, bank, ring, frame, out },
                          { sheet_n, bank_n, sizeof ring, put_checked("01 03 04 00 00 01", frame),
-                           OUT_ROOM }, 0, 0 };
+                           OUT_ROOM }, 0, 0, NO_ORDER };
     expect(same_on_both_sides(&call, &outcome), "longest", "the sides differ");
     expect(outcome.number == NUMBER_DONE && outcome.length == 99, "longest", "length");
     expect(part_after(PART_OUT)[2] == 94, "longest", "byte count");
@@ -1061,7 +1064,7 @@ static void run_end(const struct made *made, const struct made_item *item, int64
     struct outcome why;
     second_bank_fresh(sheet, sheet_n, bank, bank_n);
     struct call call = { CALL_WHY, { sheet, bank, NULL, frame, NULL },
-                         { sheet_n, bank_n, 0, frame_n, 0 }, 0, 0 };
+                         { sheet_n, bank_n, 0, frame_n, 0 }, 0, 0, NO_ORDER };
     expect(same_on_both_sides(&call, &why), "end of a range", "the sides differ");
     expect(why.reason == (bad ? REASON_ITEM : REASON_NONE), "end of a range", "reason");
     expect(why.address == (bad ? first_address(made, item) : 0), "end of a range", "address");

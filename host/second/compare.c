@@ -3,12 +3,15 @@
  *   compare [seed [calls]]      defaults: seed 1, 50000 calls
  *
  * Exit 0 if no call differs and, from 50000 calls on, each thing that is
- * counted was met at least once in 1000 calls; else 1. */
+ * counted was met at least once in 1000 calls of its half of the line, the
+ * meter's or that of the box that asks; else 1. */
 #include "calls.h"
 #include "counts.h"
 #include "frames_faulty.h"
 #include "frames_made.h"
 #include "noise.h"
+#include "orders_made.h"
+#include "orders_met.h"
 #include "records_met.h"
 #include "rings_made.h"
 #include "second.h"
@@ -495,6 +498,9 @@ static bool has_empty_part(const struct call *call)
     switch (call->sort) {
     case CALL_CHECK_START: case CALL_CHECK_TAKE: return false;
     case CALL_CHECK_VALUE: return call->part_n[PART_BYTES] == 0;
+    case CALL_QUERY: return call->part_n[PART_VALUES] == 0;
+    case CALL_REPLY:
+        return call->part_n[PART_VALUES] == 0 || call->part_n[PART_BYTES] == 0;
     case CALL_SHEET_CHECK: return call->part_n[PART_SHEET] == 0;
     case CALL_POST:
         return call->part_n[PART_BANK] == 0 || call->part_n[PART_BYTES] == 0;
@@ -515,10 +521,10 @@ static void count_call(const struct call *call, const struct outcome *outcome)
     counts.call[call->sort]++;
     if (has_empty_part(call))
         met(SPECIAL_NULL_SLICE);
+    if (call->sort >= CALL_QUERY && outcome->number < NUMBER_COUNT)
+        counts.number[call->sort][outcome->number]++;
     if (call->sort < CALL_SHEET_CHECK)
         return;
-    if (outcome->number < NUMBER_COUNT)
-        counts.number[call->sort][outcome->number]++;
     if (subject.made_broken != RULE_NONE)
         counts.rule_alone[subject.made_broken]++;
     counts.rule_first[subject.broken]++;
@@ -534,8 +540,8 @@ static bool is_refused_as_made(const struct call *call, const struct outcome *ou
         && !(call->sort == CALL_ADD_RECORD && !subject.made.records.is);
 }
 
-/* Makes the call on both sides, holds it to what is known of stations, of records
- * and of the sides of a range, and counts it. */
+/* Makes the call on both sides, holds it to what is known of stations, of records,
+ * of the sides of a range and of orders, and counts it. */
 static struct outcome make_call(const struct call *call)
 {
     struct outcome outcome;
@@ -546,6 +552,8 @@ static struct outcome make_call(const struct call *call)
         breach = record_breach(call, &outcome);
     if (breach == NULL)
         breach = side_breach(call, &outcome);
+    if (breach == NULL)
+        breach = order_breach(call, &outcome);
     if (breach == NULL && is_refused_as_made(call, &outcome))
         breach = "a sheet that was made sound is refused";
     if (breach != NULL)
@@ -554,6 +562,7 @@ static struct outcome make_call(const struct call *call)
     count_stations(&counts, call, &outcome);
     count_records(&counts, call, &outcome);
     count_sides(&counts, call, &outcome);
+    count_orders(&counts, call, &outcome);
     return outcome;
 }
 
@@ -694,7 +703,8 @@ static void call_add(void)
 static void choose_out(struct call *call, bool large_enough)
 {
     static uint8_t out[OUT_ROOM];
-    uint32_t small = call->part[PART_RING] == subject.ring ? 8 : 40;
+    bool has_ring = call->sort >= CALL_SHEET_CHECK;
+    uint32_t small = has_ring && call->part[PART_RING] != subject.ring ? 40 : 8;
     call->part_n[PART_OUT] = ONE_OF(100, 100, 100, 100, 101, 101, 300, 300, 256, 120);
     if (chance(2))
         call->part_n[PART_OUT] = OUT_ROOM;
@@ -861,6 +871,210 @@ static void call_damaged(void)
         differs(&call, "a damaged frame was not met with silence");
 }
 
+/* Two calls are on one frame, and six at most on one order; the last calls of a run
+ * may be left alone. */
+static bool is_room_for(uint64_t calls)
+{
+    return calls_asked - counts.calls >= calls;
+}
+
+/* ---- The box that asks ---- */
+
+static struct call new_order(enum call_sort sort, const struct made_order *order)
+{
+    struct call call = new_call(sort);
+    call.asked = order->asked;
+    call.part[PART_VALUES] = order->values;
+    call.part_n[PART_VALUES] = order->values_n;
+    return call;
+}
+
+/* A call of the box, or of the meter that it asks. */
+static struct outcome make_box_call(const struct call *call)
+{
+    counts.calls_of_box++;
+    return make_call(call);
+}
+
+/* Values whose number of bytes, or of words, has lower bits that would do. */
+static void lend_large_values(struct call *call)
+{
+    static const uint8_t values[0x20000 + 90];
+    call->part[PART_VALUES] = values;
+    call->part_n[PART_VALUES] = ONE_OF(0x10000, 0x20000) + ONE_OF(0, 1, 2, 90);
+}
+
+static void call_query(void)
+{
+    static struct made_order order;
+    make_order(&order);
+    if (chance(60))
+        spoil_order(&order);
+    struct call call = new_order(CALL_QUERY, &order);
+    if (chance(1))
+        lend_large_values(&call);
+    choose_out(&call, false);
+    make_box_call(&call);
+}
+
+/* What comes back to an order of any sort, in any way. */
+static void call_reply(void)
+{
+    static struct made_order order;
+    static uint8_t reply[REPLY_ROOM];
+    make_order(&order);
+    if (chance(35))
+        spoil_order(&order);
+    size_t n = make_reply(&order, reply);
+    if (chance(70))
+        n = spoil_reply(reply, n);
+    if (chance(5))
+        change_order(&order);
+    struct call call = new_order(CALL_REPLY, &order);
+    if (chance(1))
+        lend_large_values(&call);
+    call.part[PART_BYTES] = reply;
+    call.part_n[PART_BYTES] = n;
+    choose_out(&call, false);
+    make_box_call(&call);
+}
+
+/* A reply that was good before it was damaged: 10, whatever it was. */
+static void read_damaged(const struct made_order *order, const uint8_t *bytes, size_t n)
+{
+    static uint8_t reply[REPLY_ROOM];
+    struct call call = new_order(CALL_REPLY, order);
+    memcpy(reply, bytes, n);
+    counts.reply_damage[damage_frame(reply, n)]++;
+    call.part[PART_BYTES] = reply;
+    call.part_n[PART_BYTES] = n;
+    choose_out(&call, true);
+    struct outcome outcome = make_box_call(&call);
+    if (outcome.number != NUMBER_REPLY_DAMAGED)
+        differs(&call, "a damaged reply was not refused for it");
+}
+
+static void call_damaged_reply(void)
+{
+    static struct made_order order;
+    uint8_t reply[REPLY_ROOM];
+    make_order(&order);
+    size_t n = make_reply(&order, reply);
+    read_damaged(&order, reply, n);
+}
+
+/* A call that needs no meter. */
+static void some_box_call(void)
+{
+    uint32_t sort = below(100);
+    if (sort < 40)
+        call_query();
+    else if (sort < 95)
+        call_reply();
+    else
+        call_damaged_reply();
+}
+
+/* ---- The box and the subject's meter ---- */
+
+/* The query of an order is the frame that the order was made of. */
+static bool build_query(struct call *call, const uint8_t *frame, size_t n)
+{
+    choose_out(call, true);
+    struct outcome outcome = make_box_call(call);
+    bool same = outcome.number == NUMBER_DONE && outcome.length == n
+        && memcmp(part_after(PART_OUT), frame, n) == 0;
+    if (!same)
+        differs(call, "the query is not the frame that the order was made of");
+    return same;
+}
+
+static void ask_about_query(const struct call *query, struct call *call)
+{
+    call->sort = CALL_WHY;
+    struct outcome why = make_box_call(call);
+    count_why(call, &why);
+    const char *breach = query_reason_breach(query, call, &why);
+    if (breach != NULL)
+        differs(call, breach);
+}
+
+/* The meter gets the frame; its answer's length, 0 for silence. */
+static size_t answer_query(const struct call *query, struct call *call, uint8_t *reply)
+{
+    call->sort = CALL_ANSWER;
+    choose_out(call, true);
+    struct outcome answer = make_box_call(call);
+    count_frame(call, &answer);
+    const char *breach = answered_breach(query, call, &answer);
+    if (breach != NULL)
+        differs(call, breach);
+    if (answer.number == NUMBER_SILENCE)
+        counts.asked_met[ASKED_OTHER_STATION]++;
+    memcpy(reply, part_after(PART_OUT), answer.length);
+    keep_ring(call, &answer, true);
+    return answer.length;
+}
+
+/* The answer is read against the order, which the meter got. */
+static void read_answer(const struct made_order *order, const struct call *answer,
+                        const uint8_t *reply, size_t n)
+{
+    struct call call = new_order(CALL_REPLY, order);
+    call.part[PART_BYTES] = reply;
+    call.part_n[PART_BYTES] = n;
+    choose_out(&call, true);
+    struct outcome outcome = make_box_call(&call);
+    const char *breach = read_breach(&call, answer, &outcome);
+    if (breach != NULL)
+        differs(&call, breach);
+    count_asked(&counts, &call, answer, &outcome);
+}
+
+/* The answer is read against another order. Whether it is taken is for its bytes to
+ * say, since it may tell nothing of what differs. */
+static void read_for_other(struct made_order *order, const uint8_t *reply, size_t n)
+{
+    change_order(order);
+    struct call call = new_order(CALL_REPLY, order);
+    call.part[PART_BYTES] = reply;
+    call.part_n[PART_BYTES] = n;
+    choose_out(&call, true);
+    struct outcome outcome = make_box_call(&call);
+    counts.asked_met[outcome.number == NUMBER_DONE ? ASKED_OTHER_TAKEN : ASKED_OTHER_REFUSED]++;
+}
+
+/* An order on its whole way: built, asked about, answered and read; the answer is read
+ * damaged too, and for another order. The bank is kept only now, since what is read is
+ * held to what it was. */
+static void call_meter(void)
+{
+    static struct made_order order;
+    uint8_t frame[FRAME_ROOM], reply[REPLY_ROOM], bank[BANK_ROOM];
+    struct call answer = new_call(CALL_ANSWER);
+    memcpy(bank, subject.bank, subject.bank_n);
+    answer.part[PART_BANK] = bank;
+    answer.part_n[PART_BANK] = subject.bank_n;
+    lend_ring(&answer);
+    answer.part_n[PART_BYTES] = make_order_of_meter(&subject.made, bank, stored_in_ring(&answer),
+                                                    &order, frame);
+    answer.part[PART_BYTES] = frame;
+    struct call query = new_order(CALL_QUERY, &order);
+    if (!build_query(&query, frame, answer.part_n[PART_BYTES]))
+        return;
+    if (chance(30))
+        ask_about_query(&query, &answer);
+    size_t n = answer_query(&query, &answer, reply);
+    keep_bank(&answer, true);
+    if (n == 0)
+        return;
+    read_answer(&order, &answer, reply, n);
+    if (chance(20))
+        read_damaged(&order, reply, n);
+    if (chance(40))
+        read_for_other(&order, reply, n);
+}
+
 /* ---- Records one after the other ---- */
 
 static void add_whole_record(void)
@@ -901,10 +1115,14 @@ static void call_sequence(void)
         read_one_record();
 }
 
-/* Two calls are on one frame; the last call of a run may be left alone. */
-static bool is_room_for_two(void)
+
+/* An order for the subject's meter, where there is one. */
+static bool some_order_call(bool sound)
 {
-    return calls_asked - counts.calls >= 2;
+    if (!sound || !chance(8) || !is_room_for(6))
+        return false;
+    call_meter();
+    return true;
 }
 
 /* A call about a ring: more of them where there are records to add. */
@@ -927,7 +1145,7 @@ static void some_call(void)
     bool sound = subject.broken == RULE_NONE && sheet_is_as_made();
     bool writes = sound && (subject.made.functions & 12) == 12;
     uint32_t sort = below(100);
-    if (some_ring_call(sound))
+    if (some_order_call(sound) || some_ring_call(sound))
         return;
     if (sort < 1)
         call_check(CALL_CHECK_START);
@@ -945,7 +1163,7 @@ static void some_call(void)
         call_post();
     else if (sort < (sound ? 32 : 79))
         call_mark();
-    else if (sort < (sound ? 59 : 90) || !is_room_for_two())
+    else if (sort < (sound ? 59 : 90) || !is_room_for(2))
         call_answer();
     else if (sort < 64 && sound)
         call_damaged();
@@ -962,12 +1180,16 @@ int main(int argc, char **argv)
     noise_seed(seed);
     calls_asked = calls;
     while (counts.calls < calls) {
+        if (chance(19)) {
+            some_box_call();
+            continue;
+        }
         if (subject.left == 0)
             make_subject();
         subject.left--;
         some_call();
     }
-    bool enough = counts_enough(&counts, calls >= LEAST_CALLS ? calls / CALLS_FOR_ONE : 0);
+    bool enough = counts_enough(&counts, calls >= LEAST_CALLS ? CALLS_FOR_ONE : 0);
     printf("seed %" PRIu64 ": compared %" PRIu64 " calls, %" PRIu64 " differences\n", seed,
            counts.calls, differences);
     return differences == 0 && enough ? 0 : 1;

@@ -168,8 +168,126 @@ static const char *const special_names[SPECIAL_COUNT] = {
     [SPECIAL_LIST_OVERWRITTEN] = "record, older ones overwritten"
 };
 
+static const char *const order_names[ORDER_MET_COUNT] = {
+    [ORDER_TAKEN_READ] = "read",
+    [ORDER_TAKEN_RECORD] = "record",
+    [ORDER_TAKEN_WRITE] = "write",
+    [ORDER_TAKEN_WRITES] = "writes",
+    [ORDER_TAKEN_CLEAR] = "clear",
+    [ORDER_READ_TO_FFFF] = "read up to FFFF",
+    [ORDER_RECORD_AT_FFFF] = "record at FFFF",
+    [ORDER_WRITE_AT_FFFF] = "write at FFFF",
+    [ORDER_WRITES_TO_FFFF] = "writes up to FFFF",
+    [ORDER_CLEAR_AT_FFFF] = "clear at FFFF",
+    [ORDER_READ_OF_1] = "read of 1",
+    [ORDER_READ_OF_47] = "read of 47",
+    [ORDER_RECORD_OF_1] = "record of 1 word",
+    [ORDER_RECORD_OF_47] = "record of 47 words",
+    [ORDER_WRITES_OF_1] = "writes of 1",
+    [ORDER_WRITES_OF_45] = "writes of 45",
+    [ORDER_VALUE_FFFF] = "write of FFFF",
+    [ORDER_STATION_1] = "station 1",
+    [ORDER_STATION_F7] = "station F7",
+    [ORDER_NUMBER_OF_NO_USE] = "a number of no use above FFFF",
+    [ORDER_VALUES_OF_NO_USE] = "values of no use, odd or many",
+    [ORDER_9_KIND_5] = "9, only for order 5",
+    [ORDER_9_KIND_LARGE] = "9, only for an order above FF",
+    [ORDER_9_STATION_0] = "9, only for station 0",
+    [ORDER_9_STATION_F8] = "9, only for station F8",
+    [ORDER_9_STATION_LARGE] = "9, only for a station above FF",
+    [ORDER_9_READ_OF_0] = "9, only for a read of 0",
+    [ORDER_9_READ_OF_48] = "9, only for a read of 48",
+    [ORDER_9_RECORD_OF_0] = "9, only for a record of 0",
+    [ORDER_9_RECORD_OF_48] = "9, only for a record of 48",
+    [ORDER_9_WORDS_LARGE] = "9, only for more than FF words",
+    [ORDER_9_VALUE_10000] = "9, only for the value 10000",
+    [ORDER_9_NO_VALUES] = "9, only for no values",
+    [ORDER_9_ODD_VALUES] = "9, only for odd values",
+    [ORDER_9_WRITES_OF_46] = "9, only for writes of 46",
+    [ORDER_9_READ_TO_10000] = "9, only for a read to 10000",
+    [ORDER_9_RECORD_AT_10000] = "9, only for a record at 10000",
+    [ORDER_9_WRITE_AT_10000] = "9, only for a write at 10000",
+    [ORDER_9_WRITES_TO_10000] = "9, only for writes to 10000",
+    [ORDER_9_CLEAR_AT_10000] = "9, only for a clear at 10000",
+    [ORDER_9_ADDRESS_LARGE] = "9, only for a start above FFFF",
+    [ORDER_9_SUM_OVER_32_BITS] = "9, only for an end over 32 bits",
+    [ORDER_9_SEVERAL] = "9 for several things",
+    [ORDER_9_BEFORE_5] = "9 where 5 holds too"
+};
+
+static const char *const reply_names[REPLY_MET_COUNT] = {
+    [REPLY_READ] = "values of a read",
+    [REPLY_RECORD] = "values of a record",
+    [REPLY_WRITE] = "write done",
+    [REPLY_WRITES] = "writes done",
+    [REPLY_CLEAR] = "clear done",
+    [REPLY_CODE_1] = "error 01",
+    [REPLY_CODE_2] = "error 02",
+    [REPLY_CODE_3] = "error 03",
+    [REPLY_OF_1] = "values of 1 word",
+    [REPLY_OF_47] = "values of 47 words",
+    [REPLY_5_BEFORE_10] = "5 where the reply is refused too",
+    [REPLY_10_NOTHING] = "10, no bytes",
+    [REPLY_10_SHORT] = "10, 1 to 3 bytes",
+    [REPLY_10_LONG] = "10, only for 101 bytes",
+    [REPLY_10_CHECK] = "10, only for the check",
+    [REPLY_10_OF_SEVERAL] = "10 where 11 to 13 hold too",
+    [REPLY_11] = "11, only for the station",
+    [REPLY_11_OF_SEVERAL] = "11 where 12 or 13 holds too",
+    [REPLY_12] = "12, only for the function",
+    [REPLY_12_OF_SEVERAL] = "12 where 13 holds too",
+    [REPLY_12_OTHER_ORDER] = "12, another order's function",
+    [REPLY_12_OTHER_ERROR] = "12, another order's error",
+    [REPLY_13_CODE_0] = "13, error 00",
+    [REPLY_13_CODE_4] = "13, error 04",
+    [REPLY_13_NO_CODE] = "13, an error without a code",
+    [REPLY_13_TWO_CODES] = "13, a code and a byte more",
+    [REPLY_13_CODE_UNMARKED] = "13, a code that is not marked",
+    [REPLY_13_BODY_MARKED] = "13, a good body marked as error",
+    [REPLY_13_BYTE_COUNT] = "13, only for the byte count",
+    [REPLY_13_LENGTH] = "13, only for the length",
+    [REPLY_13_WORD_LESS] = "13, whole, one word less",
+    [REPLY_13_WORD_MORE] = "13, whole, one word more",
+    [REPLY_13_ADDRESS] = "13, only for the address",
+    [REPLY_13_VALUE] = "13, only for the value of 06",
+    [REPLY_13_COUNT] = "13, only for the count of 10",
+    [REPLY_13_CLEAR_VALUE] = "13, only for the value of 05",
+    [REPLY_13_ECHO_SHORT] = "13, an echo cut short",
+    [REPLY_13_ECHO_LONG] = "13, an echo and more",
+    [REPLY_13_OF_100] = "13, a reply of 100 bytes"
+};
+
+static const char *const order_kinds[ORDER_COUNT] = {
+    "read", "record", "write", "writes", "clear"
+};
+
+static const char *const end_names[ASKED_END_COUNT] = {
+    "done", "error 01", "error 02", "error 03"
+};
+
+/* No query has a count or a clear value that gets error 03, so that only a write
+ * gets it. One bit for each end. */
+static const unsigned ends_of[ORDER_COUNT] = {
+    [ORDER_READ] = 7, [ORDER_RECORD] = 7, [ORDER_WRITE] = 15, [ORDER_WRITES] = 15,
+    [ORDER_CLEAR] = 7
+};
+
+static const char *const asked_names[ASKED_MET_COUNT] = {
+    [ASKED_OTHER_STATION] = "silence, for another station",
+    [ASKED_READ_OF_RECORDS] = "a read of records, error 03",
+    [ASKED_READ_OF_ONE_RECORD] = "a read of one, a record came",
+    [ASKED_READ_OF_ONE_WORD] = "the same, and it has one word",
+    [ASKED_RECORD_OTHER_WORDS] = "a record of other words",
+    [ASKED_RECORD_ELSEWHERE] = "a record order at a register",
+    [ASKED_RECORD_ONE_WORD] = "the same, of one word",
+    [ASKED_OTHER_TAKEN] = "taken for another order's",
+    [ASKED_OTHER_REFUSED] = "not taken for another order's"
+};
+
 /* The numbers that each call can hand back, one bit each. */
 static const unsigned numbers_of[CALL_COUNT] = {
+    [CALL_QUERY] = 1 << 0 | 1 << 5 | 1 << 9,
+    [CALL_REPLY] = 1 << 0 | 1 << 5 | 1 << 9 | 1 << 10 | 1 << 11 | 1 << 12 | 1 << 13,
     [CALL_SHEET_CHECK] = 1 << 0 | 1 << 2,
     [CALL_BANK_CHECK] = 1 << 0 | 1 << 2 | 1 << 3 | 1 << 4,
     [CALL_BANK_FRESH] = 1 << 0 | 1 << 2 | 1 << 3,
@@ -183,7 +301,7 @@ static const unsigned numbers_of[CALL_COUNT] = {
 
 static bool line(const char *group, const char *name, uint64_t count, uint64_t least)
 {
-    printf("%-12s %-32s %9" PRIu64 "\n", group, name, count);
+    printf("%-13s %-32s %9" PRIu64 "\n", group, name, count);
     if (count >= least)
         return true;
     printf("TOO FEW: %s %s was met %" PRIu64 " times, %" PRIu64 " are asked for\n", group, name,
@@ -191,11 +309,18 @@ static bool line(const char *group, const char *name, uint64_t count, uint64_t l
     return false;
 }
 
-static bool call_lines(const struct counts *counts, uint64_t least)
+/* How often a thing of the meter's half, and of the box's, is to be met. */
+struct least {
+    uint64_t meter, box;
+};
+
+static bool call_lines(const struct counts *counts, const struct least *leasts)
 {
     bool enough = true;
     char name[40];
     for (int sort = 0; sort < CALL_COUNT; sort++) {
+        bool of_box = sort == CALL_QUERY || sort == CALL_REPLY;
+        uint64_t least = of_box ? leasts->box : leasts->meter;
         enough = line("call", call_name((enum call_sort)sort), counts->call[sort], least) && enough;
         for (int number = 0; number < NUMBER_COUNT; number++) {
             snprintf(name, sizeof name, "%s gives %d", call_name((enum call_sort)sort), number);
@@ -204,6 +329,36 @@ static bool call_lines(const struct counts *counts, uint64_t least)
         }
     }
     return enough;
+}
+
+static bool asked_lines(const struct counts *counts, uint64_t least)
+{
+    bool enough = true;
+    char name[40];
+    for (int order = 0; order < ORDER_COUNT; order++)
+        for (int end = 0; end < ASKED_END_COUNT; end++) {
+            snprintf(name, sizeof name, "%s, %s", order_kinds[order], end_names[end]);
+            if ((ends_of[order] >> end & 1) == 1)
+                enough = line("asked", name, counts->asked[order][end], least) && enough;
+        }
+    for (int met = 0; met < ASKED_MET_COUNT; met++)
+        enough = line("asked", asked_names[met], counts->asked_met[met], least) && enough;
+    return enough;
+}
+
+static bool box_lines(const struct counts *counts, uint64_t least)
+{
+    bool enough = true;
+    for (int met = 0; met < ORDER_MET_COUNT; met++)
+        enough = line("query", order_names[met], counts->order[0][met], least) && enough;
+    for (int met = 0; met < ORDER_MET_COUNT; met++)
+        enough = line("reply's order", order_names[met], counts->order[1][met], least) && enough;
+    for (int met = 0; met < REPLY_MET_COUNT; met++)
+        enough = line("reply", reply_names[met], counts->reply[met], least) && enough;
+    for (int damage = DAMAGE_NONE + 1; damage < DAMAGE_COUNT; damage++)
+        enough = line("reply hit", damage_names[damage], counts->reply_damage[damage], least)
+            && enough;
+    return asked_lines(counts, least) && enough;
 }
 
 static bool rule_lines(const struct counts *counts, uint64_t least)
@@ -232,9 +387,21 @@ static bool reason_lines(const struct counts *counts, uint64_t least)
     return enough;
 }
 
-bool counts_enough(const struct counts *counts, uint64_t least)
+static struct least leasts_of(const struct counts *counts, uint64_t calls_for_one)
 {
-    bool enough = call_lines(counts, least);
+    struct least least = { 0, 0 };
+    if (calls_for_one > 0) {
+        least.meter = (counts->calls - counts->calls_of_box) / calls_for_one;
+        least.box = counts->calls_of_box / calls_for_one;
+    }
+    return least;
+}
+
+bool counts_enough(const struct counts *counts, uint64_t calls_for_one)
+{
+    struct least leasts = leasts_of(counts, calls_for_one);
+    uint64_t least = leasts.meter;
+    bool enough = call_lines(counts, &leasts);
     for (int step = STEP_REFUSED + 1; step < STEP_COUNT; step++)
         enough = line("step", second_step_name((enum second_step)step), counts->step[step], least)
             && enough;
@@ -243,5 +410,6 @@ bool counts_enough(const struct counts *counts, uint64_t least)
         enough = line("met", special_names[special], counts->special[special], least) && enough;
     for (int damage = DAMAGE_NONE + 1; damage < DAMAGE_COUNT; damage++)
         enough = line("damage", damage_names[damage], counts->damage[damage], least) && enough;
-    return rule_lines(counts, least) && enough;
+    enough = rule_lines(counts, least) && enough;
+    return box_lines(counts, leasts.box) && enough;
 }

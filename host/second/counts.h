@@ -170,8 +170,121 @@ enum special {
     SPECIAL_COUNT
 };
 
+/* Orders that were taken, and orders that are refused for one thing only. Those that
+ * are there for each kind of order stand in the orders' order. */
+enum order_met {
+    ORDER_TAKEN_READ,
+    ORDER_TAKEN_RECORD,
+    ORDER_TAKEN_WRITE,
+    ORDER_TAKEN_WRITES,
+    ORDER_TAKEN_CLEAR,
+    ORDER_READ_TO_FFFF,
+    ORDER_RECORD_AT_FFFF,
+    ORDER_WRITE_AT_FFFF,
+    ORDER_WRITES_TO_FFFF,
+    ORDER_CLEAR_AT_FFFF,
+    ORDER_READ_OF_1,
+    ORDER_READ_OF_47,
+    ORDER_RECORD_OF_1,
+    ORDER_RECORD_OF_47,
+    ORDER_WRITES_OF_1,
+    ORDER_WRITES_OF_45,
+    ORDER_VALUE_FFFF,
+    ORDER_STATION_1,
+    ORDER_STATION_F7,
+    ORDER_NUMBER_OF_NO_USE,
+    ORDER_VALUES_OF_NO_USE,
+    ORDER_9_KIND_5,
+    ORDER_9_KIND_LARGE,
+    ORDER_9_STATION_0,
+    ORDER_9_STATION_F8,
+    ORDER_9_STATION_LARGE,
+    ORDER_9_READ_OF_0,
+    ORDER_9_READ_OF_48,
+    ORDER_9_RECORD_OF_0,
+    ORDER_9_RECORD_OF_48,
+    ORDER_9_WORDS_LARGE,
+    ORDER_9_VALUE_10000,
+    ORDER_9_NO_VALUES,
+    ORDER_9_ODD_VALUES,
+    ORDER_9_WRITES_OF_46,
+    ORDER_9_READ_TO_10000,
+    ORDER_9_RECORD_AT_10000,
+    ORDER_9_WRITE_AT_10000,
+    ORDER_9_WRITES_TO_10000,
+    ORDER_9_CLEAR_AT_10000,
+    ORDER_9_ADDRESS_LARGE,
+    ORDER_9_SUM_OVER_32_BITS,
+    ORDER_9_SEVERAL,
+    ORDER_9_BEFORE_5,
+    ORDER_MET_COUNT
+};
+
+/* What came back, and how it was read. */
+enum reply_met {
+    REPLY_READ,                     /* one for each kind of order */
+    REPLY_RECORD,
+    REPLY_WRITE,
+    REPLY_WRITES,
+    REPLY_CLEAR,
+    REPLY_CODE_1,
+    REPLY_CODE_2,
+    REPLY_CODE_3,
+    REPLY_OF_1,
+    REPLY_OF_47,
+    REPLY_5_BEFORE_10,
+    REPLY_10_NOTHING,
+    REPLY_10_SHORT,
+    REPLY_10_LONG,
+    REPLY_10_CHECK,
+    REPLY_10_OF_SEVERAL,
+    REPLY_11,
+    REPLY_11_OF_SEVERAL,
+    REPLY_12,
+    REPLY_12_OF_SEVERAL,
+    REPLY_12_OTHER_ORDER,
+    REPLY_12_OTHER_ERROR,
+    REPLY_13_CODE_0,
+    REPLY_13_CODE_4,
+    REPLY_13_NO_CODE,
+    REPLY_13_TWO_CODES,
+    REPLY_13_CODE_UNMARKED,
+    REPLY_13_BODY_MARKED,
+    REPLY_13_BYTE_COUNT,
+    REPLY_13_LENGTH,
+    REPLY_13_WORD_LESS,
+    REPLY_13_WORD_MORE,
+    REPLY_13_ADDRESS,
+    REPLY_13_VALUE,
+    REPLY_13_COUNT,
+    REPLY_13_CLEAR_VALUE,
+    REPLY_13_ECHO_SHORT,
+    REPLY_13_ECHO_LONG,
+    REPLY_13_OF_100,
+    REPLY_MET_COUNT
+};
+
+/* How an order was read that a meter had got and answered. */
+enum asked_end { ASKED_DONE, ASKED_ERROR_1, ASKED_ERROR_2, ASKED_ERROR_3, ASKED_END_COUNT };
+
+/* Orders that get no answer, reads and record orders that do not go with the record
+ * area, and answers that are read against another order than the meter got. */
+enum asked_met {
+    ASKED_OTHER_STATION,
+    ASKED_READ_OF_RECORDS,
+    ASKED_READ_OF_ONE_RECORD,
+    ASKED_READ_OF_ONE_WORD,
+    ASKED_RECORD_OTHER_WORDS,
+    ASKED_RECORD_ELSEWHERE,
+    ASKED_RECORD_ONE_WORD,
+    ASKED_OTHER_TAKEN,
+    ASKED_OTHER_REFUSED,
+    ASKED_MET_COUNT
+};
+
 struct counts {
     uint64_t calls;
+    uint64_t calls_of_box;          /* the meter's answers to it included */
     uint64_t call[CALL_COUNT];
     uint64_t number[CALL_COUNT][NUMBER_COUNT];
     uint64_t step[STEP_COUNT];
@@ -181,9 +294,16 @@ struct counts {
     uint64_t rule_alone[RULE_COUNT];
     uint64_t rule_first[RULE_COUNT];
     uint64_t special[SPECIAL_COUNT];
+    uint64_t order[2][ORDER_MET_COUNT];     /* of a query, and of a reply */
+    uint64_t reply[REPLY_MET_COUNT];
+    uint64_t reply_damage[DAMAGE_COUNT];
+    uint64_t asked[ORDER_COUNT][ASKED_END_COUNT];
+    uint64_t asked_met[ASKED_MET_COUNT];
 };
 
-/* Prints the table; false, with each name, if a count is below the least. */
-bool counts_enough(const struct counts *counts, uint64_t least);
+/* Prints the table; false, with each name, if something was met less than once in so
+ * many calls of its half of the line, the meter's or the box's. With 0 for the calls
+ * nothing is asked for. */
+bool counts_enough(const struct counts *counts, uint64_t calls_for_one);
 
 #endif
