@@ -1,4 +1,4 @@
-/* The cases that 01 lists, and more for the requests W1 to W3 and W5 of 02, run on
+/* The cases that 01 lists, and more for the requests W1 to W3, W5 and W6 of 02, run on
  * both sides: the library and the second statement must agree, and both must
  * give what is written here. Each frame is asked about first: the reason, and with
  * an item the side, is the one that 02 names for what 01 writes. */
@@ -1097,10 +1097,391 @@ static void run_ends(void)
         run_map_ends(maps[i]);
 }
 
+/* ---- W6: orders on both sides of each limit ---- */
+
+enum { MOST_VALUES = 400, KEPT = 0xA5 };
+
+struct order_case {
+    const char *name;
+    struct asked asked;
+    size_t values_n;            /* bytes 01, 02, 03 and so on */
+    const char *query;          /* without check and values; empty if there is none */
+};
+
+static const struct order_case orders[] = {
+    { "read of 0", { 0, 1, 0x0100, 0 }, 0, "" },
+    { "read of 1", { 0, 1, 0x0100, 1 }, 0, "01 03 01 00 00 01" },
+    { "read of 47", { 0, 1, 0x0100, 47 }, 0, "01 03 01 00 00 2F" },
+    { "read of 48", { 0, 1, 0x0100, 48 }, 0, "" },
+    { "read of 257", { 0, 1, 0x0100, 0x0101 }, 0, "" },
+    { "read of 10001", { 0, 1, 0x0100, 0x00010001 }, 0, "" },
+    { "read of FFFFFFFF", { 0, 1, 0x0100, 0xFFFFFFFF }, 0, "" },
+    { "read at 0000", { 0, 1, 0, 1 }, 0, "01 03 00 00 00 01" },
+    { "read at FFFF", { 0, 1, 0xFFFF, 1 }, 0, "01 03 FF FF 00 01" },
+    { "read of two at FFFE", { 0, 1, 0xFFFE, 2 }, 0, "01 03 FF FE 00 02" },
+    { "read of two at FFFF", { 0, 1, 0xFFFF, 2 }, 0, "" },
+    { "read of 47 at FFD1", { 0, 1, 0xFFD1, 47 }, 0, "01 03 FF D1 00 2F" },
+    { "read of 47 at FFD2", { 0, 1, 0xFFD2, 47 }, 0, "" },
+    { "read at 10000", { 0, 1, 0x10000, 1 }, 0, "" },
+    { "read at 10100", { 0, 1, 0x10100, 1 }, 0, "" },
+    { "read at FFFFFFFF", { 0, 1, 0xFFFFFFFF, 1 }, 0, "" },
+    { "read of 47 at FFFFFFD1", { 0, 1, 0xFFFFFFD1, 47 }, 0, "" },
+    { "read of 47 at FFFFFFD2", { 0, 1, 0xFFFFFFD2, 47 }, 0, "" },
+    { "read, values of no use", { 0, 1, 0x0100, 2 }, 3, "01 03 01 00 00 02" },
+    { "record of 0", { 1, 1, 0x0400, 0 }, 0, "" },
+    { "record of 1", { 1, 1, 0x0400, 1 }, 0, "01 03 04 00 00 01" },
+    { "record of 22", { 1, 1, 0x1DC7, 22 }, 0, "01 03 1D C7 00 01" },
+    { "record of 47", { 1, 1, 0x0400, 47 }, 0, "01 03 04 00 00 01" },
+    { "record of 48", { 1, 1, 0x0400, 48 }, 0, "" },
+    { "record of 10001", { 1, 1, 0x0400, 0x00010001 }, 0, "" },
+    { "record of 47 at FFFF", { 1, 1, 0xFFFF, 47 }, 0, "01 03 FF FF 00 01" },
+    { "record at 10000", { 1, 1, 0x10000, 1 }, 0, "" },
+    { "record at FFFFFFFF", { 1, 1, 0xFFFFFFFF, 1 }, 0, "" },
+    { "record, values of no use", { 1, 1, 0x0400, 2 }, 92, "01 03 04 00 00 01" },
+    { "write of 0000", { 2, 1, 0x010E, 0 }, 0, "01 06 01 0E 00 00" },
+    { "write of FFFF", { 2, 1, 0x010E, 0xFFFF }, 0, "01 06 01 0E FF FF" },
+    { "write of 10000", { 2, 1, 0x010E, 0x10000 }, 0, "" },
+    { "write of 10002", { 2, 1, 0x010E, 0x10002 }, 0, "" },
+    { "write of FFFFFFFF", { 2, 1, 0x010E, 0xFFFFFFFF }, 0, "" },
+    { "write at FFFF", { 2, 1, 0xFFFF, 0x1234 }, 0, "01 06 FF FF 12 34" },
+    { "write at 10000", { 2, 1, 0x10000, 0x1234 }, 0, "" },
+    { "write at FFFFFFFF", { 2, 1, 0xFFFFFFFF, 0x1234 }, 0, "" },
+    { "write, values of no use", { 2, 1, 0x010E, 2 }, 5, "01 06 01 0E 00 02" },
+    { "writes of nothing", { 3, 1, 0x010F, 1 }, 0, "" },
+    { "writes of a byte", { 3, 1, 0x010F, 1 }, 1, "" },
+    { "writes of one", { 3, 1, 0x010F, 0 }, 2, "01 10 01 0F 00 01 02" },
+    { "writes of three bytes", { 3, 1, 0x010F, 1 }, 3, "" },
+    { "writes of two", { 3, 1, 0x010F, 0xFFFFFFFF }, 4, "01 10 01 0F 00 02 04" },
+    { "writes of 89 bytes", { 3, 1, 0x010F, 44 }, 89, "" },
+    { "writes of 45", { 3, 1, 0x010F, 48 }, 90, "01 10 01 0F 00 2D 5A" },
+    { "writes of 91 bytes", { 3, 1, 0x010F, 45 }, 91, "" },
+    { "writes of 46", { 3, 1, 0x010F, 1 }, 92, "" },
+    { "writes of 129", { 3, 1, 0x010F, 1 }, 258, "" },
+    { "writes of one at FFFF", { 3, 1, 0xFFFF, 0 }, 2, "01 10 FF FF 00 01 02" },
+    { "writes of two at FFFF", { 3, 1, 0xFFFF, 0 }, 4, "" },
+    { "writes of 45 at FFD3", { 3, 1, 0xFFD3, 0 }, 90, "01 10 FF D3 00 2D 5A" },
+    { "writes of 45 at FFD4", { 3, 1, 0xFFD4, 0 }, 90, "" },
+    { "writes at 10000", { 3, 1, 0x10000, 0 }, 2, "" },
+    { "writes at FFFFFFFF", { 3, 1, 0xFFFFFFFF, 0 }, 2, "" },
+    { "clear", { 4, 1, 0x0300, 0 }, 0, "01 05 03 00 00 00" },
+    { "clear, the rest of no use", { 4, 1, 0x0300, 0xFF00FF00 }, 91, "01 05 03 00 00 00" },
+    { "clear at 0000", { 4, 1, 0, 0 }, 0, "01 05 00 00 00 00" },
+    { "clear at FFFF", { 4, 1, 0xFFFF, 0 }, 0, "01 05 FF FF 00 00" },
+    { "clear at 10000", { 4, 1, 0x10000, 0 }, 0, "" },
+    { "clear at 10300", { 4, 1, 0x10300, 0 }, 0, "" },
+    { "order 5", { 5, 1, 0x0100, 1 }, 2, "" },
+    { "order 256", { 256, 1, 0x0100, 1 }, 2, "" },
+    { "order 10003", { 0x10003, 1, 0x0100, 1 }, 2, "" },
+    { "order FFFFFFFF", { 0xFFFFFFFF, 1, 0x0100, 1 }, 2, "" },
+    { "station 0", { 0, 0, 0x0100, 1 }, 0, "" },
+    { "station 2", { 0, 2, 0x0100, 1 }, 0, "02 03 01 00 00 01" },
+    { "station 247", { 0, 247, 0x0100, 1 }, 0, "F7 03 01 00 00 01" },
+    { "station 248", { 0, 248, 0x0100, 1 }, 0, "" },
+    { "station 255", { 0, 255, 0x0100, 1 }, 0, "" },
+    { "station 256", { 0, 256, 0x0100, 1 }, 0, "" },
+    { "station 257", { 0, 257, 0x0100, 1 }, 0, "" },
+    { "station FFFFFFFF", { 0, 0xFFFFFFFF, 0x0100, 1 }, 0, "" },
+    { "record, station 0", { 1, 0, 0x0400, 1 }, 0, "" },
+    { "record, station 247", { 1, 247, 0x0400, 1 }, 0, "F7 03 04 00 00 01" },
+    { "record, station 248", { 1, 248, 0x0400, 1 }, 0, "" },
+    { "write, station 0", { 2, 0, 0x010E, 2 }, 0, "" },
+    { "write, station 247", { 2, 247, 0x010E, 2 }, 0, "F7 06 01 0E 00 02" },
+    { "write, station 248", { 2, 248, 0x010E, 2 }, 0, "" },
+    { "writes, station 0", { 3, 0, 0x010F, 0 }, 2, "" },
+    { "writes, station 247", { 3, 247, 0x010F, 0 }, 2, "F7 10 01 0F 00 01 02" },
+    { "writes, station 248", { 3, 248, 0x010F, 0 }, 2, "" },
+    { "clear, station 0", { 4, 0, 0x0300, 0 }, 0, "" },
+    { "clear, station 247", { 4, 247, 0x0300, 0 }, 0, "F7 05 03 00 00 00" },
+    { "clear, station 248", { 4, 248, 0x0300, 0 }, 0, "" }
+};
+
+/* A buffer to which nothing was written. */
+static const uint8_t *kept_out(void)
+{
+    static uint8_t out[OUT_ROOM + 1];
+    memset(out, KEPT, sizeof out);
+    return out;
+}
+
+static struct call order_call(enum call_sort sort, struct asked asked, size_t values_n)
+{
+    static uint8_t values[MOST_VALUES];
+    for (size_t i = 0; i < MOST_VALUES; i++)
+        values[i] = (uint8_t)(i + 1);
+    struct call call = { sort, { NULL }, { 0 }, 0, 0, asked };
+    call.part[PART_VALUES] = values;
+    call.part_n[PART_VALUES] = values_n;
+    call.part[PART_OUT] = kept_out();
+    call.part_n[PART_OUT] = OUT_ROOM;
+    return call;
+}
+
+/* The number, what is told with it, and all of out. */
+static void ask_order(const struct call *call, const struct outcome *told, const uint8_t *out,
+                      const char *name)
+{
+    struct outcome outcome;
+    expect(same_on_both_sides(call, &outcome), name, "the sides differ");
+    expect(outcome.number == told->number, name, "number");
+    expect(outcome.length == told->length, name, "length");
+    expect(outcome.error == told->error, name, "error");
+    expect(memcmp(part_after(PART_OUT), out, call->part_n[PART_OUT]) == 0, name, "out");
+}
+
+/* With 100 bytes, with one more, and with too few: 9 comes ahead of 5. */
+static void ask_with_each_out(struct call *call, const struct outcome *told, const uint8_t *out,
+                              const char *name)
+{
+    struct outcome small = { NUMBER_BUFFER, 0, 0, 0, 0, 0, 0 };
+    if (told->number == NUMBER_NO_FRAME)
+        small.number = NUMBER_NO_FRAME;
+    call->part_n[PART_OUT] = OUT_ROOM;
+    ask_order(call, told, out, name);
+    call->part_n[PART_OUT] = OUT_ROOM + 1;
+    ask_order(call, told, out, name);
+    call->part_n[PART_OUT] = OUT_ROOM - 1;
+    ask_order(call, &small, kept_out(), name);
+    call->part_n[PART_OUT] = 0;
+    ask_order(call, &small, kept_out(), name);
+}
+
+/* The query, and an error that comes back to it. To an order without a frame nothing
+ * can, and so the refusal is ahead of what the bytes are. */
+static void run_order(const struct order_case *one)
+{
+    uint8_t query[OUT_ROOM + 1], reply[OUT_ROOM];
+    struct outcome built = { NUMBER_NO_FRAME, 0, 0, 0, 0, 0, 0 };
+    struct outcome read = built;
+    struct call call = order_call(CALL_QUERY, one->asked, one->values_n);
+    memset(query, KEPT, sizeof query);
+    size_t n = put_hex(one->query, query);
+    if (n > 0) {
+        if (n == 7) {
+            memcpy(query + n, call.part[PART_VALUES], one->values_n);
+            n += one->values_n;
+        }
+        built.number = read.number = NUMBER_DONE;
+        built.length = (uint32_t)add_check(query, n);
+        read.error = 2;
+    }
+    ask_with_each_out(&call, &built, query, one->name);
+    reply[0] = query[0];
+    reply[1] = query[1] | 0x80;
+    reply[2] = 2;
+    call.sort = CALL_REPLY;
+    call.part[PART_BYTES] = reply;
+    call.part_n[PART_BYTES] = add_check(reply, 3);
+    ask_with_each_out(&call, &read, kept_out(), one->name);
+}
+
+/* ---- W6: replies ---- */
+
+/* A read of two words, a record of two, a write of 0002, writes of two words and a
+ * clear. */
+#define ASKED_READ { 0, 1, 0x0101, 2 }, 0
+#define ASKED_RECORD { 1, 1, 0x0400, 2 }, 0
+#define ASKED_WRITE { 2, 1, 0x010E, 2 }, 0
+#define ASKED_WRITES { 3, 1, 0x010F, 0 }, 4
+#define ASKED_CLEAR { 4, 1, 0x0300, 7 }, 0
+
+struct reply_case {
+    struct asked asked;
+    size_t values_n;
+    const char *reply;          /* checks left out */
+    uint32_t number;
+    uint32_t length, error;
+};
+
+static const struct reply_case replies[] = {
+    { ASKED_READ, "01 03 04 00 01 00 00", NUMBER_DONE, 4, 0 },
+    { ASKED_READ, "01 03 04 FF FE FD FC", NUMBER_DONE, 4, 0 },
+    { ASKED_READ, "01 03 03 00 01 00 00", NUMBER_REPLY_BODY, 0, 0 },
+    { ASKED_READ, "01 03 05 00 01 00 00", NUMBER_REPLY_BODY, 0, 0 },
+    { ASKED_READ, "01 03 02 00 01 00 00", NUMBER_REPLY_BODY, 0, 0 },
+    { ASKED_READ, "01 03 04 00 01 00", NUMBER_REPLY_BODY, 0, 0 },
+    { ASKED_READ, "01 03 04 00 01 00 00 00", NUMBER_REPLY_BODY, 0, 0 },
+    { ASKED_READ, "01 03 03 00 01 00", NUMBER_REPLY_BODY, 0, 0 },
+    { ASKED_READ, "01 03 05 00 01 00 00 00", NUMBER_REPLY_BODY, 0, 0 },
+    { ASKED_READ, "01 03 02 00 01", NUMBER_REPLY_BODY, 0, 0 },
+    { ASKED_READ, "01 03 06 00 01 00 00 00 00", NUMBER_REPLY_BODY, 0, 0 },
+    { ASKED_READ, "01 03 00", NUMBER_REPLY_BODY, 0, 0 },
+    { ASKED_READ, "01 03 04", NUMBER_REPLY_BODY, 0, 0 },
+    { ASKED_READ, "01 03 02", NUMBER_REPLY_BODY, 0, 0 },
+    { ASKED_READ, "01 03", NUMBER_REPLY_BODY, 0, 0 },
+    { ASKED_READ, "01 03 01 01 00 02", NUMBER_REPLY_BODY, 0, 0 },
+    { ASKED_READ, "01", NUMBER_REPLY_DAMAGED, 0, 0 },
+    { ASKED_READ, "", NUMBER_REPLY_DAMAGED, 0, 0 },
+    { ASKED_READ, "01 83 01", NUMBER_DONE, 0, 1 },
+    { ASKED_READ, "01 83 02", NUMBER_DONE, 0, 2 },
+    { ASKED_READ, "01 83 03", NUMBER_DONE, 0, 3 },
+    { ASKED_READ, "01 83 00", NUMBER_REPLY_BODY, 0, 0 },
+    { ASKED_READ, "01 83 04", NUMBER_REPLY_BODY, 0, 0 },
+    { ASKED_READ, "01 83 81", NUMBER_REPLY_BODY, 0, 0 },
+    { ASKED_READ, "01 83 FF", NUMBER_REPLY_BODY, 0, 0 },
+    { ASKED_READ, "01 83", NUMBER_REPLY_BODY, 0, 0 },
+    { ASKED_READ, "01 83 02 00", NUMBER_REPLY_BODY, 0, 0 },
+    { ASKED_READ, "01 83 00 02", NUMBER_REPLY_BODY, 0, 0 },
+    { ASKED_READ, "01 83 02 02", NUMBER_REPLY_BODY, 0, 0 },
+    { ASKED_READ, "01 83 04 00 01 00 00", NUMBER_REPLY_BODY, 0, 0 },
+    { ASKED_READ, "02 03 04 00 01 00 00", NUMBER_REPLY_STATION, 0, 0 },
+    { ASKED_READ, "00 03 04 00 01 00 00", NUMBER_REPLY_STATION, 0, 0 },
+    { ASKED_READ, "81 03 04 00 01 00 00", NUMBER_REPLY_STATION, 0, 0 },
+    { ASKED_READ, "02 83 02", NUMBER_REPLY_STATION, 0, 0 },
+    { ASKED_READ, "02 06 01 0E 00 02", NUMBER_REPLY_STATION, 0, 0 },
+    { ASKED_READ, "02 03 03 00 01 00 00", NUMBER_REPLY_STATION, 0, 0 },
+    { ASKED_READ, "02 00", NUMBER_REPLY_STATION, 0, 0 },
+    { ASKED_READ, "01 04 04 00 01 00 00", NUMBER_REPLY_FUNCTION, 0, 0 },
+    { ASKED_READ, "01 02 04 00 01 00 00", NUMBER_REPLY_FUNCTION, 0, 0 },
+    { ASKED_READ, "01 43 04 00 01 00 00", NUMBER_REPLY_FUNCTION, 0, 0 },
+    { ASKED_READ, "01 05 03 00 00 00", NUMBER_REPLY_FUNCTION, 0, 0 },
+    { ASKED_READ, "01 06 01 01 00 02", NUMBER_REPLY_FUNCTION, 0, 0 },
+    { ASKED_READ, "01 10 01 01 00 02", NUMBER_REPLY_FUNCTION, 0, 0 },
+    { ASKED_READ, "01 86 02", NUMBER_REPLY_FUNCTION, 0, 0 },
+    { ASKED_READ, "01 80 02", NUMBER_REPLY_FUNCTION, 0, 0 },
+    { ASKED_READ, "01 86 04", NUMBER_REPLY_FUNCTION, 0, 0 },
+    { ASKED_READ, "01 00", NUMBER_REPLY_FUNCTION, 0, 0 },
+    { ASKED_RECORD, "01 03 04 12 34 56 78", NUMBER_DONE, 4, 0 },
+    { ASKED_RECORD, "01 03 02 12 34", NUMBER_REPLY_BODY, 0, 0 },
+    { ASKED_RECORD, "01 03 06 12 34 56 78 9A BC", NUMBER_REPLY_BODY, 0, 0 },
+    { ASKED_RECORD, "01 03 04 00 00 01", NUMBER_REPLY_BODY, 0, 0 },
+    { ASKED_RECORD, "01 83 02", NUMBER_DONE, 0, 2 },
+    { ASKED_RECORD, "01 83 04", NUMBER_REPLY_BODY, 0, 0 },
+    { ASKED_RECORD, "02 03 04 12 34 56 78", NUMBER_REPLY_STATION, 0, 0 },
+    { ASKED_RECORD, "01 10 04 00 00 02", NUMBER_REPLY_FUNCTION, 0, 0 },
+    { ASKED_WRITE, "01 06 01 0E 00 02", NUMBER_DONE, 0, 0 },
+    { ASKED_WRITE, "01 06 01 0E 00 03", NUMBER_REPLY_BODY, 0, 0 },
+    { ASKED_WRITE, "01 06 01 0E 01 02", NUMBER_REPLY_BODY, 0, 0 },
+    { ASKED_WRITE, "01 06 01 0E 02 00", NUMBER_REPLY_BODY, 0, 0 },
+    { ASKED_WRITE, "01 06 01 0F 00 02", NUMBER_REPLY_BODY, 0, 0 },
+    { ASKED_WRITE, "01 06 00 0E 00 02", NUMBER_REPLY_BODY, 0, 0 },
+    { ASKED_WRITE, "01 06 0E 01 00 02", NUMBER_REPLY_BODY, 0, 0 },
+    { ASKED_WRITE, "01 06 01 0E 00", NUMBER_REPLY_BODY, 0, 0 },
+    { ASKED_WRITE, "01 06 01 0E", NUMBER_REPLY_BODY, 0, 0 },
+    { ASKED_WRITE, "01 06 01 0E 00 02 00", NUMBER_REPLY_BODY, 0, 0 },
+    { ASKED_WRITE, "01 06", NUMBER_REPLY_BODY, 0, 0 },
+    { ASKED_WRITE, "01 06 03", NUMBER_REPLY_BODY, 0, 0 },
+    { ASKED_WRITE, "01 86 01", NUMBER_DONE, 0, 1 },
+    { ASKED_WRITE, "01 86 03", NUMBER_DONE, 0, 3 },
+    { ASKED_WRITE, "01 86 04", NUMBER_REPLY_BODY, 0, 0 },
+    { ASKED_WRITE, "01 86 01 0E 00 02", NUMBER_REPLY_BODY, 0, 0 },
+    { ASKED_WRITE, "02 06 01 0E 00 02", NUMBER_REPLY_STATION, 0, 0 },
+    { ASKED_WRITE, "01 10 01 0E 00 02", NUMBER_REPLY_FUNCTION, 0, 0 },
+    { ASKED_WRITE, "01 05 01 0E 00 02", NUMBER_REPLY_FUNCTION, 0, 0 },
+    { ASKED_WRITE, "01 83 03", NUMBER_REPLY_FUNCTION, 0, 0 },
+    { ASKED_WRITES, "01 10 01 0F 00 02", NUMBER_DONE, 0, 0 },
+    { ASKED_WRITES, "01 10 01 0F 00 01", NUMBER_REPLY_BODY, 0, 0 },
+    { ASKED_WRITES, "01 10 01 0F 00 03", NUMBER_REPLY_BODY, 0, 0 },
+    { ASKED_WRITES, "01 10 01 0F 00 04", NUMBER_REPLY_BODY, 0, 0 },
+    { ASKED_WRITES, "01 10 01 0F 01 02", NUMBER_REPLY_BODY, 0, 0 },
+    { ASKED_WRITES, "01 10 01 0E 00 02", NUMBER_REPLY_BODY, 0, 0 },
+    { ASKED_WRITES, "01 10 01 0F 00", NUMBER_REPLY_BODY, 0, 0 },
+    { ASKED_WRITES, "01 10 01 0F 00 02 04", NUMBER_REPLY_BODY, 0, 0 },
+    { ASKED_WRITES, "01 10 01 0F 00 02 04 01 02 03 04", NUMBER_REPLY_BODY, 0, 0 },
+    { ASKED_WRITES, "01 90 03", NUMBER_DONE, 0, 3 },
+    { ASKED_WRITES, "01 90 00", NUMBER_REPLY_BODY, 0, 0 },
+    { ASKED_WRITES, "02 90 03", NUMBER_REPLY_STATION, 0, 0 },
+    { ASKED_WRITES, "01 06 01 0F 00 02", NUMBER_REPLY_FUNCTION, 0, 0 },
+    { ASKED_CLEAR, "01 05 03 00 00 00", NUMBER_DONE, 0, 0 },
+    { ASKED_CLEAR, "01 05 03 00 FF 00", NUMBER_REPLY_BODY, 0, 0 },
+    { ASKED_CLEAR, "01 05 03 00 00 07", NUMBER_REPLY_BODY, 0, 0 },
+    { ASKED_CLEAR, "01 05 03 01 00 00", NUMBER_REPLY_BODY, 0, 0 },
+    { ASKED_CLEAR, "01 05 03 00 00", NUMBER_REPLY_BODY, 0, 0 },
+    { ASKED_CLEAR, "01 05 03 00 00 00 00", NUMBER_REPLY_BODY, 0, 0 },
+    { ASKED_CLEAR, "01 85 02", NUMBER_DONE, 0, 2 },
+    { ASKED_CLEAR, "01 85 00", NUMBER_REPLY_BODY, 0, 0 },
+    { ASKED_CLEAR, "F8 05 03 00 00 00", NUMBER_REPLY_STATION, 0, 0 },
+    { ASKED_CLEAR, "01 06 03 00 00 00", NUMBER_REPLY_FUNCTION, 0, 0 },
+    { ASKED_CLEAR, "01 15 03 00 00 00", NUMBER_REPLY_FUNCTION, 0, 0 }
+};
+
+/* As it came, damaged in each of its bits, and cut to each length. */
+static void run_reply(const struct reply_case *one)
+{
+    static const struct outcome damaged = { NUMBER_REPLY_DAMAGED, 0, 0, 0, 0, 0, 0 };
+    uint8_t reply[OUT_ROOM] = { 0 }, out[OUT_ROOM + 1];
+    struct outcome told = { one->number, one->length, 0, 0, 0, 0, one->error };
+    struct call call = order_call(CALL_REPLY, one->asked, one->values_n);
+    size_t n = put_checked(one->reply, reply);
+    call.part[PART_BYTES] = reply;
+    call.part_n[PART_BYTES] = n;
+    memset(out, KEPT, sizeof out);
+    memcpy(out, reply + 3, one->length);
+    ask_with_each_out(&call, &told, out, one->reply);
+    call.part_n[PART_OUT] = OUT_ROOM;
+    for (size_t bit = 0; bit < 8 * n; bit++) {
+        reply[bit / 8] ^= (uint8_t)(1 << bit % 8);
+        ask_order(&call, &damaged, kept_out(), one->reply);
+        reply[bit / 8] ^= (uint8_t)(1 << bit % 8);
+    }
+    for (size_t cut = 0; cut < 4; cut++) {
+        call.part_n[PART_BYTES] = cut;
+        ask_order(&call, &damaged, kept_out(), one->reply);
+    }
+}
+
+/* ---- W6: the longest replies ---- */
+
+/* So many bytes behind the byte count, to an order of so many words. */
+static void run_long_reply(uint32_t order, uint32_t words, size_t bytes, uint32_t number)
+{
+    struct asked asked = { order, 0xF7, 0x0400, words };
+    struct call call = order_call(CALL_REPLY, asked, 0);
+    struct outcome told = { number, number == NUMBER_DONE ? 2 * words : 0, 0, 0, 0, 0, 0 };
+    uint8_t reply[2 * OUT_ROOM] = { 0xF7, 0x03, (uint8_t)bytes }, out[OUT_ROOM + 1];
+    for (size_t i = 0; i < bytes; i++)
+        reply[3 + i] = (uint8_t)(0xFF - i);
+    memset(out, KEPT, sizeof out);
+    memcpy(out, reply + 3, told.length);
+    call.part[PART_BYTES] = reply;
+    call.part_n[PART_BYTES] = add_check(reply, 3 + bytes);
+    ask_with_each_out(&call, &told, out, "a long reply");
+}
+
+static void run_long_replies(void)
+{
+    for (uint32_t order = ORDER_READ; order <= ORDER_RECORD; order++) {
+        run_long_reply(order, 1, 2, NUMBER_DONE);
+        run_long_reply(order, 1, 0, NUMBER_REPLY_BODY);
+        run_long_reply(order, 1, 4, NUMBER_REPLY_BODY);
+        run_long_reply(order, 46, 92, NUMBER_DONE);
+        run_long_reply(order, 46, 94, NUMBER_REPLY_BODY);
+        run_long_reply(order, 47, 92, NUMBER_REPLY_BODY);
+        run_long_reply(order, 47, 94, NUMBER_DONE);
+        run_long_reply(order, 47, 95, NUMBER_REPLY_BODY);
+        run_long_reply(order, 47, 96, NUMBER_REPLY_DAMAGED);
+        run_long_reply(order, 48, 96, NUMBER_NO_FRAME);
+        run_long_reply(order, 47, 97, NUMBER_REPLY_DAMAGED);
+    }
+}
+
+/* With nothing at all that is right: 9, then 5, then 10. */
+static void run_order_of_refusals(void)
+{
+    struct asked none = { 5, 0, 0x10000, 0 }, one = { 0, 1, 0, 1 };
+    struct outcome no_frame = { NUMBER_NO_FRAME, 0, 0, 0, 0, 0, 0 };
+    struct outcome damaged = { NUMBER_REPLY_DAMAGED, 0, 0, 0, 0, 0, 0 };
+    struct call call = order_call(CALL_REPLY, none, 0);
+    ask_with_each_out(&call, &no_frame, kept_out(), "nothing to nothing");
+    call.asked = one;
+    ask_with_each_out(&call, &damaged, kept_out(), "nothing to a read");
+}
+
+static void run_orders(void)
+{
+    for (size_t i = 0; i < sizeof orders / sizeof orders[0]; i++)
+        run_order(&orders[i]);
+    for (size_t i = 0; i < sizeof replies / sizeof replies[0]; i++)
+        run_reply(&replies[i]);
+    run_long_replies();
+    run_order_of_refusals();
+}
+
 int main(void)
 {
     size_t n = sizeof cases / sizeof cases[0];
     size_t records_n = sizeof record_cases / sizeof record_cases[0];
+    size_t orders_n = sizeof orders / sizeof orders[0];
+    size_t replies_n = sizeof replies / sizeof replies[0];
     for (size_t i = 0; i < n; i++)
         run_case(&cases[i]);
     run_check_values();
@@ -1109,6 +1490,8 @@ int main(void)
     run_stations();
     run_records();
     run_ends();
-    printf("ran %zu frame cases, %d failures\n", n + records_n, failed);
+    run_orders();
+    printf("ran %zu frame cases, %zu orders and %zu replies, %d failures\n", n + records_n,
+           orders_n, replies_n, failed);
     return failed == 0 ? 0 : 1;
 }
