@@ -1045,8 +1045,8 @@ static void read_for_other(struct made_order *order, const uint8_t *reply, size_
 }
 
 /* An order on its whole way: built, asked about, answered and read; the answer is read
- * damaged too, and for another order. The bank is kept only now, since what is read is
- * held to what it was. */
+ * damaged too, and for another order. The meter has a copy of the bank, since what is
+ * read is held to what the bank was before. */
 static void call_meter(void)
 {
     static struct made_order order;

@@ -367,11 +367,20 @@ static size_t spoil_frame(uint8_t *reply, size_t n)
     }
 }
 
+/* Any byte, with the check mended. */
+static size_t change_byte(uint8_t *reply, size_t end)
+{
+    reply[below((uint32_t)end)] = (uint8_t)below(256);
+    return add_check(reply, end);
+}
+
 size_t spoil_reply(uint8_t *reply, size_t n)
 {
     uint32_t faults = chance(75) ? 1u << ONE_OF(0, 0, 0, 0, 0, 1, 2, 3, 3) : 1 + below(15);
     size_t end = n - 2;
     bool is_error = (reply[1] & 0x80) != 0;
+    if (chance(8))
+        return change_byte(reply, end);
     if ((faults & 1) != 0 && is_error)
         end = spoil_error(reply, end);
     else if ((faults & 1) != 0)
