@@ -249,7 +249,7 @@ static void make_subject_ring(void)
 static bool choose_ring(struct call *call)
 {
     static uint8_t ring[RING_ROOM];
-    bool own = chance(call->sort == CALL_ANSWER || call->sort == CALL_WHY ? 94 : 72);
+    bool own = chance(call->sort == CALL_ANSWER || call->sort == CALL_WHY ? 92 : 72);
     lend_ring(call);
     if (own)
         return true;

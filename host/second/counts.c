@@ -229,6 +229,7 @@ static const char *const reply_names[REPLY_MET_COUNT] = {
     [REPLY_5_BEFORE_10] = "5 where the reply is refused too",
     [REPLY_10_NOTHING] = "10, no bytes",
     [REPLY_10_SHORT] = "10, 1 to 3 bytes",
+    [REPLY_10_OF_3] = "10, 3 bytes with a right check",
     [REPLY_10_LONG] = "10, only for 101 bytes",
     [REPLY_10_CHECK] = "10, only for the check",
     [REPLY_10_OF_SEVERAL] = "10 where 11 to 13 hold too",

@@ -58,7 +58,7 @@ static uint32_t some_count(const struct made *made, uint32_t start)
     uint32_t run = run_length(made, start, false);
     switch (below(10)) {
     case 0: return ONE_OF(0, 0, 0, 0, 0, 0, 0, 0, 1, 46, 48, 0x7FFF, 0x8000, 0xFFFF);
-    case 1: return ONE_OF(0, 0, 0, 0, 0, 0, 46, 47, 48);
+    case 1: return ONE_OF(0, 0, 0, 0, 0, 0, 0, 0, 0, 46, 47, 48);
     case 2: return run;
     case 3: return run + 1;
     case 4: return ONE_OF(0x0100, 0x0101, 0x0102, 0x0080, 0x8001, 0x10000 - start) & 0xFFFF;
@@ -397,7 +397,7 @@ uint32_t some_record(const struct made *made, uint32_t stored)
 
 static uint32_t some_record_count(void)
 {
-    return chance(62) ? 1
+    return chance(55) ? 1
         : ONE_OF(0, 0, 0, 2, 2, 2, 3, 46, 47, 47, 47, 48, 48, 49, 0x0101, 0xFFFF);
 }
 
@@ -591,7 +591,7 @@ static bool put_bad_half(const struct made_item *item, bool upper, uint8_t *bank
 static bool find_end_write(const struct made *made, uint8_t *bank, struct end_write *write)
 {
     uint32_t kind = ONE_OF(0, 1, 1, 1, 2, 2, 2, 2, 2);
-    uint32_t end = ONE_OF(0, 0, 0, 1, 2, 3, 3, 4, 4, 5);
+    uint32_t end = ONE_OF(0, 0, 0, 1, 2, 2, 3, 3, 4, 4, 5);
     bool half = kind == 2 && chance(60);
     bool upper = chance(60);
     bool found = false;

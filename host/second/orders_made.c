@@ -351,18 +351,25 @@ static size_t lengthen(uint8_t *reply, size_t n)
     return add_check(reply, end);
 }
 
+/* Where there is room for a check, it is often right. */
+static size_t shorten(uint8_t *reply)
+{
+    size_t n = ONE_OF(0, 0, 1, 2, 3, 3, 3);
+    return n >= 2 && chance(75) ? add_check(reply, n - 2) : n;
+}
+
 /* Too short, too long, or a check that is wrong. */
 static size_t spoil_frame(uint8_t *reply, size_t n)
 {
     uint8_t last = reply[n - 1];
-    switch (below(7)) {
-    case 0: return ONE_OF(0, 0, 0, 1, 2, 3);
-    case 1: case 2: return lengthen(reply, n);
-    case 3:
+    switch (below(8)) {
+    case 0: case 1: return shorten(reply);
+    case 2: case 3: return lengthen(reply, n);
+    case 4:
         reply[n - 1] = reply[n - 2];
         reply[n - 2] = last;
         return n;
-    case 4: return n - 1;
+    case 5: return n - 1;
     default: damage_frame(reply, n); return n;
     }
 }

@@ -63,14 +63,19 @@ static unsigned what_lacks(const struct call *call)
 
 /* The check as a division of the bits in the order that they are sent in: with the
  * check behind it nothing is left of a frame that passes. Neither side has it so. */
-static bool passes(const uint8_t *frame, size_t n)
+static bool check_is_right(const uint8_t *frame, size_t n)
 {
     uint32_t left = 0xFFFF;
     for (size_t bit = 0; bit < 8 * n; bit++) {
         uint32_t out = left >> 15 ^ (frame[bit / 8] >> bit % 8 & 1u);
         left = (left << 1 & 0xFFFF) ^ (out == 1 ? 0x8005 : 0);
     }
-    return 4 <= n && n <= LONGEST && left == 0;
+    return left == 0;
+}
+
+static bool passes(const uint8_t *frame, size_t n)
+{
+    return 4 <= n && n <= LONGEST && check_is_right(frame, n);
 }
 
 /* The second word that a query has, and an echo. */
@@ -432,9 +437,11 @@ static void count_damaged(uint64_t *reply, const struct call *call)
     size_t n = call->part_n[PART_BYTES];
     met(&reply[REPLY_10_NOTHING], n == 0);
     met(&reply[REPLY_10_SHORT], 1 <= n && n <= 3);
+    met(&reply[REPLY_10_OF_3], n == 3 && check_is_right(bytes, n));
     if (n < 4)
         return;
-    met(&reply[REPLY_10_LONG], n == LONGEST + 1 && bytes[0] == call->asked.station
+    met(&reply[REPLY_10_LONG], n == LONGEST + 1 && check_is_right(bytes, n)
+                                   && bytes[0] == call->asked.station
                                    && (bytes[1] & ~ERROR_BIT) == functions[call->asked.order]);
     if (n > LONGEST)
         return;
