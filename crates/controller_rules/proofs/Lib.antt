@@ -1,4 +1,5 @@
 pub mod Framed
 pub mod Queries
+pub mod Outcomes
 pub mod QueryCases
 pub mod ReplyCases

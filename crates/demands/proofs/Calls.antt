@@ -1,7 +1,7 @@
 -- The calls of the door as the customer sees them: what is lent, what is handed back, and what each lent buffer holds afterwards. Each is
 -- the generated contract's own `Post`, at any lifetimes, arguments, result and exits. Here too: no contract asks anything of its caller, for
 -- any input there is an outcome that it allows, and that outcome is the definition's. That what is lent is bytes comes with a call with a frame,
--- whose statements need it. Assumes nothing.
+-- and with the two of a box that asks, whose statements need it. Assumes nothing.
 use mathlib.Core.Path.{_≡_, refl, sym, subst}
 use mathlib.Core.List.{List, []}
 use mathlib.Core.Logic.{_↔_}
@@ -18,7 +18,11 @@ use Rattle.ring_rules.specs.Calls.{ringAnswer, addOutcome}
 use Rattle.meter_rules.specs.Answer.{answerOutcome}
 use Rattle.meter_rules.proofs.Bytes.{answer-bytes}
 use Rattle.why_rules.specs.Reasons.{explanation}
-use Rattle.cedarskein.specs.Door.{Told, RingTold, Handed, Said, told, toldOf, ringTold, ringToldOf, handed, handedOf, said, saidOf}
+use Rattle.controller_rules.specs.Order.{Asked, askedBy}
+use Rattle.controller_rules.specs.Query.{buildOutcome}
+use Rattle.controller_rules.specs.Reading.{readingOutcome}
+use Rattle.controller_rules.proofs.Outcomes.{build-bytes, reading-bytes}
+use Rattle.cedarskein.specs.Door.{Told, RingTold, Handed, Said, QueryTold, ReplyTold, told, toldOf, ringTold, ringToldOf, handed, handedOf, said, saidOf, queryTold, queryToldOf, replyTold, replyToldOf}
 use Rattle.cedarskein.proofs.cedarskein_sheet_check.Kinds as sheet-check
 use Rattle.cedarskein.proofs.cedarskein_sheet_check.Reads as sheet-check-reads
 use Rattle.cedarskein.proofs.cedarskein_bank_check.Kinds as bank-check
@@ -37,6 +41,10 @@ use Rattle.cedarskein.proofs.cedarskein_answer.Kinds as answer
 use Rattle.cedarskein.proofs.cedarskein_answer.Reads as answer-reads
 use Rattle.cedarskein.proofs.cedarskein_why.Kinds as why
 use Rattle.cedarskein.proofs.cedarskein_why.Reads as why-reads
+use Rattle.cedarskein.proofs.cedarskein_query.Kinds as query
+use Rattle.cedarskein.proofs.cedarskein_query.Reads as query-reads
+use Rattle.cedarskein.proofs.cedarskein_reply.Kinds as reply
+use Rattle.cedarskein.proofs.cedarskein_reply.Reads as reply-reads
 
 -- a call of a function that its contract allows: at some lifetimes, with what was lent, its result and what was left at exit
 pub record Allowed (n : ℕ) (ps : List (PK n)) (r : RK n) (Post : Out n ps r) : Type 0 where
@@ -93,6 +101,22 @@ pub data Explains : Lent → List ℕ → Said → Type 0 where
       → Explains (lentWith (now (call .lent .0)) (now (call .lent .1 .0)) (now (call .lent .1 .1 .0))) (now (call .lent .1 .1 .1 .0))
       (said (call .result) (now (call .exit .1 .1 .1 .1 .0)) (now (call .exit .1 .1 .1 .1 .1 .0)) (now (call .exit .1 .1 .1 .1 .1 .1 .0)))
 
+-- a query: what is asked, by the numbers that are handed over, and the buffer; the number and the length, and the buffer afterwards
+pub data Queries : Asked → List ℕ → QueryTold → Type 0 where
+  queries : (call : Allowed 3 query.ps query.r query-reads.Post)
+      → Queries
+      (askedBy (call .lent .0) (call .lent .1 .0) (call .lent .1 .1 .0) (call .lent .1 .1 .1 .0) (now (call .lent .1 .1 .1 .1 .0)))
+      (now (call .lent .1 .1 .1 .1 .1 .0))
+      (queryTold (call .result) (now (call .exit .1 .1 .1 .1 .1 .1 .0)) (now (call .exit .1 .1 .1 .1 .1 .0)))
+
+-- a reply: what was asked, the reply and the buffer; the number, the length and the error code, and the buffer afterwards
+pub data Reads : Asked → List ℕ → List ℕ → ReplyTold → Type 0 where
+  reads : (call : Allowed 5 reply.ps reply.r reply-reads.Post)
+      → Reads
+      (askedBy (call .lent .0) (call .lent .1 .0) (call .lent .1 .1 .0) (call .lent .1 .1 .1 .0) (now (call .lent .1 .1 .1 .1 .0)))
+      (now (call .lent .1 .1 .1 .1 .1 .0)) (now (call .lent .1 .1 .1 .1 .1 .1 .0))
+      (replyTold (call .result) (now (call .exit .1 .1 .1 .1 .1 .1 .1 .0)) (now (call .exit .1 .1 .1 .1 .1 .1 .1 .1 .0)) (now (call .exit .1 .1 .1 .1 .1 .1 .0)))
+
 -- ---- what each call hands back and leaves
 
 pub checks-sheet-is : {sheet : List ℕ} {number : ℕ} → ChecksSheet sheet number → number ≡ answerNumber (sheetAnswer sheet)
@@ -132,6 +156,21 @@ explains-is (explains call) = call .post .0
 pub explains-bytes : {given : Lent} {frame : List ℕ} {told : Said} → Explains given frame told
     → Bytes (given .sheet) × Bytes (given .bank) × Bytes (given .ring) × Bytes frame
 explains-bytes (explains call) = call .post .1
+
+pub queries-is : {asked : Asked} {buffer : List ℕ} {left : QueryTold} → Queries asked buffer left → left ≡ queryToldOf (buildOutcome asked buffer)
+queries-is (queries call) = call .post .0
+
+pub queries-bytes : {asked : Asked} {buffer : List ℕ} {left : QueryTold} → Queries asked buffer left
+    → Bytes (asked .values) × Bytes buffer × Bytes (left .buffer)
+queries-bytes (queries call) = call .post .1
+
+pub reads-is : {asked : Asked} {reply buffer : List ℕ} {left : ReplyTold} → Reads asked reply buffer left
+    → left ≡ replyToldOf (readingOutcome asked reply buffer)
+reads-is (reads call) = call .post .0
+
+pub reads-bytes : {asked : Asked} {reply buffer : List ℕ} {left : ReplyTold} → Reads asked reply buffer left
+    → Bytes (asked .values) × Bytes reply × Bytes buffer × Bytes (left .buffer)
+reads-bytes (reads call) = call .post .1
 
 -- ---- demand 2, rule D20, the whole: what the contract of cedarskein_answer allows is exactly the outcome of the definition, where bytes are lent
 
@@ -181,8 +220,14 @@ answer-takes κs lent = tt
 pub why-takes : Takes 7 why.ps why-reads.Pre
 why-takes κs lent = tt
 
--- .. and for any of it there is a call that the contract allows, so that no statement about calls is empty. A call with a frame says that bytes
--- are lent, so there it is for any bytes.
+pub query-takes : Takes 3 query.ps query-reads.Pre
+query-takes κs lent = tt
+
+pub reply-takes : Takes 5 reply.ps reply-reads.Pre
+reply-takes κs lent = tt
+
+-- .. and for any of it there is a call that the contract allows, so that no statement about calls is empty. A call with a frame, and the two of a
+-- box that asks, say that bytes are lent, so there it is for any bytes.
 
 abbrev ref : {X : Type 0} → X → RefT X
 ref x = record { ptr = (0, 0); name = 0; now = x }
@@ -299,3 +344,31 @@ some-why given frame sheet-bytes bank-bytes ring-bytes frame-bytes =
       exit = (ref (given .sheet), (ref (given .bank), (ref (given .ring), (ref frame, (ref (told .reason), (ref (told .address), (ref (told .side), tt)))))));
       post = (refl, (sheet-bytes, bank-bytes, ring-bytes, frame-bytes));
     }
+
+module _ (kind station address number : ℕ) (values : List ℕ) (values-bytes : Bytes values) where
+  abbrev asked : Asked
+  asked = askedBy kind station address number values
+
+  pub some-query : (buffer : List ℕ) → Bytes buffer → Queries asked buffer (queryToldOf (buildOutcome asked buffer))
+  some-query buffer buffer-bytes =
+      let left : QueryTold = queryToldOf (buildOutcome asked buffer) in
+      queries
+      record {
+        lifetimes = ([], ([], ([], tt)));
+        lent = (kind, (station, (address, (number, (ref values, (ref buffer, (ref 0, tt)))))));
+        result = left .number;
+        exit = (kind, (station, (address, (number, (ref values, (ref (left .buffer), (ref (left .length), tt)))))));
+        post = (refl, (values-bytes, buffer-bytes, build-bytes asked buffer values-bytes buffer-bytes));
+      }
+
+  pub some-reply : (reply buffer : List ℕ) → Bytes reply → Bytes buffer → Reads asked reply buffer (replyToldOf (readingOutcome asked reply buffer))
+  some-reply reply buffer reply-bytes buffer-bytes =
+      let left : ReplyTold = replyToldOf (readingOutcome asked reply buffer) in
+      reads
+      record {
+        lifetimes = ([], ([], ([], ([], ([], tt)))));
+        lent = (kind, (station, (address, (number, (ref values, (ref reply, (ref buffer, (ref 0, (ref 0, tt)))))))));
+        result = left .number;
+        exit = (kind, (station, (address, (number, (ref values, (ref reply, (ref (left .buffer), (ref (left .length), (ref (left .error), tt)))))))));
+        post = (refl, (values-bytes, reply-bytes, buffer-bytes, reading-bytes asked reply buffer reply-bytes buffer-bytes));
+      }

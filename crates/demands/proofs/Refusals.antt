@@ -1,8 +1,8 @@
 -- Demand 1, rules D11 and D12. For any call that a contract of the door allows: one of the numbers of section N is handed back; each refusal's
 -- number exactly if its condition holds and none does that comes before it (rule N50); and with a refusal nothing is written. Rule D13 is no
 -- statement of a contract: only a function that is shown to end is proved at all. Assumes nothing.
-use mathlib.Core.Path.{_≡_, refl, sym, subst}
-use mathlib.Core.Bool.{true, _||_}
+use mathlib.Core.Path.{_≡_, refl, sym, ap, ap₂, subst, _∙_}
+use mathlib.Core.Bool.{true, not, _||_}
 use mathlib.Core.List.{List, [], _∷_}
 use mathlib.Core.Logic.{_↔_}
 use Prim.Native.Nat.{ℕ, _≤_, _<_}
@@ -35,8 +35,12 @@ use Rattle.frame.specs.Reply.{smallBuffer}
 use Rattle.meter_rules.specs.Answer.{Outcome, answeredNumber, frameRefusals, frameCheck, unlessRefused, actedOn, answerOutcome}
 use Rattle.meter_rules.proofs.Outcomes.{outcome-cases, frame-numbers, answered-takes}
 use Rattle.why_rules.specs.Reasons.{reasonOf, explainedBy, explanation}
-use Rattle.cedarskein.specs.Door.{Told, RingTold, Handed, Said, told, toldOf, handed, handedOf, said, saidOf}
-use Rattle.demands.proofs.Calls.{ChecksSheet, ChecksBank, Freshens, Posts, Marks, ChecksRing, Adds, Answers, Explains, checks-ring-is, adds-is, checks-sheet-is, checks-bank-is, freshens-is, posts-is, marks-is, answers-is, explains-is}
+use Rattle.controller_rules.specs.Order.{Asked, noFrame}
+use Rattle.controller_rules.specs.Query.{builtNumber, buildOutcome}
+use Rattle.controller_rules.specs.Reading.{damagedReply, fromOther, otherFunction, bodyFits, readingNumber, readingOutcome}
+use Rattle.controller_rules.proofs.Outcomes.{query-numbers, built-told, build-refused, reading-numbers, reading-told, reading-refused}
+use Rattle.cedarskein.specs.Door.{Told, RingTold, Handed, Said, QueryTold, ReplyTold, told, toldOf, handed, handedOf, said, saidOf, queryTold, replyTold}
+use Rattle.demands.proofs.Calls.{ChecksSheet, ChecksBank, Freshens, Posts, Marks, ChecksRing, Adds, Answers, Explains, Queries, Reads, queries-is, reads-is, checks-ring-is, adds-is, checks-sheet-is, checks-bank-is, freshens-is, posts-is, marks-is, answers-is, explains-is}
 
 -- ---- the calls on a bank, and the two checks
 
@@ -210,3 +214,38 @@ unfolding addOutcome
 add-refuses sheet ring bytes call =
     subst (RefusesRecord sheet ring bytes) (sym (adds-is call))
     record { byNumber = by-number _ refl (add-numbers sheet ring bytes); nothingWritten = add-refused sheet ring bytes }
+
+-- ---- a box that asks
+
+-- each number exactly if its condition holds and none does that comes before it; with any but 0 the length is 0, and the buffer is as it was
+pub record RefusesQuery (asked : Asked) (buffer : List ℕ) (left : QueryTold) : Type 0 where
+  pub byNumber : ByNumber (when (noFrame asked) 9 ∷ when (smallBuffer buffer) 5 ∷ []) (left .number)
+  pub nothingWritten : (left .number ≡ 0 → ⊥) → left ≡ queryTold (left .number) 0 buffer
+
+pub query-refuses : (asked : Asked) (buffer : List ℕ) {left : QueryTold} → Queries asked buffer left → RefusesQuery asked buffer left
+query-refuses asked buffer call =
+    subst (RefusesQuery asked buffer) (sym (queries-is call))
+    record {
+      byNumber = by-number _ (ap builtNumber (built-told asked buffer)) (query-numbers asked buffer);
+      nothingWritten =
+          λ some. let none = build-refused asked buffer some in
+          ap₂ (queryTold (builtNumber (buildOutcome asked buffer .built))) (none .0) (none .1);
+    }
+
+-- with any number but 0 length and error code are 0, and the buffer is as it was
+pub record RefusesReply (asked : Asked) (reply buffer : List ℕ) (left : ReplyTold) : Type 0 where
+  pub byNumber : ByNumber
+      (when (noFrame asked) 9 ∷ when (smallBuffer buffer) 5 ∷ when (damagedReply reply) 10 ∷ when (fromOther asked reply) 11
+      ∷ when (otherFunction (asked .order) reply) 12 ∷ when (not (bodyFits asked reply)) 13 ∷ []) (left .number)
+  pub nothingWritten : (left .number ≡ 0 → ⊥) → left ≡ replyTold (left .number) 0 0 buffer
+
+pub reply-refuses : (asked : Asked) (reply buffer : List ℕ) {left : ReplyTold} → Reads asked reply buffer left → RefusesReply asked reply buffer left
+reply-refuses asked reply buffer call =
+    subst (RefusesReply asked reply buffer) (sym (reads-is call))
+    record {
+      byNumber = by-number _ (ap readingNumber (reading-told asked reply buffer)) (reading-numbers asked reply buffer);
+      nothingWritten =
+          λ some. let none = reading-refused asked reply buffer some in
+          ap₂ (λ (length error : ℕ). replyTold (readingNumber (readingOutcome asked reply buffer .reading)) length error (readingOutcome asked reply buffer .buffer)) (none .0) (none .1)
+          ∙ ap (replyTold (readingNumber (readingOutcome asked reply buffer .reading)) 0 0) (none .2);
+    }

@@ -11,7 +11,10 @@ use Rattle.bank_rules.specs.Calls.{lent, lentWith, checkAnswer, freshOutcome, p
 use Rattle.ring_rules.specs.Calls.{ringAnswer, addOutcome}
 use Rattle.meter_rules.specs.Answer.{answerOutcome}
 use Rattle.why_rules.specs.Reasons.{explanation}
-use Rattle.cedarskein.specs.Door.{told, toldOf, ringTold, ringToldOf, handed, handedOf, said, saidOf}
+use Rattle.controller_rules.specs.Order.{askedBy}
+use Rattle.controller_rules.specs.Query.{buildOutcome}
+use Rattle.controller_rules.specs.Reading.{readingOutcome}
+use Rattle.cedarskein.specs.Door.{told, toldOf, ringTold, ringToldOf, handed, handedOf, said, saidOf, queryTold, queryToldOf, replyTold, replyToldOf}
 use Rattle.cedarskein.proofs.cedarskein_check_start.Symbol as check-start-code
 use Rattle.cedarskein.proofs.cedarskein_check_take.Symbol as check-take-code
 use Rattle.cedarskein.proofs.cedarskein_check_value.Symbol as check-value-code
@@ -24,6 +27,8 @@ use Rattle.cedarskein.proofs.cedarskein_ring_check.Symbol as ring-check-code
 use Rattle.cedarskein.proofs.cedarskein_add_record.Symbol as add-record-code
 use Rattle.cedarskein.proofs.cedarskein_answer.Symbol as answer-code
 use Rattle.cedarskein.proofs.cedarskein_why.Symbol as why-code
+use Rattle.cedarskein.proofs.cedarskein_query.Symbol as query-code
+use Rattle.cedarskein.proofs.cedarskein_reply.Symbol as reply-code
 use Rattle.runs.specs.Runs.{Place, toRead, toWrite, toCount, passes, lends, Call}
 
 abbrev pub check-start-call : Call
@@ -133,4 +138,24 @@ module _ (sheet-at bank-at ring-at frame-at reason-at address-at side-at : Place
     width = w32;
     promise = λ number left. (said number (left .1 .1 .1 .1 .0) (left .1 .1 .1 .1 .1 .0) (left .1 .1 .1 .1 .1 .1 .0) ≡ saidOf (explanation (lentWith sheet bank ring) frame))
         × (Bytes sheet × Bytes bank × Bytes ring × Bytes frame);
+  }
+
+module _ (values-at buffer-at length-at : Place) (order station address number : ℕ) (values buffer : List ℕ) (length : ℕ) where
+  abbrev pub query-call : Call
+  query-call = record {
+    function = query-code.routine;
+    args = passes w32 order ∷ passes w32 station ∷ passes w32 address ∷ passes w32 number ∷ lends (toRead values-at values) ∷ lends (toWrite buffer-at buffer) ∷ lends (toCount length-at length) ∷ [];
+    width = w32;
+    promise = λ told left. (queryTold told (left .1 .1 .1 .1 .1 .1 .0) (left .1 .1 .1 .1 .1 .0) ≡ queryToldOf (buildOutcome (askedBy order station address number values) buffer))
+        × (Bytes values × Bytes buffer × Bytes (left .1 .1 .1 .1 .1 .0));
+  }
+
+module _ (values-at reply-at buffer-at length-at error-at : Place) (order station address number : ℕ) (values reply buffer : List ℕ) (length error : ℕ) where
+  abbrev pub reply-call : Call
+  reply-call = record {
+    function = reply-code.routine;
+    args = passes w32 order ∷ passes w32 station ∷ passes w32 address ∷ passes w32 number ∷ lends (toRead values-at values) ∷ lends (toRead reply-at reply) ∷ lends (toWrite buffer-at buffer) ∷ lends (toCount length-at length) ∷ lends (toCount error-at error) ∷ [];
+    width = w32;
+    promise = λ told left. (replyTold told (left .1 .1 .1 .1 .1 .1 .1 .0) (left .1 .1 .1 .1 .1 .1 .1 .1 .0) (left .1 .1 .1 .1 .1 .1 .0) ≡ replyToldOf (readingOutcome (askedBy order station address number values) reply buffer))
+        × (Bytes values × Bytes reply × Bytes buffer × Bytes (left .1 .1 .1 .1 .1 .1 .0));
   }
