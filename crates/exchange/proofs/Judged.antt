@@ -1,6 +1,6 @@
 -- A meter judges a built query as its order. Assumes nothing.
 use mathlib.Core.Path.{_≡_, refl, sym, ap, ap₂, _∙_}
-use mathlib.Core.Bool.{Bool, true, false, not, cond, _&&_, _||_}
+use mathlib.Core.Bool.{Bool, true, false, not, cond, _&&_, _||_, or-false}
 use mathlib.Core.List.{List, [], _∷_}
 use Prim.Native.Nat.{ℕ, _+_, _*_, _≤_}
 use native.Mathlib.Omega.{arith}
@@ -46,7 +46,7 @@ module _ (given : Lent) (frame : List ℕ) (whole : passes frame ≡ true) (here
       (GoodRead (placeAt sheet at) count)
   unfolding judgedFrame firstCase
   as-read count is counts long some few outside =
-      simp (whole, here, is, counts, long, starts, ne-eqb count 0 (λ e. omega (arith, some, e)), le-ltb mostRead count few, outside)
+      simp (whole, here, is, counts, long, starts, ne-eqb count 0 (λ e. omega (arith, some, e)), le-ltb mostRead count few, outside, or-false)
 
   as-record : function frame ≡ reads → second frame ≡ 1 → length frame ≡ 8 → inRecords at (recordArea sheet) ≡ true
       → judgedFrame given frame
@@ -55,7 +55,7 @@ module _ (given : Lent) (frame : List ℕ) (whole : passes frame ≡ true) (here
       ∷ when (ltb (storedCount (given .ring)) (recordNumber (recordArea sheet) at)) WrongAddress ∷ [])
       (GoodRecord (recordStart (recordArea sheet) (placeOf (recordArea sheet) (given .ring) (recordNumber (recordArea sheet) at))) (recordArea sheet .words))
   unfolding judgedFrame firstCase
-  as-record is counts long inside = simp (whole, here, is, counts, long, starts, inside)
+  as-record is counts long inside = simp (whole, here, is, counts, long, starts, inside, or-false)
 
   as-clear : function frame ≡ clears → second frame ≡ 0 → length frame ≡ 8
       → judgedFrame given frame
@@ -74,7 +74,7 @@ module _ (given : Lent) (frame : List ℕ) (whole : passes frame ≡ true) (here
       ∷ when (someBad given frame) stops ∷ [])
       (GoodWrite (placeAt sheet at) 1)
   unfolding judgedFrame firstCase
-  as-write is long = ?
+  as-write is long = simp (whole, here, is, long, starts, or-false)
 
   as-writes : (count : ℕ) → function frame ≡ writesMany → second frame ≡ count → byteCount frame ≡ 2 * count → length frame ≡ 9 + byteCount frame → 1 ≤ count
       → judgedFrame given frame
@@ -83,4 +83,5 @@ module _ (given : Lent) (frame : List ℕ) (whole : passes frame ≡ true) (here
       ∷ when (someBad given frame) stops ∷ [])
       (GoodWrite (placeAt sheet at) count)
   unfolding judgedFrame firstCase
-  as-writes count is counts bytes long some = ?
+  as-writes count is counts bytes long some =
+      simp (whole, here, is, counts, long, bytes, starts, ne-eqb count 0 (λ e. omega (arith, some, e)), le-ltb (9 + 2 * count) 9 (omega arith), eq-eqb (9 + 2 * count) (9 + 2 * count) refl, eq-eqb (2 * count) (2 * count) refl, or-false)

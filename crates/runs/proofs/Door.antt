@@ -31,9 +31,9 @@ use Rattle.cedarskein.proofs.cedarskein_answer as answer
 use Rattle.cedarskein.proofs.cedarskein_why as why
 use Rattle.cedarskein.proofs.cedarskein_answer.Met as answer-kept
 use Rattle.cedarskein.proofs.cedarskein_why.Met as why-kept
-use Rattle.cedarskein.proofs.cedarskein_query as query
+use Rattle.cedarskein.proofs.cedarskein_query as query-door
 use Rattle.cedarskein.proofs.cedarskein_query.Met as query-kept
-use Rattle.cedarskein.proofs.cedarskein_reply as reply
+use Rattle.cedarskein.proofs.cedarskein_reply as reply-door
 use Rattle.cedarskein.proofs.cedarskein_reply.Met as reply-kept
 use Rattle.runs.specs.Runs.{Place, toRead, toWrite, toCount, lends, Lasts, after, Call, Returns}
 use Rattle.runs.specs.Calls.{check-start-call, check-take-call, check-value-call, sheet-check-call, bank-check-call, bank-fresh-call, post-call, set-mark-call, ring-check-call, add-record-call, answer-call, why-call, query-call, reply-call}
@@ -142,12 +142,12 @@ module _ {M : Type 1} (𝓤 : URA M) (H : Heap 𝓤) (𝓜 : Model 𝓤 H) (𝓖
     pub query-returns : Returns 𝓤 H 𝓜 (query-call values-at buffer-at length-at order station address number values buffer length)
     query-returns =
         let call : Call = query-call values-at buffer-at length-at order station address number values buffer length in
-        returns-both 𝓤 H 𝓜 𝓖 𝓡 call query.signature query.spec _ _ (λ number left both. both) query-kept.met
+        returns-both 𝓤 H 𝓜 𝓖 𝓡 call query-door.signature query-door.spec _ _ (λ number left both. both) query-kept.met
         (λ loans. ((lifetimesOf (call .args) loans, sharesOf (call .args), tt, argsOf 0 (call .args) loans, valssOf 0 (call .args) loans), tt)) (refl, refl, refl)
 
   module _ (values-at reply-at buffer-at length-at error-at : Place) (order station address number : ℕ) (values reply buffer : List ℕ) (length error : ℕ) where
     pub reply-returns : Returns 𝓤 H 𝓜 (reply-call values-at reply-at buffer-at length-at error-at order station address number values reply buffer length error)
     reply-returns =
         let call : Call = reply-call values-at reply-at buffer-at length-at error-at order station address number values reply buffer length error in
-        returns-both 𝓤 H 𝓜 𝓖 𝓡 call reply.signature reply.spec _ _ (λ number left both. both) reply-kept.met
+        returns-both 𝓤 H 𝓜 𝓖 𝓡 call reply-door.signature reply-door.spec _ _ (λ number left both. both) reply-kept.met
         (λ loans. ((lifetimesOf (call .args) loans, sharesOf (call .args), tt, argsOf 0 (call .args) loans, valssOf 0 (call .args) loans), tt)) (refl, refl, refl)
