@@ -1,18 +1,21 @@
 # Cedarskein: `make test` is the whole verdict. `make` alone says what there is.
 KIT := rattle-kit-5b-plain logic 097e4c862dff5811
-# For `make meter` and `make why`: the sheet, by the name of a file or the short name of one in sheets/, of which the beginning is enough; the file of
-# the bank, and with a sheet that has a history, that of the ring. For `make meter` another name for its line, and the seconds from one record of the
-# history to the next. For `make why` a frame in hex.
+# For `make meter`, `make why` and `make ask`: the sheet, by the name of a file or the short name of one in sheets/, of which the beginning is enough. For
+# the first two the file of the bank, and with a sheet that has a history, that of the ring. For `make meter` another name for its line, and the seconds
+# from one record of the history to the next. For `make why` a frame in hex. For `make ask` the line, the order, the meter's station and its rate.
 SHEET := ux15_25
 LINK :=
 BANK :=
 RING :=
 EVERY :=
 FRAME :=
+ORDER :=
+STATION :=
+RATE :=
 # For `make install` and `make uninstall`, as they are used elsewhere.
 PREFIX := /usr/local
 DESTDIR :=
-export SHEET LINK BANK RING EVERY FRAME PREFIX DESTDIR
+export SHEET LINK BANK RING EVERY FRAME ORDER STATION RATE PREFIX DESTDIR
 include host/toolchain.mk
 
 # The names that were given on the command line. Make lets one pass that nobody uses, or that is empty, and the user wonders: so a target that takes
@@ -23,7 +26,7 @@ UNKNOWN = $(strip $(filter-out $(ALWAYS) $(1),$(GIVEN)))
 EMPTY = $(strip $(foreach name,$(filter-out $(2),$(filter $(1),$(GIVEN))),$(if $(strip $($(name))),,$(name))))
 takes = $(if $(UNKNOWN),$(error make $@ takes no $(UNKNOWN). It takes: $(1)))$(if $(EMPTY),$(error empty: $(EMPTY). Give each a name, or leave it out))
 
-.PHONY: help test kit claims layout registers registers-check built host compare coverage demo demo-check meter why interop install uninstall bench bench-record
+.PHONY: help test kit claims layout registers registers-check built host compare coverage demo demo-check meter why ask interop install uninstall bench bench-record
 # Two runs of rt in one target/ would be in each other's way.
 .NOTPARALLEL:
 
@@ -35,7 +38,9 @@ help:
 	@echo "make why       why a meter is silent or answers with an error; FRAME=\"01 06 ..\" is a frame in hex, without it each line of standard input is one;"
 	@echo "               SHEET=NAME is the meter's sheet, BANK=FILE its bank, else a fresh one, RING=FILE its history, else an empty one: every frame is judged"
 	@echo "               with them as they are, and none changes them"
-	@echo "make interop   two Modbus masters, mbpoll and pymodbus's client, at the simulated meter"
+	@echo "make ask       asks a meter over a serial line; LINK=NAME is the line, ORDER=\"read 0103 2\" what is asked: read ADDRESS COUNT, record ADDRESS WORDS,"
+	@echo "               write ADDRESS VALUE, writes ADDRESS VALUE .. or clear ADDRESS; STATION=1, RATE=9600 or 4800, SHEET=NAME for names and units"
+	@echo "make interop   what others wrote: mbpoll and pymodbus's client at the simulated meter, and make ask at servers of pymodbus and libmodbus"
 	@echo "make registers the makers' registers by name: docs/REGISTERS.md, sheets/registers.csv, constants of C, from the sheets and tools/registers.txt"
 	@echo "make host      the archive in C programs, alone"
 	@echo "make install   archive, headers, sheets, pkg-config file and man page, under PREFIX=/usr/local and DESTDIR=; make uninstall removes them"
@@ -88,6 +93,11 @@ meter: kit
 why:
 	@$(call takes,SHEET BANK RING FRAME)$(MAKE) -s -C demo why-built </dev/null >&2
 	@exec demo/why.sh $(RUN) target/demo/why
+
+# The same: standard output has what is told of the meter alone. The program's own exit status, 0, 1 or 2, is in make's last line.
+ask:
+	@$(call takes,SHEET LINK ORDER STATION RATE)$(MAKE) -s -C demo ask-built </dev/null >&2
+	@exec demo/ask.sh $(RUN) target/demo/ask
 
 # What is installed is the archive that is there, built anew only where a crate is newer: so `sudo make install` has nothing to prove.
 install:

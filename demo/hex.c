@@ -3,8 +3,7 @@
 
 #include <string.h>
 
-/* -1 for a character that is no digit. */
-static int digit_of(char c)
+int hex_digit(char c)
 {
     if ('0' <= c && c <= '9')
         return c - '0';
@@ -33,16 +32,16 @@ static const char *take_part(const char *part, size_t n, uint8_t *bytes, size_t 
     size_t prefix = n > 2 && part[0] == '0' && (part[1] == 'x' || part[1] == 'X') ? 2 : 0;
     size_t alone = prefix > 0 && n == prefix + 1;
     for (size_t k = prefix; k < n; k++)
-        if (digit_of(part[k]) < 0)
+        if (hex_digit(part[k]) < 0)
             return "is not hex";
     if (alone) {
-        bytes[(*bytes_n)++] = (uint8_t)digit_of(part[prefix]);
+        bytes[(*bytes_n)++] = (uint8_t)hex_digit(part[prefix]);
         return NULL;
     }
     if (n % 2 != 0)
         return "has an odd number of digits, and a byte has two";
     for (size_t k = prefix; k < n; k += 2)
-        bytes[(*bytes_n)++] = (uint8_t)(digit_of(part[k]) << 4 | digit_of(part[k + 1]));
+        bytes[(*bytes_n)++] = (uint8_t)(hex_digit(part[k]) << 4 | hex_digit(part[k + 1]));
     return NULL;
 }
 

@@ -5,6 +5,9 @@
 #include <stddef.h>
 #include <stdint.h>
 
+/* What a digit of either case stands for; -1 for a character that is none. */
+int hex_digit(char c);
+
 /* Where a text is not hex: its part from a character on, so many characters long, and what is wrong with it. */
 struct hex_fault {
     size_t at, n;

@@ -9,8 +9,9 @@
 #include <stdlib.h>
 #include <string.h>
 #include <termios.h>
-#include <time.h>
 #include <unistd.h>
+
+#include "clock.h"
 
 /* On a wire 3.5 characters without a bit end a frame. A pseudo-terminal has no bit rate: bytes written together arrive together, however
    many they are. So a frame ends with a pause as long as the longest gap of this meter, 3.5 characters of 10 bits at 4800, in milliseconds. */
@@ -20,13 +21,6 @@ static void give_up(const char *what)
 {
     fprintf(stderr, "no pseudo-terminal: %s: %s\n", what, strerror(errno));
     exit(1);
-}
-
-long milliseconds(void)
-{
-    struct timespec now;
-    clock_gettime(CLOCK_MONOTONIC, &now);
-    return now.tv_sec * 1000L + now.tv_nsec / 1000000;
 }
 
 /* The master's end stays open here too: with nobody at it, the meter's end would hang up each time a master leaves. */

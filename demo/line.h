@@ -38,7 +38,4 @@ void send_reply(struct line *line, const uint8_t *reply, size_t n);
    answer to its first frame. So one that is a second old is thrown away. */
 void forget_old_reply(struct line *line);
 
-/* The time, for what is waited for. */
-long milliseconds(void);
-
 #endif

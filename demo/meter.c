@@ -12,6 +12,7 @@
 
 #include "bank_file.h"
 #include "cedarskein.h"
+#include "clock.h"
 #include "line.h"
 #include "link.h"
 #include "memory.h"

@@ -42,6 +42,14 @@ struct register_row register_at(const struct meter *meter, unsigned address)
     return nameless;
 }
 
+uint64_t value_in(const uint8_t *words, const struct register_row *row)
+{
+    uint64_t value = 0;
+    for (unsigned k = 0; k < row->words; k++)
+        value = value << WORD_BITS | word_at(words, k);
+    return value;
+}
+
 uint64_t value_of(const struct meter *meter, const struct register_row *row)
 {
     uint64_t value = 0;

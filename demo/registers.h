@@ -26,6 +26,9 @@ enum map map_of(const struct meter *meter);
 /* The register that an address of a meter belongs to. Where the meter's sheet is no maker's, each word is a register without a name. */
 struct register_row register_at(const struct meter *meter, unsigned address);
 
+/* The raw value that a register has in words, the first of which is its first. */
+uint64_t value_in(const uint8_t *words, const struct register_row *row);
+
 /* The raw value that a register has in the meter's bank. */
 uint64_t value_of(const struct meter *meter, const struct register_row *row);
 uint64_t value_at(const struct meter *meter, unsigned address);

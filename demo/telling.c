@@ -1,4 +1,5 @@
-/* What the simulated meter says on the screen of each frame: what it was, what became of it, and the registers it was about. */
+/* What the simulated meter says on the screen of each frame: what it was, what became of it, and the registers it was about. And how words that go over
+   the line are told at either end. */
 #include "telling.h"
 
 #include <stdio.h>
@@ -125,15 +126,19 @@ static void tell_registers(const struct meter *before, const struct meter *now, 
     }
 }
 
-/* A sheet does not say what the words of a record mean. They are told as they go out. */
-static void tell_record(const struct meter *now, const struct exchange *exchange)
+void tell_record_words(const uint8_t *words, unsigned count)
 {
-    const uint8_t *words = exchange->reply + 3;
-    unsigned number = run_of(exchange->frame).start - history_of(now).first + 1;
-    printf("            record %u of %u%s:", number, records_stored(now), number == 1 ? ", the newest" : "");
-    for (unsigned k = 0; k < history_of(now).words; k++)
+    for (unsigned k = 0; k < count; k++)
         printf(" %04X", word_at(words, k));
     printf("\n");
+}
+
+/* The record as it goes out. */
+static void tell_record(const struct meter *now, const struct exchange *exchange)
+{
+    unsigned number = run_of(exchange->frame).start - history_of(now).first + 1;
+    printf("            record %u of %u%s:", number, records_stored(now), number == 1 ? ", the newest" : "");
+    tell_record_words(exchange->reply + 3, history_of(now).words);
 }
 
 /* A frame that was stopped in front of its registers tells of none. A bad item is met among them. */
@@ -156,4 +161,29 @@ void tell_answer(const struct meter *before, const struct meter *now, const stru
         tell_record(now, exchange);
     else
         tell_registers(before, now, exchange->frame);
+}
+
+/* Half a pair is no value, and the other half is not here. */
+static void tell_part(const struct register_row *row, unsigned address, unsigned word)
+{
+    printf("            %04X: %04X, a word of ", address, word);
+    print_name(row);
+    printf("\n");
+}
+
+void tell_words(const struct meter *meter, unsigned start, const uint8_t *words, unsigned count)
+{
+    unsigned at = 0;
+    while (at < count) {
+        struct register_row row = register_at(meter, start + at);
+        if (row.address != start + at || at + row.words > count) {
+            tell_part(&row, start + at, word_at(words, at));
+            at++;
+            continue;
+        }
+        begin_register(&row);
+        print_value(&row, value_in(words + 2 * at, &row));
+        printf("\n");
+        at += row.words;
+    }
 }

@@ -1,4 +1,4 @@
-/* What the simulated meter says on the screen of each frame. */
+/* What the simulated meter says on the screen of each frame, and how words that go over the line are told at either end. */
 #ifndef TELLING_H
 #define TELLING_H
 
@@ -25,5 +25,11 @@ void tell_silence(const struct meter *before, const uint8_t *frame, size_t n);
 /* A reply, with an error why, and the alarm mark, the station and the rate that are not as they were before the frame; then each register of the
    frame, with its value in its unit, or the words of the record that was read. */
 void tell_answer(const struct meter *before, const struct meter *now, const struct exchange *exchange);
+
+/* The words of a run from an address on: each register once, with its value in its unit. Of one that is only partly among them, its words. */
+void tell_words(const struct meter *meter, unsigned start, const uint8_t *words, unsigned count);
+
+/* The end of a record's line: its words. A sheet does not say what they mean. */
+void tell_record_words(const uint8_t *words, unsigned count);
 
 #endif

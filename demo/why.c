@@ -15,8 +15,9 @@
 #include "hex.h"
 #include "reasons.h"
 #include "ring_file.h"
+#include "shown.h"
 
-enum { REFUSED = 2, SHOWN_OF_FAULT = 20 };
+enum { REFUSED = 2 };
 
 struct frame {
     uint8_t *bytes;
@@ -77,13 +78,12 @@ static void add_frame(struct capture *capture, struct frame frame)
     capture->frames[capture->n++] = frame;
 }
 
-/* The part of a text that is at fault, or its beginning. Whatever it holds does not reach the terminal as it is. */
+/* The part of a text that is at fault. */
 static void tell_fault(const char *where, const char *text, const struct hex_fault *fault)
 {
     fprintf(stderr, "%s: ", where);
-    for (size_t k = 0; k < fault->n && k < SHOWN_OF_FAULT; k++)
-        fputc(' ' < text[fault->at + k] && text[fault->at + k] <= '~' ? text[fault->at + k] : '?', stderr);
-    fprintf(stderr, "%s %s\n", fault->n > SHOWN_OF_FAULT ? ".." : "", fault->why);
+    show_text(stderr, text + fault->at, fault->n);
+    fprintf(stderr, " %s\n", fault->why);
 }
 
 /* Adds the frame of a text, if it has any byte. */
