@@ -1,8 +1,9 @@
 #!/usr/bin/env python3
 """The simulated meter's names and its end: links that are in the way, files that keep a bank, signals, what its screen says of a bad value, and what
-`make meter` is told. And what `make why` says, which why_trials.py has. What both make of a history is in history_trials.py.
+`make meter` is told. And what `make why` says, which why_trials.py has. What both make of a history is in history_trials.py. And what `make ask` says of
+meters, lines and orders, which ask_trials.py has.
 
-  trials.py [--run RUN] SHEET METER WHY
+  trials.py [--run RUN] SHEET METER WHY ASK
 
 Each trial has its expected result. One that comes out otherwise is shown with both, and the exit status is 1."""
 import argparse
@@ -14,6 +15,7 @@ import sys
 import tempfile
 import time
 
+import ask_trials
 import history_trials
 import why_trials
 
@@ -22,17 +24,18 @@ FRAME_COLUMNS = 38
 
 
 class Bench:
-    """A folder to try in, and how the meter and the program `why` are started."""
+    """A folder to try in, and how the meter and the programs `why` and `ask` are started."""
 
     def __init__(self, run, given, folder):
         self.command, self.sheet, self.folder = [*run, os.path.abspath(given.meter)], given.sheet, folder
         self.why = why_trials.Why([*run, os.path.abspath(given.why)], folder)
+        self.ask = ask_trials.Ask([*run, os.path.abspath(given.ask)], folder)
 
     def path(self, name):
         return os.path.join(self.folder, name)
 
     def words(self, options):
-        named = [word if word.startswith("-") else self.path(word) for word in options]
+        named = [word if word.startswith("-") or word.isdigit() else self.path(word) for word in options]
         return [*self.command, *named, self.sheet]
 
     @contextlib.contextmanager
@@ -271,17 +274,20 @@ def main():
     words_given.add_argument("sheet")
     words_given.add_argument("meter")
     words_given.add_argument("why")
+    words_given.add_argument("ask")
     given = words_given.parse_args()
     run = given.run.split()
     why, meter = [*why_trials.TRIALS, *history_trials.OF_WHY], [*TRIALS, *history_trials.OF_METER]
     of_why = differing(why, run, given, lambda bench: bench.why)
     print(f"{len(why)} trials of make why, {of_why} came out otherwise than expected")
     if not has_pseudo_terminals():
-        print("the trials of the meter are LEFT OUT: the system has no pseudo-terminal to give")
+        print("the trials of the meter and of make ask are LEFT OUT: the system has no pseudo-terminal to give")
         return 1 if of_why else 0
     of_meter = differing(meter, run, given, lambda bench: bench)
     print(f"{len(meter)} trials of the meter's names, its screen, its end and its history, {of_meter} came out otherwise than expected")
-    return 1 if of_why or of_meter else 0
+    of_ask = differing(ask_trials.TRIALS, run, given, lambda bench: bench)
+    print(f"{len(ask_trials.TRIALS)} trials of make ask, {of_ask} came out otherwise than expected")
+    return 1 if of_why or of_meter or of_ask else 0
 
 
 if __name__ == "__main__":
