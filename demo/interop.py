@@ -1,26 +1,32 @@
 #!/usr/bin/python3
-"""Two masters that know nothing of this repository, mbpoll and pymodbus's client, at the simulated meter.
+"""What knows nothing of this repository, at both ends of the line: two masters, mbpoll and pymodbus's client, at the simulated meter, and the program ASK at
+two servers, one of pymodbus and one of libmodbus.
 
-  interop.py [--run RUN] UX ASWE HISTORY METER              plays the steps, which are those of the UX15/25 sheet, of AS-WE, bore 40, and of the
-                                                            example of a history
-  interop.py [--run RUN] --wrong UX ASWE HISTORY METER...   plays them at meters that are wrong: each step must fail at one of these; with
-                                                            --only TEXT, each step whose text has TEXT
+  interop.py [--run RUN] ASK SERVER UX ASWE HISTORY METER              plays the steps, which are those of the UX15/25 sheet, of AS-WE, bore 40, of the
+                                                                       example of a history, and of the servers; SERVER is that of libmodbus
+  interop.py [--run RUN] --wrong ASK SERVER UX ASWE HISTORY METER...   plays them at meters that are wrong: each step must fail at one of these; with
+                                                                       --only TEXT, each step whose text has TEXT
+  --wires NAME,NAME                                                    how wrong the line to the servers is while each of the meters is played
 
 Each step has its expected result. A step that comes out otherwise is shown with both, and the exit status is 1.
-RUN is put in front of METER where it needs an emulator.
+RUN is put in front of METER and ASK where they need an emulator.
 """
 import argparse
+import collections
 import contextlib
 import os
 import re
 import subprocess
 import sys
 
+from asking_steps import steps_of_asking
 from history_steps import steps_of_growing, steps_of_history
 from masters import Mbpoll, Pymodbus, damaged, send_raw, with_check
 from played_meter import UNCHANGED, GrowingHistory, Meter, StandingHistory, at_new_line, refused
+from servers import WIRES, Server
 
-README = os.path.join(os.path.dirname(os.path.abspath(__file__)), "..", "README.md")
+HERE = os.path.dirname(os.path.abspath(__file__))
+README = os.path.join(HERE, "..", "README.md")
 
 
 def judge_readings(said):
@@ -336,23 +342,41 @@ PARTS = {
 }
 
 
-WIDTH = max(map(len, PARTS))
+# The parts at the servers.
+AT_PYMODBUS, AT_LIBMODBUS = "ask at pymodbus", "ask at libmodbus"
+WIDTH = max(map(len, (*PARTS, AT_PYMODBUS, AT_LIBMODBUS)))
+
+# What the steps are played with: the words that start each program, the sheets by their names, and the line to the servers.
+Played = collections.namedtuple("Played", "meter ask servers sheets wire")
 
 
-def play_part(name, command, sheets, only):
-    """The steps of one part at a meter of its own: their texts, and the numbers of those that differ. A part of which no step has a text is left out."""
+@contextlib.contextmanager
+def steps_at_meter(name, played):
+    """The steps of one part at a meter of its own."""
     meter_of, sheet, master_of, steps_of = PARTS[name]
-    with meter_of(command, sheets[sheet]) as meter, master_of(meter.link) as master:
-        steps = [*steps_of(master, meter), ("the meter is switched off", meter.switch_off, "status 0, link gone")]
+    with meter_of(played.meter, played.sheets[sheet]) as meter, master_of(meter.link) as master:
+        yield [*steps_of(master, meter), ("the meter is switched off", meter.switch_off, "status 0, link gone")]
+
+
+@contextlib.contextmanager
+def steps_at_server(name, played):
+    with Server(played.servers[name], played.wire) as server:
+        yield steps_of_asking(played.ask, server.link)
+
+
+def play_part(name, played, only):
+    """The steps of one part: their texts, and the numbers of those that differ. A part of which no step has a text is left out."""
+    steps_at = steps_at_meter if name in PARTS else steps_at_server
+    with steps_at(name, played) as steps:
         texts = [f"{name}: {text}" for text, _, _ in steps]
         return texts, play(name, steps) if any(only in text for text in texts) else set()
 
 
-def play_all(command, sheets, only):
+def play_all(played, only):
     """Every step, and every step that differs, as (number, text)."""
     every, differing = [], []
-    for name in PARTS:
-        texts, numbers = play_part(name, command, sheets, only)
+    for name in (*PARTS, *played.servers):
+        texts, numbers = play_part(name, played, only)
         differing += [(len(every) + number, texts[number]) for number in numbers]
         every += list(enumerate(texts, len(every)))
     return every, differing
@@ -373,19 +397,29 @@ def judge_wrong(every, differing, only):
     return 1 if idle or not looked_at else 0
 
 
-def main():
+def words_of_command():
     words_given = argparse.ArgumentParser(description=__doc__, formatter_class=argparse.RawDescriptionHelpFormatter)
     words_given.add_argument("--run", default="")
     words_given.add_argument("--wrong", action="store_true", help="each step must fail at one of the meters")
     words_given.add_argument("--only", default="", metavar="TEXT", help="of the steps, those whose text has TEXT")
-    words_given.add_argument("ux")
-    words_given.add_argument("aswe")
-    words_given.add_argument("history")
+    words_given.add_argument("--wires", default="plain", metavar="NAME,NAME", help=f"one for each meter, of: {', '.join(WIRES)}")
+    for name in ("ask", "server", "ux", "aswe", "history"):
+        words_given.add_argument(name)
     words_given.add_argument("meters", nargs="+")
     given = words_given.parse_args()
+    if len(given.wires.split(",")) != len(given.meters):
+        words_given.error("there is a wire for each meter")
+    return given
+
+
+def main():
+    given = words_of_command()
+    run = given.run.split()
+    servers = {AT_PYMODBUS: [sys.executable, "-B", os.path.join(HERE, "pymodbus_server.py")], AT_LIBMODBUS: [given.server]}
+    sheets = {"ux": given.ux, "aswe": given.aswe, "history": given.history}
     every, differing = [], []
-    for meter in given.meters:
-        every, found = play_all([*given.run.split(), meter], {"ux": given.ux, "aswe": given.aswe, "history": given.history}, given.only)
+    for meter, wire in zip(given.meters, given.wires.split(",")):
+        every, found = play_all(Played([*run, meter], [*run, given.ask], servers, sheets, wire), given.only)
         differing += found
     return judge_wrong(every, differing, given.only) if given.wrong else judge(every, differing)
 

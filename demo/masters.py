@@ -69,6 +69,12 @@ class Mbpoll:
     def read_input(self, address, count):
         return self.read(address, count, "3:hex")
 
+    def read_coil(self, address):
+        """One bit: 0 or 1."""
+        said = self.run("0", address, "-c", "1", self.link)
+        value = re.search(r"^\[\d+\]:\s+([01])$", said, re.M)
+        return value.group(1) if value else said
+
     def bytes_read(self, address):
         """The bytes that came back to a read of one register, which mbpoll shows with -v, and what its library says of their number."""
         done = self.started("4:hex", address, "-v", self.link)
