@@ -12,6 +12,7 @@
 #include <unistd.h>
 
 #include "asked.h"
+#include "shown.h"
 
 enum { DONE = 0, NOT_DONE = 1, REFUSED = 2 };
 
@@ -49,12 +50,19 @@ static struct names names_given(int argc, char **argv)
     return names;
 }
 
+static int refuse_setting(const char *what, const char *text, const char *example)
+{
+    fputs(what, stderr);
+    show_text(stderr, text, strlen(text));
+    fputs(example, stderr);
+    return -1;
+}
+
 static int take_station(struct order *order, const char *station)
 {
     if (take_number(station, strlen(station), 10, &order->station) == 0)
         return 0;
-    fprintf(stderr, "STATION takes a number, 1 to 247, and not %s; as STATION=1\n", station);
-    return -1;
+    return refuse_setting("STATION takes a number, 1 to 247, and not ", station, "; as STATION=1\n");
 }
 
 /* A rate as document 01 counts it. */
@@ -63,8 +71,7 @@ static int take_rate(struct asked *asked, const char *rate)
     asked->rate = strcmp(rate, "4800") != 0;
     if (strcmp(rate, "9600") == 0 || !asked->rate)
         return 0;
-    fprintf(stderr, "RATE takes 9600 or 4800, and not %s; as RATE=9600\n", rate);
-    return -1;
+    return refuse_setting("RATE takes 9600 or 4800, and not ", rate, "; as RATE=9600\n");
 }
 
 /* All that must be good before a byte goes out, the line last. */

@@ -1,4 +1,4 @@
-"""What `make ask` says: at the simulated meter, at meters that answer wrongly, on lines that are none, and of orders that are bad. trials.py runs these."""
+"""What `make ask` says: at the simulated meter, at meters that answer wrongly, on lines that are none, and of bad orders. trials.py runs these."""
 import contextlib
 import fcntl
 import os
@@ -229,7 +229,7 @@ def late(bench):
     """A meter that takes 1.3 seconds for the first order, so that the reply to the first try meets the second, and a reply is left over. The next order
     must not take it for its own."""
     answer, other = reply_of("01 03 02 11 11"), reply_of("01 03 02 22 22")
-    with PlayedLine([sent(answer, 1.3)], [sent(answer, 1.0)], [sent(other)]) as meter:
+    with PlayedLine([sent(answer, 1.3)], [sent(answer, 0.8)], [sent(other)]) as meter:
         before = bench.ask.run(meter.link, "read 0101 1", sheet="history_example")
         after = bench.ask.run(meter.link, "read 0102 1", sheet="history_example")
         return f"{before}; {after}; {len(meter.heard)} heard"
@@ -260,7 +260,7 @@ def unusual_line(bench):
 
 
 READ, GOOD = "01 03 01 01 00 01", "01 03 02 12 34"
-HEARD = "; 3 heard, 1 of them different"
+HEARD_ONCE, HEARD = "; 1 heard, 1 of them different", "; 3 heard, 1 of them different"
 WRITE = "01 06 01 01 00 04"
 DAMAGED = "; look at the rate (RATE=4800?), the parity (none) and the wires"
 
@@ -283,27 +283,30 @@ def disagrees(reply):
 
 NOISE = "55 AA 00 FF"
 LONG_NOISE = " ".join(101 * ["55"])
+MANY = reply_of("01 03 5E" + 47 * " 12 34")
+MANY_DONE = done("01 03 01 00 00 2F", "01 03 5E" + 47 * " 12 34", *(f"{0x100 + k:04X}: 1234" for k in range(47)), names=None) + HEARD_ONCE
 AT_PLAYED = [
-    ("47 registers", played("read 0100 47", [sent(reply_of("01 03 5E" + 47 * " 12 34"))]),
-     done("01 03 01 00 00 2F", "01 03 5E" + 47 * " 12 34", *(f"{0x100 + k:04X}: 1234" for k in range(47)), names=None)
-     + "; 1 heard, 1 of them different"),
+    ("47 registers", played("read 0100 47", [sent(MANY)]), MANY_DONE),
     ("45 values", played("writes FFD3" + 45 * " FEDC", [sent(reply_of("01 10 FF D3 00 2D"))]),
      done("01 10 FF D3 00 2D 5A" + 45 * " FE DC", "01 10 FF D3 00 2D", *(f"{0xFFD3 + k:04X}: FEDC" for k in range(45)), names=None)
-     + "; 1 heard, 1 of them different"),
+     + HEARD_ONCE),
     ("bytes that a terminal would change, both ways", unusual_line,
      done("01 03 01 01 00 04", "01 03 08 0D 0A 11 13 03 04 7F 1A", "0101: 0D0A", "0102: 1113", "0103: 0304", "0104: 7F1A", names=None)
      + f"; raw True, 4800 True, as before True; heard ['{sealed('01 03 01 01 00 04')}']"),
     ("bytes that a terminal would change, in a query", played("writes 0D0A 1113 0304 7F1A", [sent(reply_of("01 10 0D 0A 00 03"))]),
      done("01 10 0D 0A 00 03 06 11 13 03 04 7F 1A", "01 10 0D 0A 00 03", "0D0A: 1113", "0D0B: 0304", "0D0C: 7F1A", names=None)
-     + "; 1 heard, 1 of them different"),
+     + HEARD_ONCE),
     ("one damaged answer", played("read 0101 1", [sent(bytes.fromhex("01 03 02 12 35 B5 33"))], [sent(reply_of(GOOD))]),
      then_good("01 03 02 12 35 B5 33", disagrees("01 03 02 12 35 B5 33"))),
-    ("an answer in two parts", played("read 0101 1", [sent(reply_of(GOOD)[:3]), sent(reply_of(GOOD)[3:], 0.02)]),
-     done(READ, GOOD, "0101: 1234", names=None) + "; 1 heard, 1 of them different"),
-    ("an answer with a long gap", played("read 0101 1", [sent(reply_of(GOOD)[:3]), sent(reply_of(GOOD)[3:], 0.07)], [sent(reply_of(GOOD))]),
-     then_good("01 03 02", "10: it has 3 bytes; the shortest frame has 4")),
+    ("an answer in three parts", played("read 0100 47", [sent(MANY[:3]), sent(MANY[3:50], 0.015), sent(MANY[50:], 0.015)]), MANY_DONE),
+    ("an answer behind noise, which the next try must not take", played("read 0101 1", [sent(101 * b"\x55" + reply_of("01 03 02 11 11"))],
+                                                                        [sent(reply_of(GOOD))]),
+     then_good(LONG_NOISE, "10: it has over 100 bytes; the longest frame has 100")),
     ("no answer to the first try", played("read 0101 1", [], [sent(reply_of(GOOD))]),
      f"status 0: {tried(1, sealed(READ))} / {tried(2, sealed(READ), sealed(GOOD))} / Done: / 0101: 1234; 2 heard, 1 of them different"),
+    ("a damaged answer, and then none", played("read 0101 1", [sent(b"\xFF")]),
+     f"status 1: {tried(1, sealed(READ), 'FF', '10: it has 1 byte; the shortest frame has 4')} / {tried(2, sealed(READ))} / {tried(3, sealed(READ))} / "
+     f"{no_answer(READ).rpartition(' / ')[2]}{HEARD}"),
     ("a late answer", late,
      f"status 0: {tried(1, sealed(READ))} / {tried(2, sealed(READ), sealed('01 03 02 11 11'))} / Done: / 0101: 1111; "
      + done("01 03 01 02 00 01", "01 03 02 22 22", "0102: 2222", names=None) + "; 3 heard"),
@@ -495,7 +498,7 @@ def made(*words):
 
 
 def form_of(command, said):
-    """What the README shows can be compared but for this: of make's own line only the end is the same everywhere, and a record has another meter's words."""
+    """What of it can be compared: of make's own line only the end is the same everywhere, and the words of a record are another meter's."""
     bare = re.sub(r"Makefile:\d+|^ +| +$", "", said, flags=re.M).strip()
     return re.sub(r"\b[0-9A-F]{2,4}\b", "N", bare) if "SHEET=history" in command else bare
 
@@ -513,7 +516,8 @@ def shown_in_readme(bench):
             for command, lines in shown:
                 link = bench.path("history" if "SHEET=history" in command else "ux")
                 typed = command.replace("/tmp/meter", link).replace("target/demo/ask", " ".join(bench.ask.command))
-                done_there = subprocess.run(typed, shell=True, cwd=ROOT, env=outside_of_make(), capture_output=True, text=True, timeout=60, check=False)
+                done_there = subprocess.run(typed, shell=True, cwd=ROOT, env=outside_of_make(), capture_output=True, text=True, timeout=60,
+                                            check=False)
                 printed, expected = (form_of(command, said) for said in (done_there.stdout + done_there.stderr, lines))
                 if printed != expected:
                     otherwise.append(f"{command} prints {printed}, and not {expected}")

@@ -121,7 +121,7 @@ static void tell_done(const struct asked *asked)
     case CEDARSKEIN_READ: tell_words(asked->meter, order->address, asked->values, asked->values_n / 2); break;
     case CEDARSKEIN_RECORD: tell_record(asked); break;
     case CEDARSKEIN_WRITE: tell_words(asked->meter, order->address, value, 1); break;
-    case CEDARSKEIN_WRITES: tell_words(asked->meter, order->address, order->values, order->values_n / 2); break;
+    case CEDARSKEIN_WRITES: tell_words(asked->meter, order->address, order->values, (unsigned)order->values_n / 2); break;
     default: break;
     }
 }

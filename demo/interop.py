@@ -1,6 +1,6 @@
 #!/usr/bin/python3
-"""What knows nothing of this repository, at both ends of the line: two masters, mbpoll and pymodbus's client, at the simulated meter, and the program ASK at
-two servers, one of pymodbus and one of libmodbus.
+"""What knows nothing of this repository, at both ends of the line: two masters, mbpoll and pymodbus's client, at the simulated meter, and the program
+ASK at two servers, one of pymodbus and one of libmodbus.
 
   interop.py [--run RUN] ASK SERVER UX ASWE HISTORY METER              plays the steps, which are those of the UX15/25 sheet, of AS-WE, bore 40, of the
                                                                        example of a history, and of the servers; SERVER is that of libmodbus

@@ -5,7 +5,7 @@
 # Exit status: 0 it is there; 1 it is not, and a line says what to type.
 folder=$1
 cc=$2
-package=libmodbus-dev
+packages="gcc libc6-dev libmodbus-dev"
 
 is_there() {
     printf '#include <modbus/modbus.h>\nint main(void) { modbus_free(NULL); return 0; }\n' | "$cc" -x c - -lmodbus -o "$folder/trial" >/dev/null 2>&1
@@ -16,19 +16,20 @@ may_install() {
 }
 
 # A network that is not there is soon given up.
-install_package() {
+install_packages() {
     quick="-q -o Acquire::Retries=0 -o Acquire::http::Timeout=20"
-    echo "installing with apt-get: $package" >&2
-    # shellcheck disable=SC2086 # options are words
-    { timeout 120 apt-get $quick update && DEBIAN_FRONTEND=noninteractive timeout 600 apt-get install --yes --no-install-recommends $quick "$package"; } \
+    echo "installing with apt-get: $packages" >&2
+    # shellcheck disable=SC2086 # options and packages are words
+    { timeout 120 apt-get $quick update && DEBIAN_FRONTEND=noninteractive timeout 600 apt-get install --yes --no-install-recommends $quick $packages; } \
         >"$folder/install.txt" 2>&1 || echo "apt-get failed; $folder/install.txt has what it said" >&2
 }
 
 mkdir -p "$folder"
 is_there && exit 0
 if may_install; then
-    install_package
+    install_packages
     is_there && exit 0
 fi
-printf 'the C library libmodbus is not there, or %s does not find it\nto have it, type: apt-get install --yes --no-install-recommends %s\n' "$cc" "$package" >&2
+printf 'the C library libmodbus is not there, or %s does not find it\n' "$cc" >&2
+printf 'to have it, type: apt-get install --yes --no-install-recommends %s\n' "$packages" >&2
 exit 1

@@ -1,5 +1,5 @@
-/* A server made of libmodbus and of nothing of this repository, for interop.py: 47 registers from 0100 on, which have A000 and their address, and a coil at
-   0300, which is on. It is station 1 at 9600.
+/* A server made of libmodbus and of nothing of this repository, for interop.py: 47 registers from 0100 on, each with A000 and its address, and a coil
+   at 0300, which is on. It is station 1 at 9600.
    usage: libmodbus_server LINE */
 #include <errno.h>
 #include <modbus/modbus.h>

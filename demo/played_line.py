@@ -73,6 +73,6 @@ class NoisyLine(PlayedLine):
     """One on which something sends all the time, and hears nothing."""
 
     def play(self):
-        while not self.is_over.wait(0.01):
+        while not self.is_over.wait(0.002):
             os.write(self.meter_end, b"\x55")
             termios.tcflush(self.meter_end, termios.TCIFLUSH)
