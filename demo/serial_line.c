@@ -15,7 +15,7 @@
 
 #include "clock.h"
 
-/* On a wire 3.5 characters without a bit end a reply, 7.3 ms at 4800. But what is seen here comes through a driver, which hands bytes on in heaps, those
+/* On a wire 3.5 characters without a bit end a reply, 7.3 ms at 4800. But what is seen here comes through a driver, which hands bytes on in batches, those
    of USB adapters every 16 ms: so a reply ends with a pause that is well above both, in milliseconds. No meter sends until it is asked again. */
 #define PAUSE 50
 
