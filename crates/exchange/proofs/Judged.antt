@@ -6,12 +6,13 @@ use Prim.Native.Nat.{ℕ, _+_, _*_, _≤_}
 use native.Mathlib.Omega.{arith}
 use lib.Dec.{ltb, eqb}
 use lib.ListN.{length}
-use borrow.Author.Tests.{eq-eqb, ne-eqb, le-ltb, eqb-true, not-false}
+use borrow.Author.Tests.{eq-eqb, ne-eqb, le-ltb, eqb-true, not-true}
 use Rattle.lists.specs.Cases.{when, firstCase}
 use Rattle.lists.specs.Lists.{upFrom}
 use Rattle.lists.proofs.Tests.{first-of, second-of}
 use Rattle.check_value.specs.Frame.{passes}
 use Rattle.sheet_rules.specs.declared.Purpose.the-variants as purpose
+use Rattle.sheet_rules.specs.declared.RecordArea.{RecordArea}
 use Rattle.sheet_rules.specs.Rows.{areas, clearAddress, recordArea}
 use Rattle.sheet_rules.specs.Rules.{inRecords}
 use Rattle.sheet_rules.specs.Lookup.{liesIn, placeIn, recordNumber}
@@ -85,3 +86,47 @@ module _ (given : Lent) (frame : List ℕ) (whole : passes frame ≡ true) (here
   unfolding judgedFrame firstCase
   as-writes count is counts bytes long some =
       simp (whole, here, is, counts, long, bytes, starts, ne-eqb count 0 (λ e. omega (arith, some, e)), le-ltb (9 + 2 * count) 9 (omega arith), eq-eqb (9 + 2 * count) (9 + 2 * count) refl, eq-eqb (2 * count) (2 * count) refl, or-false)
+
+-- ---- a built query, order by order
+
+module _ (given : Lent) (stationed : ℕ) (values : List ℕ) (here : stationed ≡ stationOf (given .sheet) (given .bank)) where
+  ours : (asked : Asked) → asked .station ≡ stationed → eqb (station (query asked)) (stationOf (given .sheet) (given .bank)) ≡ true
+  ours asked is = eq-eqb (station (query asked)) (stationOf (given .sheet) (given .bank)) (query-station asked ∙ is ∙ here)
+
+  by-order : (order : Order) → noFrame (ask order stationed values) ≡ false → suits (given .sheet) order ≡ true
+      → judgedFrame given (query (ask order stationed values)) ≡ judgedAs given (ask order stationed values)
+  unfolding judgedAs firstCase
+  by-order (Read first count) has fits =
+      let asked : Asked = ask (Read first count) stationed values in
+      let few = within 1 mostRead count (framed asked has .number) in
+      as-read given (query asked) (query-passes asked has) (ours asked refl) first (query-start asked) count (query-function asked) (query-second asked)
+      (query-length asked) (few .0) (few .1) (not-true (inRecords first (recordArea (given .sheet))) fits)
+  by-order (Record address words) has fits =
+      let asked : Asked = ask (Record address words) stationed values in
+      let area : RecordArea = recordArea (given .sheet) in
+      let inside = first-of (inRecords address area) (eqb words (area .words)) fits in
+      let many = eqb-true words (area .words) (second-of (inRecords address area) (eqb words (area .words)) fits) in
+      as-record given (query asked) (query-passes asked has) (ours asked refl) address (query-start asked) (query-function asked) (query-second asked)
+      (query-length asked) inside
+      ∙ ap
+      (λ (n : ℕ). firstCase
+      (when (not (codeAllowed (given .sheet) reads)) FunctionNotAllowed ∷ when (ltb (storedCount (given .ring)) (recordNumber area address)) WrongAddress ∷ [])
+      (GoodRecord (recordStart area (placeOf area (given .ring) (recordNumber area address))) n)) (sym many)
+  by-order (Write address value) has fits =
+      let asked : Asked = ask (Write address value) stationed values in
+      as-write given (query asked) (query-passes asked has) (ours asked refl) address (query-start asked) (query-function asked) (query-length asked)
+  by-order (Writes first) has fits =
+      let asked : Asked = ask (Writes first) stationed values in
+      let right = values-fit values (framed asked has .number) in
+      let counted = query-count first stationed values in
+      as-writes given (query asked) (query-passes asked has) (ours asked refl) first (query-start asked) (valueCount values) (query-function asked) (query-second asked)
+      (counted ∙ right .0) (query-length asked ∙ omega (arith, counted)) (right .1)
+  by-order (Clear address) has fits =
+      let asked : Asked = ask (Clear address) stationed values in
+      as-clear given (query asked) (query-passes asked has) (ours asked refl) address (query-start asked) (query-function asked) (query-second asked) (query-length asked)
+  by-order Unknown has fits = absurd (known (ask Unknown stationed values) has refl)
+
+-- rule Q51
+pub judged-as-order : (given : Lent) (asked : Asked) → noFrame asked ≡ false → asked .station ≡ stationOf (given .sheet) (given .bank)
+    → suits (given .sheet) (asked .order) ≡ true → judgedFrame given (query asked) ≡ judgedAs given asked
+judged-as-order given asked has here fits = by-order given (asked .station) (asked .values) here (asked .order) has fits
