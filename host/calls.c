@@ -6,7 +6,7 @@
 
 #include <string.h>
 
-/* The numbers that a call hands back beside its own: length and rate, or reason, address and side. */
+/* The numbers that a call hands back beside its own: length, length and rate, length and error, or reason, address and side. */
 struct numbers {
     uint32_t front[4], first, between[4], second, between_last[4], third, behind[4];
 };
@@ -205,16 +205,23 @@ uint32_t call_set_mark(struct meter *meter, uint32_t mark)
     return banked(meter, cedarskein_set_mark(meter->sheet.bytes, meter->sheet.n, meter->bank.bytes, meter->bank.n, mark));
 }
 
-/* Two numbers are written, or all three, and nothing around them. */
+/* One number is written, two of them, or all three, and nothing around them. */
 static void expect_numbers_alone(const struct numbers *numbers, int many)
 {
     struct numbers as_written;
     memset(&as_written, 0xA5, sizeof as_written);
     as_written.first = numbers->first;
-    as_written.second = numbers->second;
+    if (many >= 2)
+        as_written.second = numbers->second;
     if (many == 3)
         as_written.third = numbers->third;
     expect(memcmp(&as_written, numbers, sizeof as_written) == 0, "the memory around the numbers is as before");
+}
+
+static int has_check(const uint8_t *frame, size_t n)
+{
+    uint16_t value = check_of(frame, n - 2);
+    return frame[n - 2] == (value & 0xFF) && frame[n - 1] == value >> 8;
 }
 
 /* A reply: it passes, it goes out at the rate before the frame from the station before the frame, and out behind it is as before. */
@@ -222,12 +229,10 @@ static void expect_reply(const struct meter *meter, uint8_t station, uint8_t rat
 {
     const uint8_t *out = meter->out.bytes;
     uint32_t n = meter->length;
-    uint16_t value;
     expect(5 <= n && n <= 99, "a reply has 5 to 99 bytes");
     if (n < 5 || 99 < n)
         return;
-    value = check_of(out, n - 2);
-    expect(out[n - 2] == (value & 0xFF) && out[n - 1] == value >> 8, "the reply has its check, lower byte first");
+    expect(has_check(out, n), "the reply has its check, lower byte first");
     expect(out[0] == station, "the reply is from the station before the frame");
     expect_number(rate, meter->rate, "the reply goes out at the rate before the frame");
     expect(lent_as_before_but(&meter->out, n), "out behind the reply is as before");
@@ -338,5 +343,102 @@ uint32_t call_add_record(struct meter *meter)
         expect_added(meter);
     else
         expect(lent_as_before(&meter->ring), "the ring of a refused call is as before");
+    return number;
+}
+
+/* ---- The box that asks ---- */
+
+void box_order(struct box *box, uint32_t order, uint32_t station, uint32_t address, uint32_t number, size_t shift)
+{
+    box->order = order;
+    box->station = station;
+    box->address = address;
+    box->number = number;
+    lend_null(&box->values);
+    lend_null(&box->reply);
+    lend(&box->out, CEDARSKEIN_LEAST_OUT, shift);
+}
+
+void box_reply(struct box *box, const uint8_t *bytes, size_t n, size_t shift)
+{
+    lend_copy(&box->reply, bytes, n, shift);
+    seal(box->reply.bytes, n);
+}
+
+static void keep_box(struct box *box)
+{
+    lent_keep(&box->values);
+    lent_keep(&box->reply);
+    lent_keep(&box->out);
+}
+
+/* What both calls leave alone: all but out, of which a refused call touches nothing either, and one that is done no more than it says. */
+static void expect_box_left_alone(const struct box *box, uint32_t number)
+{
+    expect(lent_as_before(&box->values), "the values are as before");
+    expect(lent_as_before(&box->reply), "what came back is as before");
+    expect(lent_as_before_but(&box->out, box->out.n), "the memory around out is as before");
+    if (number == CEDARSKEIN_DONE)
+        return;
+    expect(lent_as_before(&box->out), "out of a refused call is as before");
+    expect_number(0, box->length, "the length of a refused call");
+    expect_number(0, box->error, "the error of a refused call");
+}
+
+/* A query: it passes, it is for the order's station, and out behind it is as before. */
+static void expect_query(const struct box *box)
+{
+    uint32_t n = box->length;
+    expect(8 <= n && n <= 99, "a query has 8 to 99 bytes");
+    if (n < 8 || 99 < n)
+        return;
+    expect(has_check(box->out.bytes, n), "the query has its check, lower byte first");
+    expect_number(box->station, box->out.bytes[0], "the station of the query");
+    expect(lent_as_before_but(&box->out, n), "out behind the query is as before");
+}
+
+uint32_t call_query(struct box *box)
+{
+    struct numbers numbers;
+    uint32_t number;
+    memset(&numbers, 0xA5, sizeof numbers);
+    keep_box(box);
+    number = cedarskein_query(box->order, box->station, box->address, box->number, box->values.bytes, box->values.n, box->out.bytes,
+                              box->out.n, &numbers.first);
+    box->length = numbers.first;
+    box->error = 0;
+    expect_numbers_alone(&numbers, 1);
+    expect_box_left_alone(box, number);
+    if (number == CEDARSKEIN_DONE)
+        expect_query(box);
+    return number;
+}
+
+/* What a reply says: the values of an order that reads, which stand in the reply behind its byte count; done; or one error of three. */
+static void expect_read(const struct box *box)
+{
+    int reads = box->order == CEDARSKEIN_READ || box->order == CEDARSKEIN_RECORD;
+    expect(box->error <= 3, "an error is 0 to 3");
+    expect_number(reads && box->error == 0 ? 2 * box->number : 0, box->length, "the bytes of values");
+    if (box->length > box->out.n || box->length + 3 > box->reply.n)
+        return;
+    expect(memcmp(box->out.bytes, box->reply.bytes + 3, box->length) == 0, "the values are the reply's");
+    expect(lent_as_before_but(&box->out, box->length), "out behind the values is as before");
+}
+
+uint32_t call_reply(struct box *box)
+{
+    struct numbers numbers;
+    uint32_t number;
+    memset(&numbers, 0xA5, sizeof numbers);
+    keep_box(box);
+    number = cedarskein_reply(box->order, box->station, box->address, box->number, box->values.bytes, box->values.n, box->reply.bytes,
+                              box->reply.n, box->out.bytes, box->out.n, &numbers.first, &numbers.second);
+    box->length = numbers.first;
+    box->error = numbers.second;
+    expect_numbers_alone(&numbers, 2);
+    expect_box_left_alone(box, number);
+    if (number == CEDARSKEIN_DONE)
+        expect_read(box);
     return number;
 }

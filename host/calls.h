@@ -56,4 +56,21 @@ uint32_t call_why(struct meter *meter);
 uint32_t call_ring_check(struct meter *meter);
 uint32_t call_add_record(struct meter *meter);
 
+/* The box at the other end of the line: an order with its values, what came back, and an answer buffer. */
+struct box {
+    uint32_t order, station, address, number;
+    struct lent values, reply, out;
+    uint32_t length; /* of the last query built, or of the values of the last reply read */
+    uint32_t error;  /* of the last reply read */
+};
+
+/* An order without values, which are null, no reply, and an answer buffer of 100 bytes. */
+void box_order(struct box *box, uint32_t order, uint32_t station, uint32_t address, uint32_t number, size_t shift);
+
+/* A reply of n bytes, of which the last two become the check of those in front. */
+void box_reply(struct box *box, const uint8_t *bytes, size_t n, size_t shift);
+
+uint32_t call_query(struct box *box);
+uint32_t call_reply(struct box *box);
+
 #endif

@@ -10,7 +10,7 @@ import sys
 HEADER = os.path.join(os.path.dirname(os.path.dirname(os.path.abspath(__file__))), "include", "cedarskein.h")
 COMMENT = r"/\*((?:[^*]|\*(?!/))*)\*/"
 FUNCTION = re.compile(COMMENT + r"\n(uint\d+_t (cedarskein_\w+)\([^;]*\);)")
-# the numbers of a call have their comment above them, the reasons and the sides behind them
+# the numbers of a call have their comment above them, the reasons, the sides and the orders behind them
 NUMBER = re.compile(COMMENT + r"\s+(CEDARSKEIN_\w+) = (\d+)")
 TOLD = re.compile(r"(CEDARSKEIN_\w+) = (\d+),?\s+" + COMMENT)
 SIZE = re.compile(r"^#define (CEDARSKEIN_\w+) (\w+) +/\* (.*) \*/$", re.M)
@@ -117,7 +117,10 @@ def page(text):
     out += synopsis(functions) + [".SH DESCRIPTION"] + body(first)
     for comment, _, name in functions:
         out += [".SS " + name, *body(lines_of(comment))]
-    out += numbers(text) + told(text, "cedarskein_reason", "REASONS") + told(text, "cedarskein_side", "SIDES") + sizes(text)
+    out += numbers(text)
+    for name, heading in (("cedarskein_reason", "REASONS"), ("cedarskein_side", "SIDES"), ("cedarskein_order", "ORDERS")):
+        out += told(text, name, heading)
+    out += sizes(text)
     for heading, lines in others:
         out += [".SH " + heading, *body(lines)]
     out += [".SH SEE ALSO", ".BR pkg-config (1),", "the headers", ".I cedarskein_sheets.h", "and", ".I cedarskein_registers.h"]
