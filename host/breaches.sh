@@ -21,7 +21,7 @@ try() {
 
 # The tests that fail, by name.
 failing() {
-    for test in refusals buffers check_values edges power_cut stations records ring_power_cut sides; do
+    for test in refusals buffers check_values edges power_cut stations records ring_power_cut sides asking exchanges; do
         try "$test" "$@" "$folder/broken_$test"
     done
     try set_p "$@" "$folder/broken_rows" "$written" "case set P" <"$host/set_p.rows"

@@ -1,4 +1,4 @@
-/* Buffers of every size and at every alignment, frames of every length, and null pointers for nothing. */
+/* Buffers of every size and at every alignment, frames and replies of every length, and null pointers for nothing. */
 #include "calls.h"
 
 #include "cedarskein.h"
@@ -11,6 +11,7 @@
 
 static const size_t out_sizes[] = { 0, 1, 99, 100, 101, 5000 };
 static struct meter meter;
+static struct box box;
 
 /* The number for a frame that gets an answer where it passes. */
 static uint32_t number_of(size_t out_n, int passes)
@@ -80,11 +81,29 @@ static void frame_of(size_t n, size_t out_n)
     silent("another station");
 }
 
+/* What comes back in any length, at any size of out. */
+static void came_back(size_t n, size_t out_n)
+{
+    uint32_t passes = 4 <= n && n <= CEDARSKEIN_LONGEST_FRAME ? CEDARSKEIN_REPLY_FUNCTION : CEDARSKEIN_REPLY_DAMAGED;
+    at_case("%lu bytes come back, out of %lu bytes", (unsigned long)n, (unsigned long)out_n);
+    box_order(&box, CEDARSKEIN_READ, 1, 0x0100, 47, 0);
+    lend(&box.out, out_n, (n + out_n) % LENT_SHIFTS);
+    lend(&box.reply, n, n % LENT_SHIFTS);
+    if (n > 1) {
+        box.reply.bytes[0] = 1;
+        box.reply.bytes[1] = 7;
+    }
+    seal(box.reply.bytes, n);
+    expect_number(out_n < CEDARSKEIN_LEAST_OUT ? CEDARSKEIN_SMALL_OUT : passes, call_reply(&box), "reply");
+}
+
 static void frames_into(size_t out_n)
 {
     size_t n;
-    for (n = 0; n <= LONGEST_TRIED; n++)
+    for (n = 0; n <= LONGEST_TRIED; n++) {
         frame_of(n, out_n);
+        came_back(n, out_n);
+    }
 }
 
 /* Each buffer at its own alignment, every one of them. */
@@ -129,6 +148,40 @@ static void ring_shifted(size_t shift)
         expect_number(99, meter.length, "length");
         expect(memcmp(meter.out.bytes + 3, meter.record.bytes, 94) == 0, "the reply has the record");
     }
+}
+
+/* The box's values, what came back, and out, each at its own alignment: the longest query, its echo, and the longest reply. */
+static void box_shifted(size_t shift)
+{
+    uint8_t reply[99] = { 0x11, 0x03, 94 };
+    at_case("a box at alignment %lu", (unsigned long)shift);
+    box_order(&box, CEDARSKEIN_WRITES, 0x11, 0x0100, 0, (3 * shift + 1) % LENT_SHIFTS);
+    lend(&box.values, 90, shift);
+    expect_number(0, call_query(&box), "query");
+    expect_number(99, box.length, "length");
+    expect(memcmp(box.out.bytes + 7, box.values.bytes, 90) == 0, "the query has the values");
+    box_reply(&box, box.out.bytes, 8, (5 * shift + 2) % LENT_SHIFTS);
+    expect_number(0, call_reply(&box), "reply, an echo");
+    box_order(&box, CEDARSKEIN_RECORD, 0x11, 0x0400, 47, (7 * shift + 3) % LENT_SHIFTS);
+    expect_number(0, call_query(&box), "query");
+    box_reply(&box, reply, sizeof reply, shift);
+    expect_number(0, call_reply(&box), "reply, of 47 words");
+    expect_number(94, box.length, "the bytes of values");
+}
+
+/* No values, nothing that came back, no out. */
+static void null_box(void)
+{
+    at_case("a box without anything");
+    box_order(&box, CEDARSKEIN_READ, 1, 0x0100, 2, 0);
+    expect_number(0, call_query(&box), "query without values");
+    expect_number(10, call_reply(&box), "reply, where nothing came back");
+    lend_null(&box.out);
+    expect_number(5, call_query(&box), "query without out");
+    expect_number(5, call_reply(&box), "reply without out");
+    box.order = CEDARSKEIN_WRITES;
+    expect_number(9, call_query(&box), "query of no writes");
+    expect_number(9, call_reply(&box), "reply to no writes");
 }
 
 /* No record area: a ring of no bytes, null or not, is right, and any other is not. */
@@ -206,6 +259,7 @@ static void nulls(void)
     null_bank();
     null_ring();
     null_record();
+    null_box();
     at_case("no frame, no out, no words");
     meter_fresh(&meter, cedarskein_ux_sheet, CEDARSKEIN_UX_SHEET_SIZE, 0);
     lend_null(&meter.words);
@@ -236,6 +290,7 @@ static void all_shifts(void)
     for (shift = 0; shift < LENT_SHIFTS; shift++) {
         shifted(shift);
         ring_shifted(shift);
+        box_shifted(shift);
     }
 }
 
@@ -244,5 +299,5 @@ int main(void)
     all_sizes();
     all_shifts();
     nulls();
-    return told("frames of 0 to 300 bytes into buffers of 0, 1, 99, 100, 101 and 5000, every alignment, null for nothing");
+    return told("frames and replies of 0 to 300 bytes, buffers of 0, 1, 99, 100, 101 and 5000, every alignment, null for nothing");
 }

@@ -211,6 +211,68 @@ static void records_of_ux(uint16_t count, uint16_t words_each)
         ring_of(n, ring_size(records));
 }
 
+/* ---- The box that asks ---- */
+
+/* A query of each order and the reply to it. Values that are of no use lie where nothing may be touched at all, and so do those of
+ * order 3 when a reply is read, which goes by their number alone. */
+static void asked(uint32_t order, uint32_t number, size_t values_n)
+{
+    const uint8_t *untouchable = words.room + PAGE;
+    uint32_t length = 0, error, refused = values_n % 2 == 0 && 0 < values_n && values_n <= 90 ? CEDARSKEIN_DONE : CEDARSKEIN_NO_FRAME;
+    int writes = order == CEDARSKEIN_WRITES;
+    at_case("order %lu, number %lu, %lu bytes of values, at the %s", (unsigned long)order, (unsigned long)number, (unsigned long)values_n,
+            edge_name());
+    edge_noise(&words, values_n);
+    edge_noise(&out, CEDARSKEIN_LEAST_OUT);
+    expect_number(writes ? refused : CEDARSKEIN_DONE, cedarskein_query(order, 1, 0x0100, number, writes ? words.bytes : untouchable,
+                                                                       values_n, out.bytes, out.n, &length), "query");
+    edge_noise(&frame, order < CEDARSKEIN_WRITE ? 5 + 2 * (size_t)number : 8);
+    memcpy(frame.bytes, out.bytes, frame.n < 6 ? frame.n : 6);
+    if (order < CEDARSKEIN_WRITE)
+        frame.bytes[2] = (uint8_t)(2 * number);
+    seal(frame.bytes, frame.n);
+    expect_number(writes ? refused : CEDARSKEIN_DONE, cedarskein_reply(order, 1, 0x0100, number, untouchable, values_n, frame.bytes,
+                                                                       frame.n, out.bytes, out.n, &length, &error), "reply");
+}
+
+/* What comes back is noise behind the order's station and function, or an error, of any length: no more of it is read than there is. */
+static void came_back(uint32_t order, uint8_t function, size_t n)
+{
+    uint32_t length, error, number;
+    at_case("%lu bytes come back to order %lu, function %02X, at the %s", (unsigned long)n, (unsigned long)order, function, edge_name());
+    edge_noise(&frame, n);
+    if (n > 1) {
+        frame.bytes[0] = 1;
+        frame.bytes[1] = function;
+    }
+    if (n > 2)
+        frame.bytes[2] = (uint8_t)(n - 5);
+    seal(frame.bytes, n);
+    number = cedarskein_reply(order, 1, 0x0100, 47, words.bytes, words.n, frame.bytes, frame.n, out.bytes, out.n, &length, &error);
+    if (n < 4 || CEDARSKEIN_LONGEST_FRAME < n)
+        expect_number(CEDARSKEIN_REPLY_DAMAGED, number, "reply");
+    else
+        expect(number == CEDARSKEIN_DONE || number == CEDARSKEIN_REPLY_BODY, "reply: done, or another body");
+}
+
+static void box_that_asks(void)
+{
+    static const uint8_t functions[5] = { 0x03, 0x03, 0x06, 0x10, 0x05 };
+    uint32_t order, number;
+    size_t n;
+    for (number = 1; number <= 47; number++)
+        for (order = 0; order < 5; order++)
+            asked(order, number, 2 * (size_t)number);
+    for (n = 0; n <= 100; n++)
+        asked(CEDARSKEIN_WRITES, 1, n);
+    edge_noise(&words, 90);
+    for (n = 0; n <= LONGEST_TRIED; n++)
+        for (order = 0; order < 5; order++) {
+            came_back(order, functions[order], n);
+            came_back(order, functions[order] | 0x80, n);
+        }
+}
+
 /* The front of a sheet; where it is longer, the whole sheet and noise behind it. */
 static void sheet_of(size_t n)
 {
@@ -260,6 +322,7 @@ static void run(int end)
     records_of_ux(1, 1);
     records_of_ux(3, 47);
     records_of_ux(600, 47);
+    box_that_asks();
     sheets();
 }
 

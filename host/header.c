@@ -1,5 +1,5 @@
 /* The headers, as C and as C++: the named sizes, the sheets, the registers' addresses, every function of the door, where a bank holds
- * rate and station, and where a ring holds a record. */
+ * rate and station, where a ring holds a record, and the box that asks. */
 #include "cedarskein.h"
 #include "cedarskein_registers.h"
 #include "cedarskein_sheets.h"
@@ -155,12 +155,44 @@ static void records(void)
     expect(cedarskein_ring_check(cedarskein_ux_sheet, CEDARSKEIN_UX_SHEET_SIZE, NULL, 0) == CEDARSKEIN_DONE, "no record area and no ring");
 }
 
+/* The orders' numbers and those of the two calls. */
+static void order_numbers(void)
+{
+    static const int orders[5] = { CEDARSKEIN_READ, CEDARSKEIN_RECORD, CEDARSKEIN_WRITE, CEDARSKEIN_WRITES, CEDARSKEIN_CLEAR };
+    static const int refusals[5] = { CEDARSKEIN_NO_FRAME, CEDARSKEIN_REPLY_DAMAGED, CEDARSKEIN_REPLY_STATION, CEDARSKEIN_REPLY_FUNCTION,
+                                     CEDARSKEIN_REPLY_BODY };
+    int i;
+    for (i = 0; i < 5; i++) {
+        expect(orders[i] == i, "the orders are 0 to 4");
+        expect(refusals[i] == 9 + i, "what is refused of them is 9 to 13");
+    }
+}
+
+/* As the header has it: the query is built and sent, and what comes back is read against the same order. */
+static void box_that_asks(void)
+{
+    static uint8_t bank[CEDARSKEIN_UX_BANK_SIZE], out[CEDARSKEIN_LEAST_OUT], reply[CEDARSKEIN_LEAST_OUT];
+    const uint32_t station = 1, address = CEDARSKEIN_UX_REFERENCE_TEMPERATURE, count = 15;
+    uint32_t length = 99, rate = 99, error = 99, reply_n = 99;
+    cedarskein_bank_fresh(cedarskein_ux_sheet, CEDARSKEIN_UX_SHEET_SIZE, bank, sizeof bank);
+    expect(cedarskein_query(0, station, address, count, NULL, 0, out, sizeof out, &length) == CEDARSKEIN_DONE && length == 8, "query");
+    expect(cedarskein_answer(cedarskein_ux_sheet, CEDARSKEIN_UX_SHEET_SIZE, bank, sizeof bank, NULL, 0, out, length, reply, sizeof reply,
+                             &reply_n, &rate) == CEDARSKEIN_DONE, "the meter answers it");
+    expect(cedarskein_reply(0, station, address, count, NULL, 0, reply, reply_n, out, sizeof out, &length, &error) == CEDARSKEIN_DONE,
+           "reply");
+    expect(length == 30 && error == 0 && memcmp(out, bank, 30) == 0, "the values are the bank's words");
+    expect(cedarskein_query(0, 248, address, count, NULL, 0, out, sizeof out, &length) == CEDARSKEIN_NO_FRAME && length == 0, "no station");
+    expect(cedarskein_reply(0, 2, address, count, NULL, 0, reply, reply_n, out, sizeof out, &length, &error) == CEDARSKEIN_REPLY_STATION,
+           "a reply of another station");
+}
+
 static void versions(void)
 {
     char version[30];
     sprintf(version, "%d.%d.%d", CEDARSKEIN_VERSION_MAJOR, CEDARSKEIN_VERSION_MINOR, CEDARSKEIN_VERSION_PATCH);
     expect(strcmp(version, CEDARSKEIN_VERSION) == 0, "the version is said alike");
-    expect(CEDARSKEIN_VERSION_MAJOR >= 3, "why tells a side from version 3 on");
+    expect(CEDARSKEIN_VERSION_MAJOR > 3 || (CEDARSKEIN_VERSION_MAJOR == 3 && CEDARSKEIN_VERSION_MINOR >= 1),
+           "why tells a side from version 3 on, and the box asks from 3.1 on");
     expect(cedarskein_check_take(cedarskein_check_start(), 0x01) == 0x807E, "check_take");
 }
 
@@ -172,6 +204,8 @@ int main(void)
     reasons();
     item_sides();
     records();
+    order_numbers();
+    box_that_asks();
     versions();
     return failures != 0;
 }

@@ -1,4 +1,5 @@
-/* Every refusal of every call, alone and with the others, on noise. What a refused call must leave alone is looked at in calls.c. */
+/* Every refusal of every call on a sheet, alone and with the others, on noise; asking.c has those of the two calls without one. What a
+ * refused call must leave alone is looked at in calls.c. */
 #include "calls.h"
 
 #include "cedarskein.h"
