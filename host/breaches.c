@@ -22,6 +22,11 @@ uint32_t __real_cedarskein_why(const uint8_t *sheet, size_t sheet_n, const uint8
 uint32_t __real_cedarskein_ring_check(const uint8_t *sheet, size_t sheet_n, const uint8_t *ring, size_t ring_n);
 uint32_t __real_cedarskein_add_record(const uint8_t *sheet, size_t sheet_n, uint8_t *ring, size_t ring_n, const uint8_t *record,
                                       size_t record_n);
+uint32_t __real_cedarskein_query(uint32_t order, uint32_t station, uint32_t address, uint32_t number, const uint8_t *values,
+                                 size_t values_n, uint8_t *out, size_t out_n, uint32_t *length);
+uint32_t __real_cedarskein_reply(uint32_t order, uint32_t station, uint32_t address, uint32_t number, const uint8_t *values,
+                                 size_t values_n, const uint8_t *reply, size_t reply_n, uint8_t *out, size_t out_n,
+                                 uint32_t *length, uint32_t *error);
 
 /* The environment is asked once: a test makes a hundred thousand calls and more, and each asks for every breach of its door. */
 static int breach_is(const char *name)
@@ -904,4 +909,354 @@ uint32_t __wrap_cedarskein_why(const uint8_t *sheet, size_t sheet_n, const uint8
         spoil_refused_why(reason_before, side_before, reason, address, side);
     }
     return number;
+}
+
+/* ---- The box that asks ---- */
+
+static void seal(uint8_t *frame, size_t n)
+{
+    uint16_t value = __real_cedarskein_check_value(frame, n - 2);
+    frame[n - 2] = (uint8_t)(value & 0xFF);
+    frame[n - 1] = (uint8_t)(value >> 8);
+}
+
+static int orders_read(uint32_t order)
+{
+    return order == CEDARSKEIN_READ || order == CEDARSKEIN_RECORD;
+}
+
+/* What both calls are told of an order. */
+struct order {
+    uint32_t order, station, address, number;
+    size_t values_n;
+};
+
+/* The number of an order that has no frame, to a broken door that cuts it to the width that a frame has for it. */
+static void cut_order(struct order *order)
+{
+    if (breach_is("order_is_cut"))
+        order->order &= 0xFF;
+    if (breach_is("order_station_is_cut"))
+        order->station &= 0xFF;
+    if (breach_is("order_address_is_cut"))
+        order->address &= 0xFFFF;
+    if (breach_is("order_value_is_cut") && order->order == CEDARSKEIN_WRITE)
+        order->number &= 0xFFFF;
+    if (breach_is("order_count_is_cut") && orders_read(order->order))
+        order->number &= 0xFFFF;
+    if (breach_is("order_values_are_cut") && order->order == CEDARSKEIN_WRITES)
+        order->values_n &= 0xFFFF;
+    if (breach_is("odd_values_are_cut") && order->order == CEDARSKEIN_WRITES && order->values_n > 1)
+        order->values_n &= ~(size_t)1;
+}
+
+/* One beyond a limit, which a broken door takes as if it were the limit: the frame that it builds is the limit's. */
+static void stretch_order(struct order *order)
+{
+    size_t words = order->order == CEDARSKEIN_WRITES ? order->values_n / 2 : order->order == CEDARSKEIN_READ ? order->number : 1;
+    if (breach_is("order_5_is_taken") && order->order == 5)
+        order->order = CEDARSKEIN_CLEAR;
+    if (breach_is("order_for_station_0_is_taken") && order->station == 0)
+        order->station = 1;
+    if (breach_is("order_for_station_248_is_taken") && order->station == 248)
+        order->station = 247;
+    if (breach_is("read_of_48_is_taken") && order->order == CEDARSKEIN_READ && order->number == 48)
+        order->number = 47;
+    if (breach_is("record_of_48_is_taken") && order->order == CEDARSKEIN_RECORD && order->number == 48)
+        order->number = 47;
+    if (breach_is("read_of_0_is_taken") && order->order == CEDARSKEIN_READ && order->number == 0)
+        order->number = 1;
+    if (breach_is("record_of_0_is_taken") && order->order == CEDARSKEIN_RECORD && order->number == 0)
+        order->number = 1;
+    if (breach_is("values_46_are_taken") && order->order == CEDARSKEIN_WRITES && order->values_n == 92)
+        order->values_n = 90;
+    if (breach_is("run_to_10000_is_taken") && order->address <= 0xFFFF && words <= 47 && order->address + words == 0x10001)
+        order->address -= 1;
+}
+
+/* The other way round: one at a limit, which a broken door refuses. */
+static int refuses_at_limit(const struct order *order)
+{
+    int writes = order->order == CEDARSKEIN_WRITES;
+    if (breach_is("order_for_station_247_is_refused") && order->station == 247)
+        return 1;
+    if (breach_is("read_of_47_is_refused") && order->order == CEDARSKEIN_READ && order->number == 47)
+        return 1;
+    if (breach_is("record_at_ffff_is_a_run") && order->order == CEDARSKEIN_RECORD && order->address + order->number > 0x10000)
+        return 1;
+    if (breach_is("values_45_are_refused") && writes && order->values_n == 90)
+        return 1;
+    if (breach_is("run_to_ffff_is_refused") && writes && order->address + order->values_n / 2 == 0x10000)
+        return 1;
+    if (breach_is("number_of_writes_is_looked_at") && writes && order->number > 0xFFFF)
+        return 1;
+    if (breach_is("number_of_a_clear_is_looked_at") && order->order == CEDARSKEIN_CLEAR && order->number > 0xFFFF)
+        return 1;
+    return breach_is("values_of_a_read_are_looked_at") && order->order == CEDARSKEIN_READ && order->values_n % 2 == 1;
+}
+
+/* The order as a broken door sees it, or one of none of the five where it refuses. */
+static struct order order_seen(uint32_t kind, uint32_t station, uint32_t address, uint32_t number, size_t values_n)
+{
+    struct order order = { 0, 0, 0, 0, 0 };
+    order.order = kind;
+    order.station = station;
+    order.address = address;
+    order.number = number;
+    order.values_n = values_n;
+    cut_order(&order);
+    stretch_order(&order);
+    if (refuses_at_limit(&order))
+        order.order = 0xFFFFFFFF;
+    return order;
+}
+
+/* A query with another word in it, its check made right. */
+static void spoil_query(const struct order *order, uint8_t *out, uint32_t *length)
+{
+    int spoilt = 1;
+    if (breach_is("query_of_a_clear_has_ff00") && order->order == CEDARSKEIN_CLEAR)
+        out[4] = 0xFF;
+    else if (breach_is("query_of_a_record_has_its_words") && order->order == CEDARSKEIN_RECORD)
+        out[5] = (uint8_t)order->number;
+    else if (breach_is("query_of_one_value_by_06") && order->order == CEDARSKEIN_WRITES && order->values_n == 2) {
+        out[1] = 0x06;
+        memmove(out + 4, out + 7, 2);
+        *length = 8;
+    } else if (breach_is("query_address_lower_byte_first")) {
+        uint8_t upper = out[2];
+        out[2] = out[3];
+        out[3] = upper;
+    } else if (breach_is("query_values_lower_byte_first") && order->order == CEDARSKEIN_WRITES) {
+        uint8_t upper = out[7];
+        out[7] = out[8];
+        out[8] = upper;
+    } else if (breach_is("query_byte_count_is_the_count") && order->order == CEDARSKEIN_WRITES)
+        out[6] = out[5];
+    else if (breach_is("query_last_value_is_missed") && order->order == CEDARSKEIN_WRITES)
+        out[*length - 3] ^= 1;
+    else
+        spoilt = 0;
+    if (spoilt)
+        seal(out, *length);
+}
+
+/* What is written or read beside the query. */
+static void spoil_query_lent(uint32_t number, const uint8_t *values, size_t values_n, uint8_t *out, size_t out_n, uint32_t *length)
+{
+    volatile uint8_t read = 0;
+    if (breach_is("query_writes_behind_itself") && number == 0)
+        out[*length] ^= 1;
+    if (breach_is("query_writes_the_values") && values_n > 0 && number == 0)
+        ((uint8_t *)(uintptr_t)values)[0] ^= 1;
+    if (breach_is("query_reads_behind_the_values") && values_n > 0)
+        read = *(volatile const uint8_t *)(values + values_n);
+    if (breach_is("query_reads_values_of_no_use") && values_n > 0)
+        read = *(volatile const uint8_t *)values;
+    if (breach_is("refused_query_writes_out") && number != 0 && out_n > 0)
+        out[0] ^= 1;
+    if (breach_is("query_length_written_wide"))
+        length[1] = 0;
+    (void)read;
+}
+
+uint32_t __wrap_cedarskein_query(uint32_t order, uint32_t station, uint32_t address, uint32_t number, const uint8_t *values,
+                                 size_t values_n, uint8_t *out, size_t out_n, uint32_t *length)
+{
+    struct order seen = order_seen(order, station, address, number, values_n);
+    uint32_t before = *length, result;
+    result = __real_cedarskein_query(seen.order, seen.station, seen.address, seen.number, values, seen.values_n, out, out_n, length);
+    spoil_query_lent(result, values, values_n, out, out_n, length);
+    if (result == 0)
+        spoil_query(&seen, out, length);
+    if (breach_is("query_check_upper_byte_first") && result == 0) {
+        uint8_t lower = out[*length - 2];
+        out[*length - 2] = out[*length - 1];
+        out[*length - 1] = lower;
+    }
+    if (breach_is("refused_query_has_a_length") && result != 0)
+        *length = 8;
+    if (breach_is("refused_query_leaves_the_length") && result != 0)
+        *length = before;
+    if (breach_is("query_small_out_before_order") && result == 9 && out_n < CEDARSKEIN_LEAST_OUT)
+        return 5;
+    if (breach_is("query_out_of_99_is_enough") && result == 5 && out_n == 99)
+        return 0;
+    return result;
+}
+
+/* A reply that a broken door takes for the right one: what it does not compare is made right. */
+static void make_right(const struct order *order, uint8_t *reply, size_t n, const uint8_t *query)
+{
+    int echoes = order->order > CEDARSKEIN_RECORD;
+    if (breach_is("reply_station_is_not_compared"))
+        reply[0] = query[0];
+    if (breach_is("reply_function_is_not_compared") && (reply[1] & 0x80) == 0)
+        reply[1] = query[1];
+    if (breach_is("reply_error_function_is_not_compared") && (reply[1] & 0x80) != 0)
+        reply[1] = query[1] | 0x80;
+    if (breach_is("reply_top_bit_is_not_looked_at") && n != 5)
+        reply[1] &= 0x7F;
+    if (breach_is("echo_upper_address_is_not_compared") && echoes && n == 8)
+        reply[2] = query[2];
+    if (breach_is("echo_address_is_not_compared") && echoes && n == 8)
+        memcpy(reply + 2, query + 2, 2);
+    if (breach_is("echo_value_is_not_compared") && order->order == CEDARSKEIN_WRITE && n == 8)
+        memcpy(reply + 4, query + 4, 2);
+    if (breach_is("echo_count_is_not_compared") && order->order == CEDARSKEIN_WRITES && n == 8)
+        memcpy(reply + 4, query + 4, 2);
+    if (breach_is("echo_of_a_clear_is_not_compared") && order->order == CEDARSKEIN_CLEAR && n == 8)
+        memcpy(reply + 4, query + 4, 2);
+    if (breach_is("byte_count_is_not_compared") && !echoes && n == 5 + 2 * (size_t)order->number)
+        reply[2] = (uint8_t)(2 * order->number);
+    if (breach_is("byte_count_is_taken_as_words") && !echoes && reply[2] == order->number && n == 5 + 2 * (size_t)order->number)
+        reply[2] = (uint8_t)(2 * order->number);
+    if (breach_is("error_0_is_taken") && n == 5 && reply[2] == 0)
+        reply[2] = 1;
+    if (breach_is("error_4_is_taken") && n == 5 && reply[1] == (query[1] | 0x80) && reply[2] == 4)
+        reply[2] = 3;
+}
+
+/* Bytes too many, or a check that is wrong, which a broken door does not see: hands back the length that it sees. */
+static size_t seen_length(const struct order *order, uint8_t *reply, size_t n)
+{
+    if (breach_is("reply_check_is_not_compared"))
+        seal(reply, n);
+    if (breach_is("reply_check_lower_byte_alone"))
+        reply[n - 1] = (uint8_t)(__real_cedarskein_check_value(reply, n - 2) >> 8);
+    if (breach_is("error_of_two_bytes_is_taken") && n == 6 && (reply[1] & 0x80) != 0)
+        return 5;
+    if (breach_is("longer_echo_is_taken") && n > 8 && order->order > CEDARSKEIN_RECORD && (reply[1] & 0x80) == 0)
+        return 8;
+    if (breach_is("longer_values_are_taken") && orders_read(order->order) && n > 5 + 2 * (size_t)order->number)
+        return 5 + 2 * (size_t)order->number;
+    return n;
+}
+
+/* The query of an order, with zeros for its values, which a reply does not tell and a reading of it may not look at. */
+static uint32_t query_front(const struct order *order, uint8_t *query)
+{
+    static const uint8_t zeros[90] = { 0 };
+    size_t values_n = order->order == CEDARSKEIN_WRITES && order->values_n <= sizeof zeros ? order->values_n : 0;
+    uint32_t length;
+    return __real_cedarskein_query(order->order, order->station, order->address, order->number, zeros, values_n, query, CEDARSKEIN_LEAST_OUT,
+                                   &length);
+}
+
+/* A reply as a broken door sees it. Any other stays as it is: one of a length that no frame has, one with a wrong check. */
+static const uint8_t *reply_seen(const struct order *order, const uint8_t *reply, size_t *reply_n)
+{
+    static uint8_t seen[CEDARSKEIN_LONGEST_FRAME];
+    uint8_t query[CEDARSKEIN_LEAST_OUT];
+    size_t n = *reply_n;
+    if (n < 4 || n > sizeof seen || query_front(order, query) != 0)
+        return reply;
+    memcpy(seen, reply, n);
+    n = seen_length(order, seen, n);
+    if (n == *reply_n && __real_cedarskein_check_value(seen, n) != 0)
+        return reply;
+    make_right(order, seen, n, query);
+    seal(seen, n);
+    *reply_n = n;
+    return seen;
+}
+
+/* The refusals of a reply in another order. A reply that is told by its station has a right check, and so a function and a body. */
+static uint32_t other_reply_refusal(const struct order *order, const uint8_t *reply, size_t reply_n, size_t out_n, uint32_t number)
+{
+    uint8_t function = order->order == CEDARSKEIN_WRITES ? 0x10 : order->order == CEDARSKEIN_WRITE ? 0x06
+        : order->order == CEDARSKEIN_CLEAR ? 0x05 : 0x03;
+    int other_function = reply_n > 3 && (reply[1] & 0x7F) != function;
+    if (breach_is("reply_small_out_before_order") && number == 9 && out_n < CEDARSKEIN_LEAST_OUT)
+        return 5;
+    if (breach_is("reply_damage_before_out") && number == 5 && reply_n < 4)
+        return 10;
+    if (breach_is("reply_of_nothing_is_done") && number == 10 && reply_n == 0)
+        return 0;
+    if (breach_is("reply_function_before_station") && number == 11 && other_function)
+        return 12;
+    if (breach_is("reply_station_before_check") && number == 10 && reply_n > 3 && reply[0] != order->station)
+        return 11;
+    if (breach_is("reply_body_before_function") && number == 12 && reply_n == 4)
+        return 13;
+    if (breach_is("reply_body_before_station") && number == 11 && reply_n == 4)
+        return 13;
+    if (breach_is("reply_other_error_is_a_body") && number == 12 && (reply[1] & 0x80) != 0)
+        return 13;
+    return number;
+}
+
+/* What a reply is read as, right but for one thing. */
+static void spoil_read(uint32_t number, uint8_t *out, size_t out_n, uint32_t *length, uint32_t *error)
+{
+    uint8_t upper;
+    if (breach_is("reply_out_behind_the_values") && number == 0 && *length > 0 && *length < out_n)
+        out[*length] ^= 1;
+    if (breach_is("reply_error_writes_out") && number == 0 && *error != 0)
+        out[0] = (uint8_t)(out[0] + 1);
+    if (breach_is("reply_done_writes_out") && number == 0 && *length == 0 && *error == 0)
+        out[0] ^= 1;
+    if (breach_is("refused_reply_writes_out") && number == 13 && out_n > 0)
+        out[0] ^= 1;
+    if (breach_is("reply_values_lower_byte_first") && number == 0 && *length > 0) {
+        upper = out[0];
+        out[0] = out[1];
+        out[1] = upper;
+    }
+    if (breach_is("reply_last_value_is_missed") && number == 0 && *length > 2)
+        *length -= 2;
+    if (breach_is("reply_length_is_in_words") && number == 0)
+        *length /= 2;
+    if (breach_is("reply_error_has_a_length") && number == 0 && *error != 0)
+        *length = 2;
+    if (breach_is("reply_error_is_the_next") && number == 0 && *error == 2)
+        *error = 3;
+}
+
+/* The two numbers of a reply, as a broken door leaves them. */
+static void spoil_reply_numbers(uint32_t number, uint32_t length_before, uint32_t error_before, uint32_t *length, uint32_t *error)
+{
+    if (breach_is("reply_error_is_not_zeroed") && number == 0 && *error == 0)
+        *error = error_before;
+    if (breach_is("refused_reply_leaves_the_error") && number != 0)
+        *error = error_before;
+    if (breach_is("refused_reply_has_an_error") && number == 13)
+        *error = 1;
+    if (breach_is("refused_reply_leaves_the_length") && number != 0)
+        *length = length_before;
+    if (breach_is("refused_reply_has_a_length") && number != 0)
+        *length = 2;
+    if (breach_is("reply_of_no_values_leaves_the_length") && number == 0 && *length == 0)
+        *length = length_before;
+    if (breach_is("reply_error_written_wide"))
+        error[1] = 0;
+}
+
+/* What is written or read of what a reply is lent beside out. */
+static void spoil_reply_lent(const uint8_t *values, size_t values_n, const uint8_t *reply, size_t reply_n)
+{
+    volatile uint8_t read = 0;
+    if (breach_is("reply_reads_the_values") && values_n > 0)
+        read = *(volatile const uint8_t *)values;
+    if (breach_is("reply_reads_behind_itself") && reply_n > 0)
+        read = *(volatile const uint8_t *)(reply + reply_n);
+    if (breach_is("reply_is_written") && reply_n > 0)
+        ((uint8_t *)(uintptr_t)reply)[reply_n - 1] ^= 1;
+    (void)read;
+}
+
+uint32_t __wrap_cedarskein_reply(uint32_t order, uint32_t station, uint32_t address, uint32_t number, const uint8_t *values,
+                                 size_t values_n, const uint8_t *reply, size_t reply_n, uint8_t *out, size_t out_n,
+                                 uint32_t *length, uint32_t *error)
+{
+    struct order seen = order_seen(order, station, address, number, values_n);
+    uint32_t length_before = *length, error_before = *error, result;
+    size_t seen_n = reply_n;
+    const uint8_t *frame = reply_seen(&seen, reply, &seen_n);
+    result = __real_cedarskein_reply(seen.order, seen.station, seen.address, seen.number, values, seen.values_n, frame, seen_n, out, out_n,
+                                     length, error);
+    spoil_reply_lent(values, values_n, reply, reply_n);
+    spoil_read(result, out, out_n, length, error);
+    spoil_reply_numbers(result, length_before, error_before, length, error);
+    return other_reply_refusal(&seen, reply, reply_n, out_n, result);
 }
