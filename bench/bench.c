@@ -74,7 +74,7 @@ static size_t stack_taken(const struct side *side, struct row *row)
     return STACK - untouched;
 }
 
-/* Both sides on a fresh row: number, length and rate or reason, address and the end missed, bank, ring and answer buffer. */
+/* Both sides on a fresh row: number, length and rate or error, or reason, address and the end missed; bank, ring and answer buffer. */
 static int agrees(const char *name)
 {
     static struct row one, other;
@@ -83,8 +83,8 @@ static int agrees(const char *name)
     row_call(side_named("archive"), &one);
     row_call(side_named("fast"), &other);
     int same = memcmp(&one, &other, sizeof one) == 0;
-    printf("%-24s %s: number %" PRIu32 ", length %" PRIu32 ", reason %" PRIu32 ", side %" PRIu32 "\n", name, same ? "same" : "DIFFERS",
-           one.number, one.length, one.reason, one.missed_side);
+    printf("%-24s %s: number %" PRIu32 ", length %" PRIu32 ", reason %" PRIu32 ", side %" PRIu32 ", error %" PRIu32 "\n", name,
+           same ? "same" : "DIFFERS", one.number, one.length, one.reason, one.missed_side, one.error);
     return same;
 }
 

@@ -765,3 +765,97 @@ uint32_t fast_why(const uint8_t *sheet, size_t sheet_n, const uint8_t *bank, siz
         *reason = why_function(&asked);
     return CEDARSKEIN_DONE;
 }
+
+/* ---- The box that asks ---- */
+
+enum { MOST_WRITTEN = 45, HIGHEST_STATION = 247, NO_FUNCTION = 0 };
+
+/* The function of an order's query, and the word behind its address; NO_FUNCTION where the order has no frame. A run is
+ * short where its end is reckoned, so nothing wraps. */
+static inline uint32_t order_function(uint32_t order, uint32_t station, uint32_t address, uint32_t number, size_t values_n,
+                                      uint32_t *second)
+{
+    if (station - 1 >= HIGHEST_STATION || address > 0xFFFF)
+        return NO_FUNCTION;
+    switch (order) {
+    case CEDARSKEIN_READ:
+        *second = number;
+        return number - 1 < MOST_READ && address + number <= 0x10000 ? 0x03 : NO_FUNCTION;
+    case CEDARSKEIN_RECORD:
+        *second = 1;
+        return number - 1 < MOST_READ ? 0x03 : NO_FUNCTION;
+    case CEDARSKEIN_WRITE:
+        *second = number;
+        return number <= 0xFFFF ? 0x06 : NO_FUNCTION;
+    case CEDARSKEIN_WRITES:
+        *second = (uint32_t)(values_n / 2);
+        return values_n % 2 == 0 && values_n - 2 <= 2 * MOST_WRITTEN - 2 && address + values_n / 2 <= 0x10000 ? 0x10 : NO_FUNCTION;
+    case CEDARSKEIN_CLEAR:
+        *second = 0;
+        return 0x05;
+    default: return NO_FUNCTION;
+    }
+}
+
+uint32_t fast_query(uint32_t order, uint32_t station, uint32_t address, uint32_t number, const uint8_t *values,
+                    size_t values_n, uint8_t *out, size_t out_n, uint32_t *length)
+{
+    uint32_t second, function = order_function(order, station, address, number, values_n, &second), n = 6;
+    *length = 0;
+    if (function == NO_FUNCTION)
+        return CEDARSKEIN_NO_FRAME;
+    if (out_n < LONGEST_FRAME)
+        return CEDARSKEIN_SMALL_OUT;
+    out[0] = (uint8_t)station;
+    out[1] = (uint8_t)function;
+    put_word(out + 2, address);
+    put_word(out + 4, second);
+    uint32_t state = check_of(out, 6);
+    if (function == 0x10) {
+        out[6] = (uint8_t)values_n;
+        state = copied(out + 7, values, (uint32_t)values_n, taken(state, out[6]));
+        n = 7 + (uint32_t)values_n;
+    }
+    *length = sealed(out, n, state);
+    return CEDARSKEIN_DONE;
+}
+
+/* A reply to a read: its values go to out. */
+static inline uint32_t values_read(const uint8_t *reply, size_t reply_n, uint32_t bytes, uint8_t *out, uint32_t *length)
+{
+    if (reply_n != 5 + (size_t)bytes || reply[2] != bytes)
+        return CEDARSKEIN_REPLY_BODY;
+    for (uint32_t k = 0; k < bytes; k++)
+        out[k] = reply[3 + k];
+    *length = bytes;
+    return CEDARSKEIN_DONE;
+}
+
+uint32_t fast_reply(uint32_t order, uint32_t station, uint32_t address, uint32_t number, const uint8_t *values,
+                    size_t values_n, const uint8_t *reply, size_t reply_n, uint8_t *out, size_t out_n, uint32_t *length,
+                    uint32_t *error)
+{
+    uint32_t second, function = order_function(order, station, address, number, values_n, &second);
+    (void)values;
+    *length = 0;
+    *error = 0;
+    if (function == NO_FUNCTION)
+        return CEDARSKEIN_NO_FRAME;
+    if (out_n < LONGEST_FRAME)
+        return CEDARSKEIN_SMALL_OUT;
+    if (!passes(reply, reply_n))
+        return CEDARSKEIN_REPLY_DAMAGED;
+    if (reply[0] != station)
+        return CEDARSKEIN_REPLY_STATION;
+    if ((reply[1] & 0x7Fu) != function)
+        return CEDARSKEIN_REPLY_FUNCTION;
+    if (reply[1] & 0x80) {
+        if (reply_n != 5 || reply[2] - 1u >= 3)
+            return CEDARSKEIN_REPLY_BODY;
+        *error = reply[2];
+        return CEDARSKEIN_DONE;
+    }
+    if (function == 0x03)
+        return values_read(reply, reply_n, 2 * number, out, length);
+    return reply_n == 8 && pair(reply + 2) == (address << 16 | second) ? CEDARSKEIN_DONE : CEDARSKEIN_REPLY_BODY;
+}

@@ -58,11 +58,28 @@ static uint32_t empty_add(const uint8_t *sheet, size_t sheet_n, uint8_t *ring, s
     return 0;
 }
 
+static uint32_t empty_query(uint32_t order, uint32_t station, uint32_t address, uint32_t number, const uint8_t *values,
+                            size_t values_n, uint8_t *out, size_t out_n, uint32_t *length)
+{
+    (void)order, (void)station, (void)address, (void)number, (void)values, (void)values_n, (void)out, (void)out_n, (void)length;
+    return 0;
+}
+
+static uint32_t empty_reply(uint32_t order, uint32_t station, uint32_t address, uint32_t number, const uint8_t *values,
+                            size_t values_n, const uint8_t *reply, size_t reply_n, uint8_t *out, size_t out_n,
+                            uint32_t *length, uint32_t *error)
+{
+    (void)order, (void)station, (void)address, (void)number, (void)values, (void)values_n, (void)reply, (void)reply_n;
+    (void)out, (void)out_n, (void)length, (void)error;
+    return 0;
+}
+
 static const struct side sides[] = {
     { "archive", cedarskein_check_take, cedarskein_check_value, cedarskein_sheet_check, cedarskein_answer, cedarskein_why,
-      cedarskein_ring_check, cedarskein_add_record },
-    { "fast", fast_check_take, fast_check_value, fast_sheet_check, fast_answer, fast_why, fast_ring_check, fast_add_record },
-    { "empty", empty_take, empty_value, empty_check, empty_answer, empty_why, empty_ring_check, empty_add },
+      cedarskein_ring_check, cedarskein_add_record, cedarskein_query, cedarskein_reply },
+    { "fast", fast_check_take, fast_check_value, fast_sheet_check, fast_answer, fast_why, fast_ring_check, fast_add_record, fast_query,
+      fast_reply },
+    { "empty", empty_take, empty_value, empty_check, empty_answer, empty_why, empty_ring_check, empty_add, empty_query, empty_reply },
 };
 
 const struct side *side_named(const char *name)
@@ -84,6 +101,12 @@ static uint32_t called(const struct side *side, struct row *row)
                          &row->reason, &row->address, &row->missed_side);
     case RING_CHECK: return side->ring_check(row->sheet, row->sheet_n, row->ring, row->ring_n);
     case ADD_RECORD: return side->add_record(row->sheet, row->sheet_n, row->ring, row->ring_n, row->record, row->record_n);
+    case QUERY:
+        return side->query(row->order.order, 1, row->order.address, row->order.number, row->values, row->values_n, row->out, OUT_ROOM,
+                           &row->length);
+    case REPLY:
+        return side->reply(row->order.order, 1, row->order.address, row->order.number, row->values, row->values_n, row->frame, row->frame_n,
+                           row->out, OUT_ROOM, &row->length, &row->error);
     case CHECK_TAKE: return side->check_take(0xFFFF, row->frame[0]);
     case CHECK_VALUE: return side->check_value(row->frame, row->frame_n);
     default: return side->sheet_check(row->sheet, row->sheet_n);
@@ -301,7 +324,9 @@ const char *const row_names[] = {
     "why_largest_read_47", "why_largest_write_45", "why_largest_last_bad",
     "records_1_check", "records_6600_check", "records_1_read", "records_6600_read", "records_1_add", "records_6600_add",
     "why_records_1_read", "why_records_6600_read", "record_words_1_read", "record_words_22_read", "record_words_47_read",
-    "record_words_1_add", "record_words_22_add", "record_words_47_add", NULL
+    "record_words_1_add", "record_words_22_add", "record_words_47_add",
+    "query_read", "query_values_1", "query_values_22", "query_values_45",
+    "reply_words_1", "reply_words_22", "reply_words_47", "reply_echo", "reply_error", NULL
 };
 
 static void make_ux_frame(struct row *row, const char *what)
@@ -389,6 +414,59 @@ static int make_check(struct row *row, const char *name)
     return 1;
 }
 
+/* The query of a read, or of so many values. */
+static int make_query(struct row *row, const char *what)
+{
+    unsigned n;
+    row->called = QUERY;
+    if (strcmp(what, "read") == 0) {
+        row->order = (struct order){ CEDARSKEIN_READ, 0x0101, 2 };
+        return 1;
+    }
+    if (sscanf(what, "values_%u", &n) != 1)
+        return 0;
+    row->order = (struct order){ CEDARSKEIN_WRITES, LARGEST_WRITE, 0 };
+    row->values_n = 2 * (size_t)n;
+    for (size_t k = 0; k < row->values_n; k++)
+        row->values[k] = (uint8_t)(k + 1);
+    return 1;
+}
+
+/* A reply with so many words, the echo of a write, or an error. */
+static int make_reply(struct row *row, const char *what)
+{
+    unsigned n;
+    if (strcmp(what, "echo") == 0) {
+        row->order = (struct order){ CEDARSKEIN_WRITE, 0x010F, 1 };
+        short_frame(row, 1, 6, 0x010F, 1);
+    } else if (strcmp(what, "error") == 0) {
+        row->order = (struct order){ CEDARSKEIN_READ, 0x0101, 2 };
+        short_frame(row, 1, 0x83, 0x0200, 0);
+        seal(row, 3);
+    } else if (sscanf(what, "words_%u", &n) == 1) {
+        row->order = (struct order){ CEDARSKEIN_READ, LARGEST_READ, n };
+        count_up(row, 3 + 2 * (size_t)n);
+        row->frame[0] = 1;
+        row->frame[1] = 3;
+        row->frame[2] = (uint8_t)(2 * n);
+        seal(row, row->frame_n);
+    } else {
+        return 0;
+    }
+    row->called = REPLY;
+    row->error = UNTOLD_ERROR;
+    return 1;
+}
+
+/* The two calls that know no sheet; the UX sheet is there for the fresh bank that every row has. */
+static int make_asking(struct row *row, const char *name)
+{
+    use_ux(row);
+    if (strncmp(name, "query_", 6) == 0)
+        return make_query(row, name + 6);
+    return strncmp(name, "reply_", 6) == 0 && make_reply(row, name + 6);
+}
+
 static int make_named(struct row *row, const char *name)
 {
     if (strncmp(name, "ux_", 3) == 0) {
@@ -398,7 +476,7 @@ static int make_named(struct row *row, const char *name)
         use_sheet(row, NULL, 0);
         make_largest_frame(row, name + 8);
     } else {
-        return make_check(row, name) || make_records(row, name) || make_growth(row, name);
+        return make_check(row, name) || make_records(row, name) || make_growth(row, name) || make_asking(row, name);
     }
     return 1;
 }

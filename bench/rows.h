@@ -1,11 +1,13 @@
-/* The calls that are measured: a sheet, a bank and a ring of it, and a frame or a record. */
+/* The calls that are measured: a sheet, a bank and a ring of it, and a frame or a record; or an order with its values, and what came back
+ * to it as the frame. */
 #ifndef ROWS_H
 #define ROWS_H
 
 #include <stddef.h>
 #include <stdint.h>
 
-enum { SHEET_ROOM = 1024, BANK_ROOM = 1024, FRAME_ROOM = 128, OUT_ROOM = 128, RECORD_ROOM = 94, RING_ROOM = 4 + 2 * 6600 * 22 };
+enum { SHEET_ROOM = 1024, BANK_ROOM = 1024, FRAME_ROOM = 128, OUT_ROOM = 128, RECORD_ROOM = 94, VALUES_ROOM = 90,
+       RING_ROOM = 4 + 2 * 6600 * 22 };
 
 /* Who is called. */
 struct side {
@@ -19,18 +21,28 @@ struct side {
                     uint32_t *, uint32_t *);
     uint32_t (*ring_check)(const uint8_t *, size_t, const uint8_t *, size_t);
     uint32_t (*add_record)(const uint8_t *, size_t, uint8_t *, size_t, const uint8_t *, size_t);
+    uint32_t (*query)(uint32_t, uint32_t, uint32_t, uint32_t, const uint8_t *, size_t, uint8_t *, size_t, uint32_t *);
+    uint32_t (*reply)(uint32_t, uint32_t, uint32_t, uint32_t, const uint8_t *, size_t, const uint8_t *, size_t, uint8_t *, size_t,
+                      uint32_t *, uint32_t *);
 };
 
-/* No side: one that a call does not write is seen by it. */
-enum { UNTOLD_SIDE = 99 };
+/* What is asked, of station 1. */
+struct order {
+    uint32_t order, address, number;
+};
 
-enum called { SHEET_CHECK, ANSWER, WHY, RING_CHECK, ADD_RECORD, CHECK_TAKE, CHECK_VALUE };
+/* No side, and no error: one that a call does not write is seen by it. */
+enum { UNTOLD_SIDE = 99, UNTOLD_ERROR = 99 };
+
+enum called { SHEET_CHECK, ANSWER, WHY, RING_CHECK, ADD_RECORD, CHECK_TAKE, CHECK_VALUE, QUERY, REPLY };
 
 struct row {
-    uint8_t sheet[SHEET_ROOM], bank[BANK_ROOM], ring[RING_ROOM], frame[FRAME_ROOM], out[OUT_ROOM], record[RECORD_ROOM];
-    size_t sheet_n, bank_n, ring_n, frame_n, record_n;
+    uint8_t sheet[SHEET_ROOM], bank[BANK_ROOM], ring[RING_ROOM], frame[FRAME_ROOM], out[OUT_ROOM], record[RECORD_ROOM],
+        values[VALUES_ROOM];
+    size_t sheet_n, bank_n, ring_n, frame_n, record_n, values_n;
+    struct order order;
     enum called called;
-    uint32_t number, length, rate, reason, address, missed_side;
+    uint32_t number, length, rate, reason, address, missed_side, error;
 };
 
 extern const char *const row_names[];   /* ends with NULL */
