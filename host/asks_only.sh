@@ -26,12 +26,8 @@ link() {
 
 # The bytes of code and constants that a program has of the archive: the sections of its objects that the map places.
 bytes_of() {
-    sum=0
-    for size in $(awk -v object="$(basename "$archive")(" '/^Linker script and memory map/ { placed = 1 } /^ \.[a-z]/ { section = $1 }
-        placed && section ~ /^\.(text|rodata)/ && index($0, object) { print $(NF - 1) }' "$folder/$1.map"); do
-        sum=$((sum + size))
-    done
-    echo "$sum"
+    echo "$(($(awk -v object="$(basename "$archive")(" '/^Linker script and memory map/ { placed = 1 } /^ \.[a-z]/ { section = $1 }
+        placed && section ~ /^\.(text|rodata)/ && index($0, object) { printf "%s + ", $(NF - 1) } END { print 0 }' "$folder/$1.map")))"
 }
 
 # The functions that take a sheet, of those that a program has.

@@ -259,12 +259,35 @@ static void moves_to(uint8_t station, uint16_t rate)
     expect_number(station == before ? CEDARSKEIN_DONE : CEDARSKEIN_SILENCE, asked(), "the exchange at the station before");
 }
 
+/* Rate and station by one 10, and what is behind the station in every sheet here, of which FFFF is a bad value: the error comes from the
+ * station before too, with what was ahead of it stored. */
+static void moves_by_10(uint8_t station, uint16_t rate, int bad_behind)
+{
+    uint8_t before = meter_station();
+    ask(WRITES, address_at(sheet_word(9)), 0);
+    lend(&box.values, bad_behind ? 6 : 4, 1);
+    set_word(box.values.bytes, 0, rate);
+    set_word(box.values.bytes, 1, station);
+    if (bad_behind)
+        set_word(box.values.bytes, 2, 0xFFFF);
+    expect_number(sheet_word(9) + 1u, sheet_word(8), "the station is behind the rate");
+    expect_error(bad_behind ? 3 : 0);
+    expect_number(before, box.reply.bytes[0], "the station of the reply");
+    expect_number(rate, rate_of(meter.sheet.bytes, meter.bank.bytes), "the rate is then");
+    ask(READ, address_at(sheet_word(8)), 1);
+    expect_number(station, box.station, "the station is then");
+    expect_bank_words(sheet_word(8), 1);
+}
+
 static void stations(void)
 {
     static const uint8_t tried[6] = { 2, 17, 17, 128, 247, 1 };
     size_t k;
-    for (k = 0; k < sizeof tried; k++)
+    for (k = 0; k < sizeof tried; k++) {
         moves_to(tried[k], (uint16_t)(k % 2));
+        moves_by_10((uint8_t)(248 - tried[k]), (uint16_t)((k + 1) % 2), 0);
+        moves_by_10((uint8_t)(100 + k), (uint16_t)(k % 2), 1);
+    }
 }
 
 /* Silence is for every station but the bank's own. */
