@@ -1,1 +1,4 @@
 pub mod Judged
+pub mod Built
+pub mod Silence
+pub mod Heard

@@ -1,3 +1,4 @@
 pub mod Judged
+pub mod Sent
 pub mod Heard
 pub mod Alike
