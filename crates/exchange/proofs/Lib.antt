@@ -2,3 +2,5 @@ pub mod Judged
 pub mod Built
 pub mod Silence
 pub mod Heard
+pub mod Damaged
+pub mod Alike
