@@ -34,7 +34,7 @@ use Rattle.plain.specs.Numbers.{byte, word}
 use Rattle.plain.specs.Sheet.{LiesAt}
 use Rattle.plain.specs.Records.{RecordAt, AtRecord}
 use Rattle.plain.specs.Frame as fates
-use Rattle.plain.specs.Frame.{Fate, silence, error, good, Gets, registers}
+use Rattle.plain.specs.Frame.{Fate, silence, error, good, Gets, Readable, registers}
 use Rattle.plain.specs.Left as plain
 use Rattle.plain.specs.Left.{marked, ErrorReply, ReadReply, RecordReply, Echo, HandsBack}
 use Rattle.plain.proofs.Rows.{word-same}
@@ -90,6 +90,11 @@ code-between (fates.wrongCount whole ours allowed long fails) code e = let is : 
 code-between (fates.wrongAddress whole ours allowed long counted fails) code e = let is : 2 ≡ code = cc in (omega arith, omega arith)
 code-between (fates.wrongValue whole ours allowed long counted right fails) code e = let is : 3 ≡ code = cc in (omega arith, omega arith)
 code-between (fates.allRight whole ours allowed long counted right inside) code e = absurd (let y : _≡_ {A = ℕ} 0 1 = cc in omega arith)
+
+-- a good read is of addresses that can be read
+readable-in : {given : Lent} {frame : List ℕ} → Gets given frame good → byte frame 1 ≡ 0x03 → (AtRecord (given .sheet) (word frame 2) → ⊥) → (k : ℕ)
+    → k < registers frame → Readable (given .sheet) (fates.address frame k)
+readable-in (fates.allRight whole ours allowed long counted right inside) is none k less = right .read is none k less
 
 module _ (given : Lent) (stationed : ℕ) (sent : List ℕ) (here : stationed ≡ bankStation given) (buffer : List ℕ) (accepted : Accepted given buffer)
     (out : List ℕ) (large : 100 ≤ length out) where
@@ -201,6 +206,7 @@ module _ (given : Lent) (stationed : ℕ) (sent : List ℕ) (here : stationed �
       values gets
       (values-told (Read start count) has fits call count refl zero (sends .closed .sameLength) (size ∙ ap (λ (n : ℕ). 5 + 2 * n) many) (sends .station) (sends .function)
       (sends .bytes ∙ ap (λ (n : ℕ). 2 * n) many) refl)
+      (λ k less. subst (Readable (given .sheet)) (at k) (readable-in gets is none k (omega (arith, less, many))))
       (λ k place access less lies.
       word-told (Read start count) has fits call count refl zero (sends .closed .sameLength) (size ∙ ap (λ (n : ℕ). 5 + 2 * n) many) (sends .station) (sends .function)
       (sends .bytes ∙ ap (λ (n : ℕ). 2 * n) many) refl k less
@@ -268,14 +274,29 @@ module _ (given : Lent) (stationed : ℕ) (sent : List ℕ) (here : stationed �
     pub query-heard : Heard given (query (ask order stationed sent)) out (replyToldOf (readingOutcome (ask order stationed sent) (replyIn left) out)) order
     query-heard = let leaves = frame-leaves given (query (ask order stationed sent)) buffer accepted call in by-fate (leaves .handsBack) (leaves .gets)
 
--- rule Q52, over the calls: a query that was built, a meter that refuses nothing and has the order's station, and its reply read against the order
-pub heard-as-sent : (given : Lent) (asked : Asked) (room buffer out : List ℕ) {told : QueryTold} → Queries asked room told → told .number ≡ 0
-    → Accepted given buffer → asked .station ≡ bankStation given → suits (given .sheet) (asked .order) ≡ true
-    → {left : Handed} → Answers given (queryIn told) buffer left → 100 ≤ length out → {heard : ReplyTold} → Reads asked (replyIn left) out heard
-    → Heard given (queryIn told) out heard (asked .order)
-heard-as-sent given asked room buffer out {told} asking built accepted here fits {left} call large {heard} reading =
-    let is = sent-is asked room asking built in
-    let answered = subst (λ (f : List ℕ). Answers given f buffer left) is call in
-    subst (λ (f : List ℕ). Heard given f out heard (asked .order)) (sym is)
-    (subst (λ (t : ReplyTold). Heard given (query asked) out t (asked .order)) (sym (reads-is reading))
-    (query-heard given (asked .station) (asked .values) here buffer accepted out large (asked .order) (has-frame asked room asking built) fits answered))
+-- ---- over the calls
+
+-- one exchange: a query that was built, the answer of a meter that refuses nothing, and its reply read against the order
+pub record Exchanged (given : Lent) (asked : Asked) (left : Handed) (heard : ReplyTold) : Type 0 where
+  pub room : List ℕ
+  pub told : QueryTold
+  pub asking : Queries asked room told
+  pub built : told .number ≡ 0
+  pub buffer : List ℕ
+  pub accepted : Accepted given buffer
+  pub answering : Answers given (queryIn told) buffer left
+  pub out : List ℕ
+  pub large : 100 ≤ length out
+  pub reading : Reads asked (replyIn left) out heard
+
+-- rule Q52: where the station is the order's, and the order suits the meter's records
+pub heard-as-sent : (given : Lent) (asked : Asked) {left : Handed} {heard : ReplyTold} (exchange : Exchanged given asked left heard)
+    → asked .station ≡ bankStation given → suits (given .sheet) (asked .order) ≡ true
+    → Heard given (queryIn (exchange .told)) (exchange .out) heard (asked .order)
+heard-as-sent given asked {left} {heard} exchange here fits =
+    let is = sent-is asked (exchange .room) (exchange .asking) (exchange .built) in
+    let answered = subst (λ (f : List ℕ). Answers given f (exchange .buffer) left) is (exchange .answering) in
+    subst (λ (f : List ℕ). Heard given f (exchange .out) heard (asked .order)) (sym is)
+    (subst (λ (t : ReplyTold). Heard given (query asked) (exchange .out) t (asked .order)) (sym (reads-is (exchange .reading)))
+    (query-heard given (asked .station) (asked .values) here (exchange .buffer) (exchange .accepted) (exchange .out) (exchange .large) (asked .order)
+    (has-frame asked (exchange .room) (exchange .asking) (exchange .built)) fits answered))

@@ -4,3 +4,4 @@ pub mod Silence
 pub mod Heard
 pub mod Damaged
 pub mod Alike
+pub mod ReadBack
