@@ -44,5 +44,7 @@ left=$(of_the_meter asks_only)
 only=$(bytes_of asks_only)
 whole=$(bytes_of asks_whole)
 [ "$only" -gt 0 ] || fail "the linker's map does not tell what the program has of the archive"
+[ "$only" -le 2048 ] || fail "a box that only asks has $only bytes of the archive, more than the header's 2 KiB"
+[ "$((whole - only))" -le 12288 ] || fail "a meter has $((whole - only)) bytes of the archive, more than the header's 12 KiB"
 [ "$only" -lt "$whole" ] || fail "the program that only asks has $only bytes of the archive with --gc-sections, and $whole without"
 echo "a box that only asks: $only bytes of the archive's code and constants with --gc-sections, $whole without, and nothing of the meter's half"

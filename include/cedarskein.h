@@ -1,19 +1,22 @@
-/* Cedarskein: the registers of a Modbus gas flowmeter, for its C firmware.
+/* Cedarskein: the registers of a Modbus gas flowmeter, for its C firmware and for that of a box that asks it.
  *
  * A sheet says which registers a meter has. A bank holds their words, and a ring the records of the meter's history, where
  * the sheet has any. The functions check all three, make a bank fresh, post readings, set the alarm mark, add records,
- * answer frames and tell why a frame gets silence or an error. For the box at the other end of the line two build the query
- * of an order and read the meter's reply to it. They call nothing, keep nothing between calls and use no heap: all that a
- * call works on is lent to it, as a pointer and a number of bytes.
+ * answer frames and tell why a frame gets silence or an error. For the box at the other end of the line one builds the
+ * query of an order, and one reads the meter's reply to it. All of them call nothing, keep nothing between calls and use no
+ * heap: what a call works on is lent to it, as a pointer and a number of bytes.
  *
  * docs/RULES.md has the rules that the functions are proved against, by number.
  *
  * Sizes
  *
- *   At most 12 KiB of code and constants, nothing writable among it, and at most 1 KiB of stack in a call; docs/BENCH.md has
- *   what was measured. A sheet has at most 862 bytes, a bank 514, and out 100. A ring has as many bytes as its sheet asks
- *   for, 620,404 at most, and none where the sheet has no record area (see "The ring"). What a call costs does not grow with
- *   the ring.
+ *   At most 14 KiB of code and constants, nothing writable among it, and at most 1 KiB of stack in a call. A meter has at
+ *   most 12 KiB of that, and a box that only asks at most 2 KiB, where the linker drops unused sections
+ *   (-Wl,--gc-sections): every function has a section of its own. docs/BENCH.md has what was measured.
+ *
+ *   A sheet has at most 862 bytes, a bank 514, and out at least 100. A ring has as many bytes as its sheet asks for,
+ *   620,404 at most, and none where the sheet has no record area (see "The ring"). What a call costs does not grow with the
+ *   ring.
  *
  * The bank
  *
@@ -104,26 +107,43 @@
  *   written to wherever the last argument would lie. Every other call, the reasons and their addresses, sheets, banks, rings
  *   and replies are as they were.
  *
+ *   With 3.1 two calls are new, for the box that asks, and the numbers 9 to 13, which no other call gives.
+ *
  * The box that asks
  *
  *   cedarskein_query and cedarskein_reply are the other half of the line: a box that asks meters. They know no sheet and
  *   no bank. Both take the same order, five things that say what is asked of which station:
  *
- *     order      station    address          number               values
- *     0 read     1 to 247   the first one    how many, 1 to 47    not looked at
- *     1 record   1 to 247   the record's     its words, 1 to 47   not looked at
- *     2 write    1 to 247   the register's   the value            not looked at
- *     3 writes   1 to 247   the first one    not looked at        1 to 45 words, upper byte first
- *     4 clear    1 to 247   the clear's own  not looked at        not looked at
+ *     order      station    address            number               values
+ *     0 read     1 to 247   the first one      how many, 1 to 47    no matter
+ *     1 record   1 to 247   the record's       its words, 1 to 47   no matter
+ *     2 write    1 to 247   the register's     the value            no matter
+ *     3 writes   1 to 247   the first one      no matter            1 to 45 words, upper byte first
+ *     4 clear    1 to 247   the one to clear   no matter            no matter
+ *
+ *   Addresses, the last of a run too, and values are at most FFFF. A meter's records are at one address each, the newest at
+ *   the first, and have the w words of its sheet (see "The ring"): a record is asked for by order 1, never by order 0. The
+ *   address to clear is word 10 of the meter's sheet, 0300 for the UX15/25.
  *
  *   The query is built, sent, and what comes back is read against the same order:
  *
- *     number = cedarskein_query(0, station, address, count, NULL, 0, out, out_n, &length);
+ *     done = cedarskein_query(CEDARSKEIN_READ, 1, 0x0204, 6, NULL, 0, out, out_n, &length);
  *     .. send the first length bytes of out, and take in what comes until the line is quiet ..
- *     number = cedarskein_reply(0, station, address, count, NULL, 0, reply, reply_n, out, out_n, &length, &error);
+ *     done = cedarskein_reply(CEDARSKEIN_READ, 1, 0x0204, 6, NULL, 0, reply, reply_n, out, out_n, &length, &error);
  *
- *   A reply names neither the addresses of a read nor the values of 10, so it cannot be told from a late one to another
- *   order that differs in nothing else: after no answer, wait until the line is quiet before the next query.
+ *   What a box should know of the line:
+ *
+ *   - A reply says less than its query. It names no address of a read or a record and no value of 10, and an error names
+ *     its station and function alone. So a reply that comes late can pass for one to the next order, where the two differ
+ *     in nothing else. Wait for a reply as long as the meter may take; after no answer wait so long once more, and take in
+ *     what comes, before the next query.
+ *   - An adapter that hands a box its own bytes back makes a 05 or a 06 look done, though no meter answered: the reply is
+ *     the query itself. Switch that echo off, or take it off what comes.
+ *   - After no answer, or one that is refused, a write may have been carried out all the same. To ask again is safe: the
+ *     same write, done twice, leaves what it left once. With error 3 a write may have stored what stands ahead of the first
+ *     bad item.
+ *   - A write of the station or the rate is answered from the old station at the old rate. From then on the meter has the
+ *     new ones, and at the old ones it is silent, to the same write too.
  *
  * What the caller owes
  *
@@ -215,17 +235,18 @@ extern "C" {
 #define CEDARSKEIN_VERSION_PATCH 0
 #define CEDARSKEIN_VERSION "3.1.0"
 
-#define CEDARSKEIN_LONGEST_FRAME 100 /* bytes, its check included; a longer frame gets silence */
-#define CEDARSKEIN_LEAST_OUT 100     /* bytes that out must have at least, for the longest reply */
+#define CEDARSKEIN_LONGEST_FRAME 100 /* bytes, its check included; a longer frame gets silence, a longer reply 10 */
+#define CEDARSKEIN_LEAST_OUT 100     /* bytes that out must have at least, for the longest reply or query */
 #define CEDARSKEIN_LONGEST_SHEET 862 /* bytes of a sheet with 8 areas, 64 items and a record area */
 #define CEDARSKEIN_LONGEST_BANK 514  /* bytes of a bank with 256 words and the mark */
 
 /* The numbers that a call hands back, and what the firmware does then. With any number but 0 the bank, the ring and out are
- * as they were. Where several would hold, the first of 2, 3, 4, 8, 9, 5, 7, 6, 10, 11, 12, 13 is told, of those that the call
- * can give. */
+ * as they were. Where several would hold, the first of 2, 3, 4, 8, 9, 5, 7, 6, 10, 11, 12, 13 is told, of those that the
+ * call can give. */
 enum cedarskein_number {
     /* Done. Keep the bank, or the record that was added (see "A power cut"). Of cedarskein_answer: then send the first
-     * *length bytes of out at *rate, and go on at the bank's rate. An error reply is a reply. */
+     * *length bytes of out at *rate, and go on at the bank's rate. An error reply is a reply. Of cedarskein_query: send the
+     * first *length bytes of out. Of cedarskein_reply: look at *error first. */
     CEDARSKEIN_DONE = 0,
     /* Silence: send nothing, and wait for the next frame. */
     CEDARSKEIN_SILENCE = 1,
@@ -257,15 +278,17 @@ enum cedarskein_number {
      * words, writes of an odd number of bytes or outside 1 to 45 words, a value above FFFF, or an address above FFFF, be it
      * the last of a run. Mend the order. */
     CEDARSKEIN_NO_FRAME = 9,
-    /* What came has under 4 or over 100 bytes, or its last two are not the check of those in front. Ask again. */
+    /* What came has under 4 or over 100 bytes, or its last two are not the check of those in front. Ask again (see "The box
+     * that asks"). */
     CEDARSKEIN_REPLY_DAMAGED = 10,
-    /* It comes from another station than the order's. Wait until the line is quiet, and ask again. */
+    /* It comes from another station than the order's. It may be a late reply to an earlier query: take in what still comes,
+     * and ask again. */
     CEDARSKEIN_REPLY_STATION = 11,
-    /* It has another function than the order's query, also with the top bit set, which marks an error. As with 11. */
+    /* Its function is neither that of the order's query nor that with the top bit set, which marks an error. As with 11. */
     CEDARSKEIN_REPLY_FUNCTION = 12,
-    /* Its body does not fit the order: another number of bytes or words, another address or value than the query's, or an
-     * error that is not one code of 1 to 3. As with 11; a record has other words than number says, or the meter is no such
-     * meter, where it stays so. */
+    /* Its body does not fit the order: another number of bytes or words, another address, value or count than the query's,
+     * or an error that is not one code of 1 to 3. As with 11. Where it comes again and again the order is wrong for this
+     * meter, as with a record that has other words than the order says. */
     CEDARSKEIN_REPLY_BODY = 13
 };
 
@@ -299,7 +322,7 @@ enum cedarskein_order {
     CEDARSKEIN_RECORD = 1, /* one record of a history, by 03 with count 1: number is how many words it has */
     CEDARSKEIN_WRITE = 2,  /* one register, by 06: number is the value */
     CEDARSKEIN_WRITES = 3, /* registers, by 10, also one: values */
-    CEDARSKEIN_CLEAR = 4   /* the alarm mark, by 05 with value 0 */
+    CEDARSKEIN_CLEAR = 4   /* the alarm mark, by 05 with value 0; address is the meter's clear address */
 };
 
 /* The check value as a running state: the state before any byte. Touches no memory. */
@@ -384,8 +407,10 @@ uint32_t cedarskein_query(uint32_t order, uint32_t station, uint32_t address, ui
 
 /* Reads what came back to the query of an order, its check included, as it came from the line. Gives back
  *   0: with *error 0 the order is done. *length is then the number of bytes of values that stand in the first bytes of out,
- *      upper byte first: twice number for orders 0 and 1, and 0 for the others. With *error 1, 2 or 3 the meter refused
- *      with that code, and *length is 0. The bytes of out behind the values are as they were;
+ *      upper byte first: twice the order's number for orders 0 and 1, and 0 for the others. With *error 1, 2 or 3 the
+ *      meter sent an error of that code, and *length is 0: 1 it does not take the function, 2 not the addresses, 3 not a
+ *      count or a value (what stands ahead of the first bad item is stored). The bytes of out behind the values are as they
+ *      were;
  *   the first of 9, 5, 10, 11, 12 and 13: *length and *error are 0, and out is as it was.
  * *length and *error are written by every call. The values and the reply are only read; of order 3's values only their
  * number is looked at. */

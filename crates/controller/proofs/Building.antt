@@ -1,7 +1,7 @@
 -- A query as it is laid is the order's, and fits. Assumes nothing.
-use mathlib.Core.Path.{_≡_, refl, sym, ap, ap₂, _∙_}
+use mathlib.Core.Path.{_≡_, refl, ap, _∙_}
 use mathlib.Core.Bool.{false}
-use mathlib.Core.List.{List, []}
+use mathlib.Core.List.{List}
 use Prim.Native.Nat.{ℕ, _≤_}
 use native.Mathlib.Omega.{arith}
 use lib.ListN.{length}
@@ -12,8 +12,8 @@ use Rattle.controller_rules.specs.declared.Order.{Order}
 use Rattle.controller_rules.specs.declared.Order.the-variants.{Read, Record, Write, Writes, Clear, Unknown}
 use Rattle.controller_rules.specs.declared.Built.the-variants.{Query}
 use Rattle.controller_rules.specs.Order.{Asked, functionOf, wrongNumber, noFrame}
-use Rattle.controller_rules.specs.Query.{QueryOutcome, queryOutcome, query, builtQuery, buildOutcome}
-use Rattle.controller_rules.proofs.Framed.{Framed, framed, address-fits, second-fits, values-fit}
+use Rattle.controller_rules.specs.Query.{queryOutcome, query, builtQuery, buildOutcome}
+use Rattle.controller_rules.proofs.Framed.{framed, address-fits, second-fits, values-fit}
 use Rattle.controller.specs.Stages.{HeadFits, wantedOf, body, laidQuery}
 
 -- what is laid, order by order

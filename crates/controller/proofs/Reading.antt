@@ -1,10 +1,10 @@
 -- What is read of a reply, stage by stage, is what the rules say of it. Assumes nothing.
-use mathlib.Core.Path.{_≡_, refl, sym, ap, _∙_}
+use mathlib.Core.Path.{_≡_, refl, sym}
 use mathlib.Core.Bool.{Bool, true, false, not, cond, _||_}
 use mathlib.Core.List.{List, [], _∷_}
 use Prim.Native.Nat.{ℕ, _*_}
 use lib.Dec.{eqb}
-use lib.ListN.{length, take, drop}
+use lib.ListN.{take, drop}
 use Rattle.lists.specs.Cases.{when, firstCase, mapped}
 use Rattle.check_value.specs.Frame.{passes}
 use Rattle.refusals.specs.declared.Refusal.the-variants.{ReplyFunction, ReplyBody}
@@ -13,7 +13,7 @@ use Rattle.frame.specs.Reply.{laid, smallBuffer}
 use Rattle.controller_rules.specs.declared.Order.{Order}
 use Rattle.controller_rules.specs.declared.Reading.the-variants.{Values, Done, Error, Refused}
 use Rattle.controller_rules.specs.Order.{Asked, functionOf, wordCount, noFrame}
-use Rattle.controller_rules.specs.Reading.{ReplyOutcome, replyOutcome, codeIn, isError, errorFits, valuesFit, doneFits, bringsValues, readWith, readingOf, readingOutcome}
+use Rattle.controller_rules.specs.Reading.{replyOutcome, codeIn, isError, errorFits, valuesFit, doneFits, bringsValues, readWith, readingOf, readingOutcome}
 use Rattle.controller.specs.Stages.{wantedOf, bodyRead}
 
 -- function and body, by what holds of them: error, the query's function, brings values, and what fits

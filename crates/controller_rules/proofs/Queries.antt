@@ -1,16 +1,15 @@
 -- A built query passes step 1, has at most 100 bytes, and is taken apart as its order. Assumes nothing.
-use mathlib.Core.Path.{_≡_, refl, sym, ap, ap₂, _∙_}
-use mathlib.Core.Bool.{Bool, true, false, cond}
-use mathlib.Core.List.{List, [], _∷_, _++_, append-assoc}
+use mathlib.Core.Path.{_≡_, refl, ap, ap₂, _∙_}
+use mathlib.Core.Bool.{true, false}
+use mathlib.Core.List.{List, [], _∷_, _++_}
 use Prim.Native.Nat.{ℕ, _+_, _*_, _/_, _%_, _≤_, _<_}
 use native.Mathlib.Omega.{arith}
-use lib.ListN.{length, getD, List·getD-append}
+use lib.ListN.{length, List·getD-append}
 use lib.Seq.{getD-append-add}
 use Rattle.words.specs.Words.{Bytes, byteAt, wordAt, wordBytes}
-use Rattle.words.proofs.Small.{bytes-none, bytes-one, bytes-both, bytes-behind, bytes-word}
+use Rattle.words.proofs.Small.{bytes-none, bytes-one, bytes-both, bytes-word}
 use Rattle.check_value.specs.Check.{valueOf}
 use Rattle.check_value.specs.Frame.{passes}
-use Rattle.frame.specs.declared.Parts.{Parts}
 use Rattle.frame.specs.declared.Passed.the-variants.{Frame}
 use Rattle.frame.specs.Frame.{station, function, start, second, byteCount, sent, passedFrame}
 use Rattle.frame.specs.Reply.{withCheck}

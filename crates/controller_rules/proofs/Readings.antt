@@ -1,8 +1,7 @@
 -- A reply that fits its order is read as what it says, and one that is taken fits. Assumes nothing.
 use mathlib.Core.Path.{_≡_, refl, sym, ap, ap₂, _∙_}
-use mathlib.Core.Bool.{Bool, true, false, not, cond, _&&_, _||_, or-true, or-false, true≢false, false≢true}
+use mathlib.Core.Bool.{Bool, true, false, not, cond, _&&_, _||_, or-true, or-false}
 use mathlib.Core.List.{List}
-use mathlib.Core.Logic.{_⊎_}
 use Prim.Native.Nat.{ℕ, _+_, _*_, _≤_, _<_}
 use native.Mathlib.Omega.{arith}
 use lib.Dec.{eqb, leb}
@@ -12,14 +11,13 @@ use Rattle.lists.specs.Lists.{between}
 use Rattle.lists.proofs.Tests.{first-of, second-of}
 use Rattle.words.specs.Words.{byteAt}
 use Rattle.check_value.specs.Frame.{passes}
-use Rattle.frame.specs.Frame.{reads, station, function, start, second}
+use Rattle.frame.specs.Frame.{station, function, start, second}
 use Rattle.frame.specs.Reply.{topBit, topBitSet, errorLength, laid, smallBuffer}
 use Rattle.controller_rules.specs.declared.Order.{Order}
 use Rattle.controller_rules.specs.declared.Order.the-variants.{Read, Record, Write, Writes, Clear, Unknown}
-use Rattle.controller_rules.specs.declared.Reading.{Reading}
 use Rattle.controller_rules.specs.declared.Reading.the-variants.{Values, Done, Error}
 use Rattle.controller_rules.specs.Order.{Asked, functionOf, addressOf, secondOf, wordCount, noFrame}
-use Rattle.controller_rules.specs.Reading.{ReplyOutcome, replyOutcome, isError, codeIn, mostCode, errorFits, valuesFit, doneLength, doneFits, bringsValues, bodyFits, taken, readWith, readingOutcome}
+use Rattle.controller_rules.specs.Reading.{replyOutcome, isError, codeIn, mostCode, errorFits, valuesFit, doneLength, doneFits, bringsValues, bodyFits, taken, readWith, readingOutcome}
 use Rattle.controller_rules.proofs.Outcomes.{Taken, taken-is}
 
 -- ---- a function, and the same with its top bit set

@@ -1,4 +1,4 @@
--- What a box asks: an order, in the numbers of its query, and whether it has a frame at all (rules Q1 to Q16). Assumes nothing.
+-- What a box asks: an order, in the numbers of its query, and whether it has a frame at all (rules Q1 to Q8 and Q10 to Q15). Assumes nothing.
 use Prim.Native.Nat.{ℕ, _+_, _/_, _%_}
 use mathlib.Core.Bool.{Bool, true, false, not, cond, _||_}
 use mathlib.Core.List.{List}
@@ -18,7 +18,8 @@ pub record Asked : Type 0 where
 abbrev pub ask : Order → ℕ → List ℕ → Asked
 ask order station values = record { order = order; station = station; values = values }
 
--- rule Q2, an order by its number, with the address and the number that are handed over: 0 a read, 1 a record, 2 a write, 3 several writes, 4 a clear
+-- rule Q2, an order by its number, with the address and the number that are handed over: 0 a read, 1 a record, 2 a write, 3 several writes, 4 a clear.
+-- Any other number is of no known kind
 abbrev pub orderBy : ℕ → ℕ → ℕ → Order
 orderBy kind address number =
     cond (eqb kind 0) (Read address number)
@@ -31,7 +32,7 @@ orderBy kind address number =
 abbrev pub askedBy : ℕ → ℕ → ℕ → ℕ → List ℕ → Asked
 askedBy kind station address number values = ask (orderBy kind address number) station values
 
--- rule Q3: its function. (Of an order of no known kind nothing asks for this, nor for the address.)
+-- rule Q3: its function. (An order of no known kind has no frame, rule Q10, so nothing that is answered depends on what is said of one, here and below.)
 abbrev pub functionOf : Order → ℕ
 functionOf (Read start count) = reads
 functionOf (Record address words) = reads
@@ -104,7 +105,7 @@ wrongValues values = not (eqb (length values % 2) 0) || not (between 1 mostWritt
 abbrev pub highestWord : ℕ
 highestWord = 0xFFFF
 
--- rules Q10 and Q12 to Q14, of each order: its count, its words, its value or its values
+-- rules Q10 and Q12 to Q14, of each order: its count, its words, its value or its values; one of no known kind is wrong in any case
 abbrev pub wrongNumber : Order → List ℕ → Bool
 wrongNumber (Read start count) values = not (between 1 mostRead count)
 wrongNumber (Record address words) values = not (between 1 mostRead words)

@@ -1,6 +1,5 @@
 -- The query of an order, and the whole outcome of building it: what is answered, and the buffer afterwards (rules Q20 to Q23). Assumes nothing.
 use Prim.Native.Nat.{ℕ}
-use mathlib.Core.Bool.{Bool}
 use mathlib.Core.List.{List, [], _∷_, _++_}
 use lib.ListN.{length}
 use Rattle.lists.specs.Cases.{Case, when, firstCase, mapped}
@@ -62,7 +61,7 @@ abbrev pub builtNumber : Built → ℕ
 builtNumber (Query length) = 0
 builtNumber (Refused refusal) = refusalNumber refusal
 
--- rule Q23: the bytes of the query, 0 with a refusal
+-- rule Q23: how many bytes the query has, 0 with a refusal
 abbrev pub builtLength : Built → ℕ
 builtLength (Query length) = length
 builtLength (Refused refusal) = 0

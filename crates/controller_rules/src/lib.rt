@@ -2,8 +2,8 @@
 // meter. Here are the types that they speak of; there is no code.
 use refusals::Refusal;
 
-// What a box asks of a meter, as numbers of any size: rule Q1. The values of several writes are lent beside it. An order of no known kind has no
-// frame: rule Q10.
+// What a box asks of a meter, in the numbers that it hands over: rules Q1 and Q2. The values of several writes are lent beside it. An order of no
+// known kind has no frame: rule Q10.
 pub enum Order {
     Read { start: u32, count: u32 },
     Record { address: u32, words: u32 },

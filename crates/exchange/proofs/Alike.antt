@@ -1,22 +1,20 @@
 -- Two orders take one reply alike exactly if it tells no difference between them; read against a wrong station or function it is refused. Assumes nothing.
-use mathlib.Core.Path.{_≡_, refl, sym, ap, ap₂, subst, _∙_}
-use mathlib.Core.Bool.{Bool, true, false, not, cond, _||_, true≢false, false≢true}
+use mathlib.Core.Path.{_≡_, sym, ap, _∙_}
+use mathlib.Core.Bool.{true, false, true≢false, false≢true}
 use mathlib.Core.List.{List, drop}
 use mathlib.Core.Logic.{_↔_, _⊎_, inl, inr}
-use Prim.Native.Nat.{ℕ, _+_, _*_, _≤_}
+use Prim.Native.Nat.{ℕ, _+_, _*_}
 use native.Mathlib.Omega.{arith}
 use lib.Dec.{eqb}
 use lib.ListN.{length, take}
-use borrow.Author.Tests.{le-ltb, eq-eqb, ne-eqb, eqb-true}
+use borrow.Author.Tests.{eq-eqb, ne-eqb, eqb-true}
 use Rattle.lists.specs.Cases.{firstCase}
-use Rattle.check_value.specs.Frame.{passes}
 use Rattle.words.specs.Words.{byteAt}
 use Rattle.frame.specs.Frame.{reads, station, function, start, second}
-use Rattle.frame.specs.Reply.{topBit, topBitSet, leastBuffer, laid, smallBuffer}
-use Rattle.controller_rules.specs.declared.Order.{Order}
-use Rattle.controller_rules.specs.declared.Reading.the-variants.{Values, Done, Error}
+use Rattle.frame.specs.Reply.{topBitSet, laid}
+use Rattle.controller_rules.specs.declared.Reading.the-variants.{Values}
 use Rattle.controller_rules.specs.Order.{Asked, functionOf, addressOf, secondOf, wordCount, noFrame}
-use Rattle.controller_rules.specs.Reading.{ReplyOutcome, replyOutcome, isError, bringsValues, codeIn, readingNumber, readingOf, readingOutcome}
+use Rattle.controller_rules.specs.Reading.{replyOutcome, isError, bringsValues, readingOf, readingOutcome}
 use Rattle.controller_rules.proofs.Outcomes.{Taken, reading-taken}
 use Rattle.controller_rules.proofs.Readings.{function-plain, marked-is, reads-error, reads-values, reads-done, Fits, anError, itsValues, itsDone, taken-ours, taken-whole, taken-fits}
 use Rattle.cedarskein.specs.Door.{ReplyTold, replyTold, replyToldOf}

@@ -1,17 +1,17 @@
 -- What a call that builds a query leaves, where it refuses nothing: the order's query, in its parts. Assumes nothing.
 use mathlib.Core.Path.{_≡_, refl, sym, ap, subst, _∙_}
-use mathlib.Core.Bool.{true, false, not}
+use mathlib.Core.Bool.{false, not}
 use mathlib.Core.List.{List}
-use Prim.Native.Nat.{ℕ, _+_, _*_, _≤_, _<_}
+use Prim.Native.Nat.{ℕ, _+_, _*_, _<_}
 use native.Mathlib.Omega.{arith}
-use lib.ListN.{length, take, drop}
+use lib.ListN.{length, drop}
 use lib.Seq.{take-at}
 use Rattle.words.specs.Words.{wordAt}
 use Rattle.frame.specs.Reply.{withCheck, laid, smallBuffer}
 use Rattle.controller_rules.specs.declared.Order.{Order}
 use Rattle.controller_rules.specs.declared.Order.the-variants.{Read, Record, Write, Writes, Clear, Unknown}
 use Rattle.controller_rules.specs.Order.{Asked, ask, noFrame}
-use Rattle.controller_rules.specs.Query.{sentValues, query, buildOutcome, builtNumber}
+use Rattle.controller_rules.specs.Query.{sentValues, query}
 use Rattle.controller_rules.proofs.Outcomes.{built-is, build-done}
 use Rattle.controller_rules.proofs.Queries.{query-length, query-station, query-function, query-start, query-second, query-sized, query-passes, query-count, query-values}
 use Rattle.plain.specs.Numbers.{byte, word}

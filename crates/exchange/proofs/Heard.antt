@@ -1,7 +1,7 @@
 -- A meter's reply to a built query is read as exactly its values, its done or its error code. Assumes nothing.
 use mathlib.Core.Path.{_≡_, refl, sym, ap, ap₂, subst, _∙_}
-use mathlib.Core.Bool.{Bool, true, false, not, cond, _&&_, true≢false, false≢true}
-use mathlib.Core.List.{List, _++_}
+use mathlib.Core.Bool.{true, false}
+use mathlib.Core.List.{List}
 use Prim.Native.Nat.{ℕ, _+_, _-_, _*_, _≤_, _<_}
 use native.Mathlib.Omega.{arith}
 use lib.Dec.{eqb}
@@ -20,13 +20,12 @@ use Rattle.ring_rules.specs.Ring.{recordOf}
 use Rattle.frame.specs.Frame.{reads, manyOf}
 use Rattle.frame.specs.Reply.{leastBuffer, laid, smallBuffer}
 use Rattle.frame.proofs.Laying.{laid-length}
-use Rattle.meter_rules.specs.Answer.{answerOutcome}
-use Rattle.meter_rules.proofs.Outcomes.{Sized, answer-sized}
+use Rattle.meter_rules.proofs.Outcomes.{answer-sized}
 use Rattle.controller_rules.specs.declared.Order.{Order}
 use Rattle.controller_rules.specs.declared.Order.the-variants.{Read, Record, Write, Writes, Clear, Unknown}
-use Rattle.controller_rules.specs.Order.{Asked, ask, functionOf, addressOf, secondOf, wordCount, noFrame}
+use Rattle.controller_rules.specs.Order.{Asked, ask, functionOf, wordCount, noFrame}
 use Rattle.controller_rules.specs.Query.{query}
-use Rattle.controller_rules.specs.Reading.{ReplyOutcome, codeIn, bringsValues, readingOutcome}
+use Rattle.controller_rules.specs.Reading.{codeIn, bringsValues, readingOutcome}
 use Rattle.controller_rules.proofs.Framed.{framed, words-fit, known}
 use Rattle.controller_rules.proofs.Queries.{query-station, query-function, query-start, query-second}
 use Rattle.controller_rules.proofs.Readings.{reads-error, reads-values, reads-done}
@@ -34,7 +33,7 @@ use Rattle.plain.specs.Numbers.{byte, word}
 use Rattle.plain.specs.Sheet.{LiesAt}
 use Rattle.plain.specs.Records.{RecordAt, AtRecord}
 use Rattle.plain.specs.Frame as fates
-use Rattle.plain.specs.Frame.{Fate, silence, error, good, Gets, Readable, registers}
+use Rattle.plain.specs.Frame.{Fate, error, good, Gets, Readable, registers}
 use Rattle.plain.specs.Left as plain
 use Rattle.plain.specs.Left.{marked, ErrorReply, ReadReply, RecordReply, Echo, HandsBack}
 use Rattle.plain.proofs.Rows.{word-same}

@@ -1,6 +1,6 @@
 -- A meter judges a built query as its order. Assumes nothing.
-use mathlib.Core.Path.{_≡_, refl, sym, ap, ap₂, _∙_}
-use mathlib.Core.Bool.{Bool, true, false, not, cond, _&&_, _||_, or-false}
+use mathlib.Core.Path.{_≡_, refl, sym, ap, _∙_}
+use mathlib.Core.Bool.{true, false, not, or-false}
 use mathlib.Core.List.{List, [], _∷_}
 use Prim.Native.Nat.{ℕ, _+_, _*_, _≤_}
 use native.Mathlib.Omega.{arith}
@@ -13,9 +13,9 @@ use Rattle.lists.proofs.Tests.{first-of, second-of}
 use Rattle.check_value.specs.Frame.{passes}
 use Rattle.sheet_rules.specs.declared.Purpose.the-variants as purpose
 use Rattle.sheet_rules.specs.declared.RecordArea.{RecordArea}
-use Rattle.sheet_rules.specs.Rows.{areas, clearAddress, recordArea}
+use Rattle.sheet_rules.specs.Rows.{clearAddress, recordArea}
 use Rattle.sheet_rules.specs.Rules.{inRecords}
-use Rattle.sheet_rules.specs.Lookup.{liesIn, placeIn, recordNumber}
+use Rattle.sheet_rules.specs.Lookup.{recordNumber}
 use Rattle.sheet_rules.specs.Runs.{allOpen}
 use Rattle.bank_rules.specs.Bank.{stationOf}
 use Rattle.bank_rules.specs.Calls.{Lent}
@@ -27,11 +27,11 @@ use Rattle.meter_rules.specs.Write.{firstPlace, someBad, stopPlace, stopSide}
 use Rattle.meter_rules.specs.Steps.{codeAllowed, judgedFrame}
 use Rattle.controller_rules.specs.declared.Order.{Order}
 use Rattle.controller_rules.specs.declared.Order.the-variants.{Read, Record, Write, Writes, Clear, Unknown}
-use Rattle.controller_rules.specs.Order.{Asked, ask, functionOf, addressOf, valueCount, secondOf, noFrame}
-use Rattle.controller_rules.specs.Query.{sentValues, query}
-use Rattle.controller_rules.proofs.Framed.{Framed, framed, within, values-fit, known}
+use Rattle.controller_rules.specs.Order.{Asked, ask, valueCount, noFrame}
+use Rattle.controller_rules.specs.Query.{query}
+use Rattle.controller_rules.proofs.Framed.{framed, within, values-fit, known}
 use Rattle.controller_rules.proofs.Queries.{query-length, query-station, query-function, query-start, query-second, query-passes, query-count}
-use Rattle.exchange.specs.Judged.{suits, shutTo, writesTo, placeAt, carriedOut, orderSteps, judgedAs}
+use Rattle.exchange.specs.Judged.{suits, placeAt, judgedAs}
 
 -- a frame that passes and is for the bank's station, by what its parts say
 module _ (given : Lent) (frame : List ℕ) (whole : passes frame ≡ true) (here : eqb (station frame) (stationOf (given .sheet) (given .bank)) ≡ true)

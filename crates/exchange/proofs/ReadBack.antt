@@ -3,16 +3,13 @@ use mathlib.Core.Path.{_≡_, refl, sym, ap, ap₂, subst, _∙_}
 use mathlib.Core.Bool.{Bool, true, false, not, cond, true≢false, false≢true}
 use mathlib.Core.List.{List}
 use mathlib.Core.Logic.{_⊎_, inl, inr}
-use Prim.Native.Nat.{ℕ, _+_, _*_, _/_, _%_, _≤_, _<_}
+use Prim.Native.Nat.{ℕ, _+_, _*_, _≤_, _<_}
 use native.Mathlib.Omega.{arith}
 use lib.Dec.{eqb}
 use lib.ListN.{length}
-use borrow.Author.Tests.{eqb-true, eq-eqb}
-use Rattle.sheet_rules.specs.declared.Lies.{Lies}
 use Rattle.sheet_rules.specs.declared.Lies.the-variants.{At, Nowhere}
-use Rattle.sheet_rules.specs.Rows.{areas, recordArea}
+use Rattle.sheet_rules.specs.Rows.{recordArea}
 use Rattle.sheet_rules.specs.Rules.{sound, inRecords}
-use Rattle.sheet_rules.specs.Lookup.{liesIn}
 use Rattle.sheet_rules.proofs.Addresses.{place-address}
 use Rattle.sheet_rules.proofs.Records.{record-nowhere}
 use Rattle.bank_rules.specs.Calls.{Lent}
@@ -24,24 +21,23 @@ use Rattle.meter_rules.proofs.Soundness.{stays-sound}
 use Rattle.frame.specs.Frame.{manyOf}
 use Rattle.controller_rules.specs.declared.Order.{Order}
 use Rattle.controller_rules.specs.declared.Order.the-variants.{Read, Record, Write, Writes, Clear, Unknown}
-use Rattle.controller_rules.specs.Order.{Asked, ask, functionOf, addressOf, valueCount, addressCount, secondOf, noFrame}
+use Rattle.controller_rules.specs.Order.{Asked, ask, addressOf, addressCount, noFrame}
 use Rattle.controller_rules.specs.Query.{query}
-use Rattle.controller_rules.specs.Reading.{bringsValues}
 use Rattle.controller_rules.proofs.Framed.{framed, values-fit, count-fits}
 use Rattle.controller_rules.proofs.Queries.{query-station, query-function, query-start, query-second}
 use Rattle.plain.specs.Numbers.{byte, word}
 use Rattle.plain.specs.Sheet.{LiesAt}
 use Rattle.plain.specs.Records.{AtRecord}
 use Rattle.plain.specs.Frame as fates
-use Rattle.plain.specs.Frame.{Fate, error, good, Gets, Set, Readable, Writable, RightValue, registers, sentWord}
+use Rattle.plain.specs.Frame.{error, good, Gets, Set, Readable, Writable, registers, sentWord}
 use Rattle.plain.specs.Left as plain
-use Rattle.plain.specs.Left.{LetThrough, Stored, WordLeft}
+use Rattle.plain.specs.Left.{Stored, WordLeft}
 use Rattle.plain.proofs.Rows.{word-same, plain-lies}
-use Rattle.plain.proofs.Records.{no-record, at-record, outside-so, so-record}
+use Rattle.plain.proofs.Records.{no-record}
 use Rattle.plain.proofs.Addresses.{registers-same, address-same}
 use Rattle.plain.proofs.Fates.{one-fate}
 use Rattle.cedarskein.specs.Door.{Handed, ReplyTold}
-use Rattle.demands.specs.Seen.{Accepted, leftBy}
+use Rattle.demands.specs.Seen.{Accepted}
 use Rattle.demands.proofs.Calls.{Answers, answers-is, answers-bytes}
 use Rattle.demands.proofs.Frames.{frame-leaves}
 use Rattle.exchange.specs.Judged.{suits, writesTo}

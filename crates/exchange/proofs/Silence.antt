@@ -1,9 +1,9 @@
 -- Where nothing is refused, a built query meets silence exactly where the bank's station is another. Assumes nothing.
 use mathlib.Core.Path.{_≡_, refl, sym, ap, subst, _∙_}
-use mathlib.Core.Bool.{Bool, true, false, not, cond, _||_}
+use mathlib.Core.Bool.{false}
 use mathlib.Core.List.{List}
 use mathlib.Core.Logic.{_↔_}
-use Prim.Native.Nat.{ℕ, _+_, _*_, _≤_}
+use Prim.Native.Nat.{ℕ, _+_}
 use native.Mathlib.Omega.{arith}
 use lib.ListN.{length}
 use borrow.Author.Tests.{eq-eqb, ne-eqb, le-ltb}
@@ -15,9 +15,8 @@ use Rattle.controller_rules.specs.declared.Order.the-variants.{Read, Record, Wr
 use Rattle.controller_rules.specs.Order.{Asked, ask, noFrame}
 use Rattle.controller_rules.specs.Query.{query}
 use Rattle.controller_rules.proofs.Queries.{query-length, query-station, query-function, query-count}
-use Rattle.plain.specs.Numbers.{byte, word}
 use Rattle.plain.specs.Frame as fates
-use Rattle.plain.specs.Frame.{Fate, silence, error, good, Whole, RightLength, Gets}
+use Rattle.plain.specs.Frame.{Fate, silence, RightLength, Gets}
 use Rattle.plain.specs.Left as plain
 use Rattle.plain.specs.Left.{Left, HandsBack}
 use Rattle.plain.proofs.Conditions.{length-tells}

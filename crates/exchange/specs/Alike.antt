@@ -1,11 +1,9 @@
--- Two orders that take one reply alike (rule Q54). Assumes nothing.
+-- When two orders take one reply alike (rule Q54). Assumes nothing.
 use mathlib.Core.Path.{_≡_}
 use mathlib.Core.Bool.{true, false}
 use mathlib.Core.List.{List}
 use mathlib.Core.Logic.{_⊎_}
 use Prim.Native.Nat.{ℕ}
-use Rattle.controller_rules.specs.declared.Order.{Order}
-use Rattle.controller_rules.specs.declared.Order.the-variants.{Read, Record, Write, Writes, Clear, Unknown}
 use Rattle.controller_rules.specs.Order.{Asked, functionOf, addressOf, secondOf, wordCount}
 use Rattle.controller_rules.specs.Reading.{isError, bringsValues}
 

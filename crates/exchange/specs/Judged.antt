@@ -1,5 +1,6 @@
 -- What a meter makes of an order, said of the order itself: which orders suit its records, where it stops them, and what it does (rules Q50 and Q51).
--- Assumes nothing.
+-- Only a bad item is said of the query's words, which are the order's (rule Q24). An order of no known kind has no frame: nothing depends on what is
+-- said of one. Assumes nothing.
 use Prim.Native.Nat.{ℕ}
 use mathlib.Core.Bool.{Bool, true, false, not, _&&_}
 use mathlib.Core.List.{List, [], _∷_}
@@ -53,7 +54,7 @@ writesTo Unknown = false
 abbrev pub placeAt : List ℕ → ℕ → ℕ
 placeAt sheet address = placeIn (liesIn (areas sheet) address)
 
--- what is done of an order that nothing stops. (One of no known kind has no frame: of it nothing asks for this.)
+-- what is done of an order that nothing stops
 abbrev pub carriedOut : Lent → Order → List ℕ → Judged
 carriedOut given (Read start count) values = GoodRead (placeAt (given .sheet) start) count
 carriedOut given (Record address words) values =

@@ -1,4 +1,5 @@
--- Section R of the rules: the bytes of each reply, its check behind it, and how it lies in an answer buffer. Assumes nothing.
+-- Section R of the rules: the bytes of each reply, its check behind it, and how it lies in an answer buffer. A query is closed by its check and laid in
+-- a buffer in the same way (rules Q20 and Q23). Assumes nothing.
 use Prim.Native.Nat.{ℕ, _+_, _*_, _/_, _%_}
 use mathlib.Core.Bool.{Bool, cond, _&&_}
 use mathlib.Core.List.{List, [], _∷_, _++_, map}
@@ -40,7 +41,7 @@ topBitSet byte = cond (ltb byte topBit) (byte + topBit) byte
 abbrev pub errorReply : List ℕ → ℕ → List ℕ
 errorReply frame code = station frame ∷ topBitSet (function frame) ∷ code ∷ []
 
--- rule R6
+-- rules R6 and Q20
 unfoldable pub withCheck : List ℕ → List ℕ
 withCheck bytes = bytes ++ (valueOf bytes % 256 ∷ valueOf bytes / 256 ∷ [])
 
@@ -50,7 +51,7 @@ errorLength = 5
 
 -- ---- in the answer buffer
 
--- rule N0: the reply, and behind it the buffer as it was
+-- rules N0, Q23 and Q42: a reply, a query or values, and behind it the buffer as it was
 abbrev pub laid : List ℕ → List ℕ → List ℕ
 laid reply buffer = reply ++ drop (length reply) buffer
 

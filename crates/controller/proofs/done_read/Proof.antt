@@ -1,6 +1,5 @@
 -- `controller::done_read` meets its contract. Assumes nothing.
 use borrow.Author.Tests.{eq-eqb, ne-eqb}
-use mathlib.Core.Bool.{and-false}
 use Rattle.controller_rules.specs.Reading.{doneLength}
 use borrow.Author.Needs.{needs}
 use Rattle.controller.proofs.done_read.Statement.{statement}

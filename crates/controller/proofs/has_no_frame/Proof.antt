@@ -1,11 +1,10 @@
 -- `controller::has_no_frame` meets its contract. Assumes nothing.
-use mathlib.Core.Path.{_≡_, _∙_, sym, ap}
-use mathlib.Core.Bool.{false}
-use Prim.Native.Nat.{ℕ, _+_}
+use mathlib.Core.Path.{_∙_, sym, ap}
+use Prim.Native.Nat.{_+_}
 use native.Mathlib.Omega.{arith}
 use denote.Ref.{now}
 use lib.Dec.{ltb}
-use Rattle.controller_rules.specs.Order.{highestWord, wrongNumber, noFrame}
+use Rattle.controller_rules.specs.Order.{highestWord, noFrame}
 use Rattle.controller_rules.proofs.Framed.{count-fits}
 use Rattle.controller.specs.declared.Wanted.{Wanted}
 use borrow.Author.Needs.{needs}

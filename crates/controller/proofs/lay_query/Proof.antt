@@ -1,14 +1,13 @@
 -- `controller::lay_query` meets its contract: the head, the values of several writes, and the check. Assumes nothing.
 use native.Mathlib.Omega.{arith}
-use mathlib.Core.Path.{_≡_, refl, sym, ap, ap₂, _∙_}
-use mathlib.Core.List.{List, [], _∷_, _++_}
-use Prim.Native.Nat.{ℕ, _+_, _≤_}
+use mathlib.Core.Path.{refl, sym, ap, ap₂, _∙_}
+use mathlib.Core.List.{List, _∷_, _++_}
+use Prim.Native.Nat.{ℕ, _+_}
 use denote.Ref.{now}
-use lib.ListN.{length, take, drop}
-use lib.Seq.{take-at}
+use lib.ListN.{length, take}
 use borrow.Author.Tests.{eq-eqb, ne-eqb}
 use Rattle.frame.specs.Frame.{writesMany}
-use Rattle.frame.specs.Reply.{withCheck, laid, fill}
+use Rattle.frame.specs.Reply.{laid, fill}
 use Rattle.frame.proofs.Laying.{then-sealed, laid-over}
 use Rattle.frame.proofs.Reading.{check-length}
 use Rattle.controller.specs.Stages.{head, laidQuery}

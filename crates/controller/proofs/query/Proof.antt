@@ -1,15 +1,14 @@
 -- `controller::query` meets its contract. Assumes nothing.
-use mathlib.Core.Path.{_≡_, sym, ap, subst, _∙_}
-use mathlib.Core.List.{List}
+use mathlib.Core.Path.{sym, ap, subst, _∙_}
 use denote.Ref.{now}
 use lib.ListN.{length}
 use borrow.Author.Tests.{lt-ltb, le-ltb}
 use Rattle.lists.specs.Cases.{firstCase}
 use Rattle.frame.specs.Reply.{leastBuffer}
-use Rattle.controller_rules.specs.Order.{ask, noFrame}
+use Rattle.controller_rules.specs.Order.{ask}
 use Rattle.controller_rules.specs.Query.{builtQuery, buildOutcome}
 use Rattle.controller.specs.declared.Wanted.{Wanted}
-use Rattle.controller.specs.Stages.{HeadFits, wantedOf, laidQuery}
+use Rattle.controller.specs.Stages.{HeadFits, laidQuery}
 use Rattle.controller.proofs.Building.{head-fits, values-few, built}
 use borrow.Author.Needs.{needs}
 use Rattle.controller.proofs.query.Statement.{statement}

@@ -1,20 +1,15 @@
 -- `controller::reply` meets its contract. Assumes nothing.
 use native.Mathlib.Omega.{arith}
-use mathlib.Core.Path.{_≡_, refl, sym, ap, ap₂, _∙_}
-use mathlib.Core.Bool.{true, false}
-use mathlib.Core.List.{List}
-use Prim.Native.Nat.{ℕ, _≤_}
+use mathlib.Core.Path.{sym, ap, ap₂, _∙_}
 use denote.Ref.{now}
-use lib.Dec.{eqb}
 use lib.ListN.{length}
 use borrow.Author.Tests.{lt-ltb, le-ltb, eq-eqb, ne-eqb}
 use Rattle.lists.specs.Cases.{firstCase}
-use Rattle.check_value.specs.Frame.{passes}
 use Rattle.frame.specs.declared.Parts.{Parts}
-use Rattle.frame.specs.Frame.{station, partsOf}
-use Rattle.frame.specs.Reply.{leastBuffer, smallBuffer}
+use Rattle.frame.specs.Frame.{station}
+use Rattle.frame.specs.Reply.{leastBuffer}
 use Rattle.frame.proofs.Passing.{passed-parts, passed-true, passed-false}
-use Rattle.controller_rules.specs.Order.{ask, noFrame}
+use Rattle.controller_rules.specs.Order.{ask}
 use Rattle.controller_rules.specs.Reading.{readingOf, readingOutcome}
 use Rattle.controller_rules.proofs.Framed.{framed, words-fit}
 use Rattle.controller.specs.declared.Wanted.{Wanted}

@@ -1,8 +1,4 @@
 -- `controller::wanted_of` meets its contract, order by order. Assumes nothing.
-use mathlib.Core.Path.{ap, sym}
-use denote.Ref.{now}
-use Rattle.controller_rules.specs.declared.Order.{Order}
-use Rattle.controller.specs.Stages.{wantedOf}
 use borrow.Author.Needs.{needs}
 use Rattle.controller.proofs.wanted_of.Statement.{statement}
 use Rattle.controller.proofs.wanted_of.Tie as tie

@@ -1,5 +1,4 @@
 -- `controller::wrong_values` meets its contract. Assumes nothing.
-use mathlib.Core.Path.{_∙_, sym}
 use Prim.Native.Nat.{_%_}
 use denote.Ref.{now}
 use lib.ListN.{length}
