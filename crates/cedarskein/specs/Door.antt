@@ -73,7 +73,7 @@ queryTold number length buffer = record { number = number; length = length; buff
 abbrev pub queryToldOf : QueryOutcome → QueryTold
 queryToldOf outcome = queryTold (builtNumber (outcome .built)) (builtLength (outcome .built)) (outcome .buffer)
 
--- rules Q41 and Q42: the number, the length and the error code of a call that reads a reply, and the buffer afterwards
+-- rule Q41: the number, the length and the error code of a call that reads a reply, and the buffer afterwards
 pub record ReplyTold : Type 0 where
   pub number : ℕ
   pub length : ℕ

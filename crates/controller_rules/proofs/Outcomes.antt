@@ -78,7 +78,7 @@ module _ (asked : Asked) (buffer : List ℕ) where
 
 -- ---- reading
 
-take-bytes : (n : ℕ) (bytes : List ℕ) → Bytes bytes → Bytes (take n bytes)
+pub take-bytes : (n : ℕ) (bytes : List ℕ) → Bytes bytes → Bytes (take n bytes)
 take-bytes zero bytes small = bytes-none
 take-bytes (suc n) [] small = bytes-none
 take-bytes (suc n) (byte ∷ behind) small = bytes-one byte (take n behind) (small 0) (take-bytes n behind (λ i. small (suc i)))

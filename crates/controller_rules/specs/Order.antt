@@ -1,4 +1,4 @@
--- What a box asks: an order, in the numbers of its query, and whether it has a frame at all (rules Q1 to Q8 and Q10 to Q15). Assumes nothing.
+-- What a box asks: an order, in the numbers of its query, and whether it has a frame at all (rules Q1 to Q16). Assumes nothing.
 use Prim.Native.Nat.{ℕ, _+_, _/_, _%_}
 use mathlib.Core.Bool.{Bool, true, false, not, cond, _||_}
 use mathlib.Core.List.{List}
@@ -101,7 +101,7 @@ mostWritten = 45
 abbrev pub wrongValues : List ℕ → Bool
 wrongValues values = not (eqb (length values % 2) 0) || not (between 1 mostWritten (valueCount values))
 
--- a word has sixteen bits
+-- rules Q14 and Q15: a word has sixteen bits, and so has an address
 abbrev pub highestWord : ℕ
 highestWord = 0xFFFF
 

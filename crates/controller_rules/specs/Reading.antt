@@ -112,7 +112,7 @@ readingNumber Done = 0
 readingNumber (Error code) = 0
 readingNumber (Refused refusal) = refusalNumber refusal
 
--- rules Q41 and Q42: how many bytes the values have, and the code of the error; 0 where there is none
+-- rule Q41: how many bytes the values have, and the code of the error; 0 where there is none
 abbrev pub readingLength : Reading → ℕ
 readingLength (Values length) = length
 readingLength Done = 0

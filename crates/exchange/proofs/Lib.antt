@@ -5,3 +5,4 @@ pub mod Heard
 pub mod Damaged
 pub mod Alike
 pub mod ReadBack
+pub mod Witness

@@ -39,7 +39,7 @@ pub data Heard (given : Lent) (frame before : List ℕ) (told : ReplyTold) : Ord
       → Heard given frame before told (Record address words)
   done : {order : Order} → bringsValues order ≡ false → Gets given frame good → told ≡ replyTold 0 0 0 before → Heard given frame before told order
 
--- the k-th value that an order writes: the one of a write, the words of several
+-- rule Q53: the k-th value that an order writes: the one of a write, the words of several
 abbrev pub writtenValue : Order → List ℕ → ℕ → ℕ
 writtenValue (Read start count) sent k = 0
 writtenValue (Record address words) sent k = 0
