@@ -7,11 +7,12 @@
   python3 tools/mutants.py --record       writes what was found of every slip into docs/SLIPS.txt, and tries none; of one that the room does not know
                                           it keeps the line that is there
 
-Three sorts (left out are specs/ of meter and sheet, which only private promises cite, and of runs, whose statements are about the model machine):
+Three sorts (left out are specs/ of meter, sheet and controller, which only private promises cite, and of runs, whose statements are about the model machine):
 
   definition  a slip of a definition, the code untouched. Found by pattern: each number of specs/ one higher and one lower (those of the
               makers' maps one higher), each comparison, each `and`, `or` and `not` for another; and the hand-written ones of tools/mutants.txt, which change an order, an arm or a field.
-  statement   the same of the statements that are typed in specs/ themselves (crate plain, files Theorems.antt), each number one higher.
+  statement   the same of the statements that are typed in specs/ themselves (crates plain and exchange, files Theorems.antt), each number one higher. Those of
+              exchange, whose theorems are over contracts, are tried in a whole copy.
   code        a slip of the code, from tools/mutants.txt.
 
 A definition's slip says nothing where the proof of a function refuses it: the function was not changed. So it is tried in two copies that
@@ -45,9 +46,11 @@ LINE_FEED = "↵"
 LONGEST_CHECK = 600
 
 # the crates that hold definitions, without their functions, in an order in which they can be checked; the quick tables first
-BARE = "lists refusals words check_value range sheet_rules makers listing bank_rules ring_rules frame meter_rules why_rules plain".split()
+BARE = "lists refusals words check_value range sheet_rules makers listing bank_rules ring_rules frame controller_rules meter_rules why_rules plain".split()
 # the statements that are typed in specs/
 STATED = ["plain"]
+# and those of a crate whose theorems are over contracts: its slips are tried in the whole copy
+STATED_OVER_CONTRACTS = ["exchange"]
 # and the files of other crates that only statements speak of
 STATED_FILES = ["Theorems"]
 # the files that compute a statement from the definitions, and stand on nothing else of proofs/
@@ -60,6 +63,7 @@ TABLES = {
     "bank_rules": ["BankLimits"],
     "ring_rules": ["RingLimits"],
     "frame": ["Rooms"],
+    "controller_rules": ["QueryCases", "ReplyCases"],
     "meter_rules": ["CaseSet", "FrameLimits", "RecordLimits"],
     "why_rules": ["ReasonCases", "RecordReasons", "SideReasons"],
     "listing": ["Example", "Texts", "Makers"],
@@ -178,7 +182,7 @@ def file_slips(path):
             definition, count = head.group(1), 0
             continue
         code, dashes, behind = line.partition("--")
-        sort = "statement" if crate in STATED or stem in STATED_FILES else "definition"
+        sort = "statement" if crate in STATED + STATED_OVER_CONTRACTS or stem in STATED_FILES else "definition"
         for what, changed in line_slips(code, ONE_WAY if sort == "statement" or stem == "Maps" else BOTH_WAYS):
             count += 1
             yield Slip(f"{crate}.{stem}.{definition}.{count}", sort, crate, f"{what}: {changed.strip()}", [], [Change(path, at, line, changed + dashes + behind)])
@@ -186,7 +190,7 @@ def file_slips(path):
 
 def slips_by_pattern():
     for crate in CRATES:
-        if crate in BARE:
+        if crate in BARE + STATED_OVER_CONTRACTS:
             for path in sorted(glob.glob(os.path.join(ROOT, "crates", crate, "specs", "*.antt"))):
                 yield from file_slips(os.path.relpath(path, ROOT))
 
@@ -420,7 +424,7 @@ class Room:
         """Where a slip is tried. One that changes nothing may break a proof, which tells nothing: it is held to the tables."""
         if slip.sort == "definition":
             return self.definition[:1] if slip.same else self.definition
-        return [self.statements] if slip.sort == "statement" else [self.whole]
+        return [self.statements] if slip.sort == "statement" and slip.crate not in STATED_OVER_CONTRACTS else [self.whole]
 
     def kept(self, slip):
         return os.path.join(self.results, slip.name + ".json")

@@ -13,7 +13,7 @@ use Rattle.sheet_rules.specs.Rules.{sound, inRecords}
 use Rattle.sheet_rules.proofs.Addresses.{place-address}
 use Rattle.sheet_rules.proofs.Records.{record-nowhere}
 use Rattle.bank_rules.specs.Calls.{Lent}
-use Rattle.bank_rules.specs.Bank.{bankBytes}
+use Rattle.bank_rules.specs.Bank.{bankBytes, bankSound}
 use Rattle.bank_rules.proofs.Stores.{stored-length}
 use Rattle.meter_rules.specs.Answer.{answerOutcome}
 use Rattle.meter_rules.proofs.Outcomes.{answer-stored}
@@ -57,7 +57,7 @@ still-accepted given frame buffer again accepted {left} call large =
     record {
       sheetSound = accepted .sheetSound;
       bankFits = ap (λ (n : ℕ). eqb n (bankBytes (given .sheet))) same ∙ accepted .bankFits;
-      bankWhole = ap _ is ∙ stays-sound given frame buffer (accepted .bankWhole);
+      bankWhole = ap (bankSound (given .sheet)) is ∙ stays-sound given frame buffer (accepted .bankWhole);
       ringGoes = accepted .ringGoes;
       bufferLong = large;
     }
