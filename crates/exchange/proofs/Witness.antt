@@ -1,6 +1,6 @@
 -- What the statements on exchanges suppose is met: for every order that has a frame there is an exchange with every meter that refuses nothing; and at the
 -- UX15/25 with a fresh bank, and at a meter with three records, one of each sort. The stations that an order can have are those of meters. Assumes nothing.
-use mathlib.Core.Path.{_≡_, refl, sym, ap, subst, _∙_}
+use mathlib.Core.Path.{_≡_, refl, sym, ap, subst}
 use mathlib.Core.Bool.{false}
 use mathlib.Core.List.{List, [], _∷_, _++_, map}
 use Prim.Native.Nat.{ℕ, _≤_}
