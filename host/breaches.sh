@@ -19,14 +19,25 @@ try() {
     if grep -q '^FAILED: .' "$said"; then printf ' %s' "$name"; else printf ' %s(wordless)' "$name"; fi
 }
 
-# The tests that fail, by name.
+# The tests in the order in which they are tried: a door of the box that asks is mostly seen by the box's own.
+tests() {
+    case $door in query_* | reply_*) echo asking exchanges ;; esac
+    echo refusals buffers check_values edges power_cut stations records ring_power_cut sides set_p reasons cases
+    case $door in query_* | reply_*) ;; *) echo asking exchanges ;; esac
+}
+
+# The tests that fail, by name; of a door the first of them, or with VERBOSE all.
 failing() {
-    for test in refusals buffers check_values edges power_cut stations records ring_power_cut sides asking exchanges; do
-        try "$test" "$@" "$folder/broken_$test"
+    for test in $(tests); do
+        case $test in
+        set_p) seen=$(try "$test" "$@" "$folder/broken_rows" "$written" "case set P" <"$host/set_p.rows") ;;
+        reasons) seen=$(try "$test" "$@" "$folder/broken_rows" "$written" "the reasons" <"$host/reasons.rows") ;;
+        cases) seen=$(try "$test" "$@" "$folder/broken_rows" "$written" "cases" <"$host/../crates/cases/stdin") ;;
+        *) seen=$(try "$test" "$@" "$folder/broken_$test") ;;
+        esac
+        printf '%s' "$seen"
+        if [ -n "$seen" ] && [ -n "$door" ] && [ -z "$VERBOSE" ]; then return 0; fi
     done
-    try set_p "$@" "$folder/broken_rows" "$written" "case set P" <"$host/set_p.rows"
-    try reasons "$@" "$folder/broken_rows" "$written" "the reasons" <"$host/reasons.rows"
-    try cases "$@" "$folder/broken_rows" "$written" "cases" <"$host/../crates/cases/stdin"
 }
 
 unset BREACH
