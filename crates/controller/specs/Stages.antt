@@ -17,15 +17,12 @@ use Rattle.controller_rules.specs.Reading.{ReplyOutcome, replyOutcome, codeIn, 
 use Rattle.controller.specs.declared.Wanted.{Wanted}
 
 -- what an order with values shows
+abbrev pub wantedBy : ℕ → ℕ → ℕ → ℕ → ℕ → Wanted
+wantedBy function address second addresses words =
+    record { function = function; address = address; second = second; addresses = addresses; words = words }
+
 abbrev pub wantedOf : Order → List ℕ → Wanted
-wantedOf order values =
-    record {
-      function = functionOf order;
-      address = addressOf order;
-      second = secondOf order values;
-      addresses = addressCount order values;
-      words = wordCount order;
-    }
+wantedOf order values = wantedBy (functionOf order) (addressOf order) (secondOf order values) (addressCount order values) (wordCount order)
 
 -- a station, an address and a second word that fit their bytes
 pub record HeadFits (station : ℕ) (wanted : Wanted) : Type 0 where

@@ -10,7 +10,7 @@ ghost use Rattle.frame.specs.Reply.{laid, fill};
 ghost use Rattle.controller_rules.specs.Order.{ask, wrongValues, wrongNumber, noFrame};
 ghost use Rattle.controller_rules.specs.Query.{queryOutcome, buildOutcome};
 ghost use Rattle.controller_rules.specs.Reading.{replyOutcome, readingOutcome};
-ghost use Rattle.controller.specs.Stages.{HeadFits, wantedOf, head, laidQuery, errorRead, valuesRead, doneRead, bodyRead};
+ghost use Rattle.controller.specs.Stages.{HeadFits, wantedBy, wantedOf, head, laidQuery, errorRead, valuesRead, doneRead, bodyRead};
 use controller_rules::Built;
 use controller_rules::Order;
 use controller_rules::Reading;
@@ -38,53 +38,34 @@ struct Wanted {
     pub words: usize,
 }
 
+// The numbers of an order, one by one.
+fn wants(function: u8, address: u32, second: usize, addresses: usize, words: usize) -> Wanted
+    ensures { λ r. ⌜ r ≡ wantedBy function address second addresses words ⌝ }
+{
+    Wanted {
+        function,
+        address,
+        second,
+        addresses,
+        words,
+    }
+}
+
 // Rules Q3 to Q8, of an order with values.
 fn wanted_of(order: Order, values: &[u8]) -> Wanted
     ensures { λ r. ⌜ r ≡ wantedOf order (now (values .entry)) ⌝ }
 {
+    let sent = values.len() / 2;
     match order {
-        Order::Read { start, count } => Wanted {
-            function: frame::READS,
-            address: start,
-            second: count as usize,
-            addresses: count as usize,
-            words: count as usize,
-        },
-        Order::Record { address, words } => Wanted {
-            function: frame::READS,
-            address: address,
-            second: 1,
-            addresses: 1,
-            words: words as usize,
-        },
-        Order::Write { address, value } => Wanted {
-            function: frame::WRITES_ONE,
-            address: address,
-            second: value as usize,
-            addresses: 1,
-            words: 0,
-        },
-        Order::Writes { start } => Wanted {
-            function: frame::WRITES_MANY,
-            address: start,
-            second: values.len() / 2,
-            addresses: values.len() / 2,
-            words: 0,
-        },
-        Order::Clear { address } => Wanted {
-            function: frame::CLEARS,
-            address: address,
-            second: 0,
-            addresses: 1,
-            words: 0,
-        },
-        Order::Unknown => Wanted {
-            function: 0,
-            address: 0,
-            second: 0,
-            addresses: 1,
-            words: 0,
-        },
+        Order::Read { start, count } => {
+            let many = count as usize;
+            wants(frame::READS, start, many, many, many)
+        }
+        Order::Record { address, words } => wants(frame::READS, address, 1, 1, words as usize),
+        Order::Write { address, value } => wants(frame::WRITES_ONE, address, value as usize, 1, 0),
+        Order::Writes { start } => wants(frame::WRITES_MANY, start, sent, sent, 0),
+        Order::Clear { address } => wants(frame::CLEARS, address, 0, 1, 0),
+        Order::Unknown => wants(0, 0, 0, 1, 0),
     }
 }
 
