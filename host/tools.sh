@@ -1,7 +1,7 @@
 #!/bin/sh
 # Looks for the tools that a test needs, and installs one that is missing where this may: as root on Debian, with a line that says so.
-#   tools.sh FOLDER NEED..    each NEED is c, c++, nm, pkg-config, emulator, mbpoll or pymodbus; the folder is where a trial program is built
-# CC, CXX, NM, RUN, STATIC and PYTHON come by the environment, as toolchain.mk has them.
+#   tools.sh FOLDER NEED..    each NEED is c, c++, nm, pkg-config, emulator, mbpoll, pymodbus or libmodbus; the folder is where a trial program is built
+# CC, CXX, NM, RUN, STATIC and PYTHON come by the environment, as toolchain.mk has them; NATIVE_CC is this machine's own compiler, which libmodbus is for.
 # Exit status: 0 all are there and work; 1 one does not, and a line says which and what to type; 2 the folder may not be written.
 folder=$1
 shift
@@ -31,6 +31,12 @@ why_no_cxx() {
         || echo "the C++ compiler $CXX makes no program: $(head -n 1 "$folder/trial.txt")"
 }
 
+# libmodbus is this machine's own, and so is a program with it.
+why_no_libmodbus() {
+    printf '#include <modbus/modbus.h>\nint main(void) { modbus_free(NULL); return 0; }\n' | "$NATIVE_CC" -x c - -lmodbus -o "$folder/trial" >/dev/null 2>&1 \
+        || echo "$NATIVE_CC finds no libmodbus"
+}
+
 why_not() {
     case $1 in
     c) why_no_c ;;
@@ -40,6 +46,7 @@ why_not() {
     emulator) is_there qemu-x86_64 || echo "the emulator qemu-x86_64 is not there" ;;
     mbpoll) is_there mbpoll || echo "the master mbpoll is not there" ;;
     pymodbus) "$PYTHON" -c 'import serial; from pymodbus.client import ModbusSerialClient' >/dev/null 2>&1 || echo "$PYTHON has no pymodbus" ;;
+    libmodbus) why_no_libmodbus ;;
     *) echo "tools.sh knows no tool $1" ;;
     esac
 }
@@ -56,6 +63,7 @@ packages_of() {
     emulator,*) echo qemu-user ;;
     mbpoll,*) echo mbpoll ;;
     pymodbus,*) echo python3-pymodbus python3-serial python3-serial-asyncio ;;
+    libmodbus,*) echo gcc libc6-dev libmodbus-dev ;;
     esac
 }
 
