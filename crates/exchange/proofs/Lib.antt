@@ -5,4 +5,5 @@ pub mod Heard
 pub mod Damaged
 pub mod Alike
 pub mod ReadBack
+pub mod Answered
 pub mod Witness

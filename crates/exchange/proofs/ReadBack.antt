@@ -121,7 +121,7 @@ module _ (stationed : ℕ) (sent : List ℕ) where
   which-write (Clear address) writes = absurd (false≢true writes)
   which-write Unknown writes = absurd (false≢true writes)
 
-  many-written : (order : Order) → writesTo order ≡ true → registers (query (ask order stationed sent)) ≡ addressCount order sent
+  pub many-written : (order : Order) → writesTo order ≡ true → registers (query (ask order stationed sent)) ≡ addressCount order sent
   many-written (Read start count) writes = absurd (false≢true writes)
   many-written (Record address words) writes = absurd (false≢true writes)
   many-written (Write address value) writes =
@@ -133,7 +133,7 @@ module _ (stationed : ℕ) (sent : List ℕ) where
   many-written (Clear address) writes = absurd (false≢true writes)
   many-written Unknown writes = absurd (false≢true writes)
 
-  value-sent : (order : Order) → noFrame (ask order stationed sent) ≡ false → writesTo order ≡ true → (k : ℕ) → k < addressCount order sent
+  pub value-sent : (order : Order) → noFrame (ask order stationed sent) ≡ false → writesTo order ≡ true → (k : ℕ) → k < addressCount order sent
       → sentWord (query (ask order stationed sent)) k ≡ writtenValue order sent k
   value-sent (Read start count) has writes k less = absurd (false≢true writes)
   value-sent (Record address words) has writes k less = absurd (false≢true writes)
