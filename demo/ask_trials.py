@@ -60,8 +60,14 @@ def done(query, reply, *registers, names="ux15_25"):
     return "status 0: " + first(query, reply, " / ".join([f"Done{by}:", *registers]))
 
 
-def error(query, reply, words, sheet="ux15_25"):
-    way = f'for the reason: make why SHEET="sheets/{sheet}.sheet" FRAME="{sealed(query)}", with BANK= where the meter\'s bank is at hand'
+AT_HAND = "BANK= where the meter's bank is at hand"
+NEEDED = "BANK=, the meter's bank: it is needed, since a fresh one is at station 1"
+WITH_RING = "; with RING= for its history"
+WITH_OTHER_SHEET = f"{WITH_RING}, and its own SHEET=: this one has no history"
+
+
+def error(query, reply, words, sheet="ux15_25", given=AT_HAND):
+    way = f'for the reason: make why SHEET="sheets/{sheet}.sheet" FRAME="{sealed(query)}", with {given}'
     return "status 1: " + first(query, reply, f"{words} / {way}")
 
 
@@ -187,9 +193,17 @@ AT_METER = [
     ("a record with a sheet that has no history", asked_history("record 0400 22", "ux15_25"),
      done("01 03 04 00 00 01", "01 03 2C" + 22 * " 00 02", f"record at 0400: {RECORD}")),
     ("a record that is not stored", asked_history("record 0403 22"),
-     error("01 03 04 03 00 01", "01 83 02", "Error 02: the meter has no record at 0403, or none is stored there yet", "history_example")),
+     error("01 03 04 03 00 01", "01 83 02", "Error 02: the meter has no record at 0403, or none is stored there yet", "history_example",
+           AT_HAND + WITH_RING)),
+    (".. with a sheet that has no history", asked_history("record 0403 22", "ux15_25"),
+     error("01 03 04 03 00 01", "01 83 02", "Error 02: the meter has no record at 0403, or none is stored there yet", given=AT_HAND + WITH_OTHER_SHEET)),
+    ("a write where the sheet has a history", asked("write 0300 0001", sheet="history_example"),
+     error("01 06 03 00 00 01", "01 86 02", f"{BAD_ADDRESS} 06", "history_example", AT_HAND + WITH_RING)),
+    ("an error at another station", asked_at_new("write 010E 0002", (), "write 0101 0005", ("-s", "2")),
+     error("02 06 01 01 00 05", "02 86 03", BAD_VALUE, given=NEEDED)),
     ("two records", asked_history("read 0400 2"),
-     error("01 03 04 00 00 02", "01 83 03", "Error 03: the meter does not take the count of this order", "history_example")),
+     error("01 03 04 00 00 02", "01 83 03", "Error 03: the meter does not take the count of this order", "history_example",
+           AT_HAND + WITH_RING)),
     ("a record of other words", asked_history("record 0400 21"),
      refused("01 03 04 00 00 01", sealed("01 03 2C" + 22 * " 00 02"),
              "13: its body does not fit: a reply to this order has 47 bytes, with a byte count of 42; this one has 49, with 44",

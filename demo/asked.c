@@ -126,13 +126,23 @@ static void tell_done(const struct asked *asked)
     }
 }
 
-/* The code is all that the meter tells. For more its bank is needed, which is not here: what to type is told. */
+/* The code is all that the meter tells. For more its bank is needed, which is not here, and for a record its ring: what to type is told. Without a bank
+   `make why` judges a fresh one, at whose station another meter's frames meet silence; and it takes no ring with a sheet that has no history. */
 static void tell_way_to_reason(const struct asked *asked)
 {
+    unsigned fresh = station_of(asked->meter);
     printf("            for the reason: make why SHEET=\"%s\" FRAME=\"", asked->sheet);
     for (size_t k = 0; k < asked->query_n; k++)
         printf(k == 0 ? "%02X" : " %02X", asked->query[k]);
-    printf("\", with BANK= where the meter's bank is at hand\n");
+    if (asked->order->station == fresh)
+        printf("\", with BANK= where the meter's bank is at hand");
+    else
+        printf("\", with BANK=, the meter's bank: it is needed, since a fresh one is at station %u", fresh);
+    if (has_history(asked->meter))
+        printf("; with RING= for its history");
+    else if (asked->order->kind == CEDARSKEIN_RECORD)
+        printf("; with RING= for its history, and its own SHEET=: this one has no history");
+    printf("\n");
 }
 
 static void tell_error(const struct asked *asked)
