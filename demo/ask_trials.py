@@ -101,6 +101,14 @@ def asked(*orders, sheet="ux15_25"):
     return trial
 
 
+def asked_with(order, sheet):
+    """An order at a UX15/25, with another sheet."""
+    def trial(bench):
+        with meter_at(bench) as link:
+            return bench.ask.run(link, order, sheet=sheet)
+    return trial
+
+
 def asked_history(order, sheet="history_example"):
     """An order at a meter with three records of 22 words, which have the numbers of their places, 2, 1 and 0."""
     def trial(bench):
@@ -172,7 +180,11 @@ AT_METER = [
     ("error 02 to a read", asked("read 0100 24"), error("01 03 01 00 00 18", "01 83 02", f"{BAD_ADDRESS} 03")),
     ("error 02 to a write", asked("write 0200 0001"), error("01 06 02 00 00 01", "01 86 02", f"{BAD_ADDRESS} 06")),
     ("error 02 to writes", asked("writes 0116 0001 0001"), error("01 10 01 16 00 02 04 00 01 00 01", "01 90 02", f"{BAD_ADDRESS} 10")),
-    ("error 02 to a clear", asked("clear 0301"), error("01 05 03 01 00 00", "01 85 02", f"{BAD_ADDRESS} 05")),
+    ("error 02 to a clear", asked("clear 0301"),
+     error("01 05 03 01 00 00", "01 85 02", "Error 02: 0301 is not the meter's clear address; by sheets/ux15_25.sheet it is 0300")),
+    (".. with a sheet that has none", asked_with("clear 0301", "aswe_40"),
+     error("01 05 03 01 00 00", "01 85 02",
+           "Error 02: 0301 is not the meter's clear address; that is word 10 of its own sheet, and sheets/aswe_40.sheet is another's", "aswe_40")),
     ("error 03 to a write", asked("write 0101 0005"), error("01 06 01 01 00 05", "01 86 03", BAD_VALUE)),
     ("error 03 to writes", asked("writes 0103 0000 03E8 0001 86A0"),
      error("01 10 01 03 00 04 08 00 00 03 E8 00 01 86 A0", "01 90 03", f"{BAD_VALUE}; those ahead of it may be stored: read them back")),
@@ -191,7 +203,7 @@ AT_METER = [
     ("the oldest record", asked_history("record 0402 22"),
      done("01 03 04 02 00 01", "01 03 2C" + 22 * " 00 00", f"record 3: {RECORD.replace('2', '0')}", names=None)),
     ("a record with a sheet that has no history", asked_history("record 0400 22", "ux15_25"),
-     done("01 03 04 00 00 01", "01 03 2C" + 22 * " 00 02", f"record at 0400: {RECORD}")),
+     done("01 03 04 00 00 01", "01 03 2C" + 22 * " 00 02", f"record at 0400: {RECORD}", names=None)),
     ("a record that is not stored", asked_history("record 0403 22"),
      error("01 03 04 03 00 01", "01 83 02", "Error 02: the meter has no record at 0403, or none is stored there yet", "history_example",
            AT_HAND + WITH_RING)),
@@ -212,6 +224,10 @@ AT_METER = [
      refused("01 03 04 01 00 01", sealed("01 03 2C" + 22 * " 00 01"),
              "13: its body does not fit: a reply to this order has 7 bytes, with a byte count of 2; this one has 49, with 44",
              '; this sheet\'s records have 22 words: ORDER="record 0401 22"')),
+    (".. with a sheet that has no history", asked_history("read 0401 1", "ux15_25"),
+     refused("01 03 04 01 00 01", sealed("01 03 2C" + 22 * " 00 01"),
+             "13: its body does not fit: a reply to this order has 7 bytes, with a byte count of 2; this one has 49, with 44",
+             '; a record? then ORDER="record 0401 22"')),
     ("a register as a record of two words", asked("record 0101 2"),
      refused("01 03 01 01 00 01", sealed("01 03 02 00 00"),
              "13: its body does not fit: a reply to this order has 9 bytes, with a byte count of 4; this one has 7, with 2",
@@ -338,7 +354,12 @@ AT_PLAYED = [
     refused_reply("another function", "read 0101 1", READ, sealed("01 04 02 12 34"), "12: it has function 04; the query has 03"),
     refused_reply("an error of another function", "read 0101 1", READ, sealed("01 86 02"), "12: it has function 86; the query has 03"),
     refused_reply("a word too many", "read 0101 1", READ, sealed("01 03 04 12 34 56 78"),
-                  "13: its body does not fit: a reply to this order has 7 bytes, with a byte count of 2; this one has 9, with 4"),
+                  "13: its body does not fit: a reply to this order has 7 bytes, with a byte count of 2; this one has 9, with 4",
+                  '; a record? then ORDER="record 0101 2"'),
+    refused_reply("two words too many, in a read of two", "read 0101 2", "01 03 01 01 00 02", sealed("01 03 08 12 34 56 78 12 34 56 78"),
+                  "13: its body does not fit: a reply to this order has 9 bytes, with a byte count of 4; this one has 13, with 8"),
+    refused_reply("a byte too many", "read 0101 1", READ, sealed("01 03 03 12 34 56"),
+                  "13: its body does not fit: a reply to this order has 7 bytes, with a byte count of 2; this one has 8, with 3"),
     refused_reply("a byte count that is wrong", "read 0101 1", READ, sealed("01 03 04 12 34"),
                   "13: its body does not fit: a reply to this order has 7 bytes, with a byte count of 2; this one has 7, with 4"),
     refused_reply("no body", "read 0101 1", READ, sealed("01 03"),
@@ -353,10 +374,16 @@ AT_PLAYED = [
                   "13: its body does not fit: a reply to this order has 8 bytes; this one has 9"),
     refused_reply("an error with code 04", "read 0101 1", READ, sealed("01 83 04"),
                   "13: its body does not fit: an error of these meters has one code, 01 to 03"),
+    refused_reply("an error with code 04, to a record", "record 0400 22", "01 03 04 00 00 01", sealed("01 83 04"),
+                  "13: its body does not fit: an error of these meters has one code, 01 to 03"),
     refused_reply("an error with two codes", "read 0101 1", READ, sealed("01 83 02 02"),
                   "13: its body does not fit: an error of these meters has one code, 01 to 03"),
     refused_reply("an adapter that hears itself", "read 0101 1", READ, f"{sealed(READ)} {sealed(GOOD)}", disagrees(f"{sealed(READ)} {sealed(GOOD)}"),
                   "; it begins with the query: the adapter hears itself. Switch its echo off"),
+    ("a clear at its sheet's clear address, which the meter's own has elsewhere",
+     played("clear 0300", [sent(reply_of("01 85 02"))], sheet="ux15_25"),
+     error("01 05 03 00 00 00", "01 85 02",
+           "Error 02: 0300 is not the meter's clear address; that is word 10 of its own sheet, and sheets/ux15_25.sheet is another's") + HEARD_ONCE),
     ("a line that is cut off", lambda bench: played("read 0101 1", line=BrokenLine)(bench).partition(";")[0],
      f"status 1: try 1 sent {sealed(READ)} / The line is gone: it was cut off or unplugged"),
     ("a line that is never quiet", played("read 0101 1", line=NoisyLine),
@@ -399,6 +426,11 @@ def own_terminal(bench):
         return f"{told(done_there.returncode, done_there.stdout, done_there.stderr).replace(meter.link, 'LINE')}; {len(meter.heard)} heard"
 
 
+def without_terminal(bench, link):
+    """In a session of its own, which has none."""
+    return bench.ask.run(link, "read 0101 1", start_new_session=True)
+
+
 def dead_line(bench):
     os.symlink("/dev/pts/999999", bench.path("line"))
     return bench.ask.run(bench.path("line"), "read 0101 1")
@@ -415,6 +447,8 @@ LINES = [
     ("a folder", lambda bench: bench.ask.run(bench.path("."), "read 0101 1"), f"status 2: LINK: .: it is a folder, and no serial line: {EXAMPLE}"),
     ("a device that is no line", lambda bench: bench.ask.run("/dev/null", "read 0101 1"),
      f"status 2: LINK: /dev/null: it is no serial line: {EXAMPLE}"),
+    ("/dev/tty without a terminal", lambda bench: without_terminal(bench, "/dev/tty"),
+     f"status 2: LINK: /dev/tty: no line is behind it: {EXAMPLE}"),
     ("a line that is locked", held_line(lambda end: fcntl.flock(end, fcntl.LOCK_EX)),
      f"status 2: LINK: LINE: {IN_USE}; 0 heard, set as before True"),
     ("a line in exclusive use", held_line(lambda end: fcntl.ioctl(end, termios.TIOCEXCL)),

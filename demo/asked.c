@@ -107,6 +107,12 @@ static void tell_record(const struct asked *asked)
     tell_record_words(asked->values, asked->values_n / 2);
 }
 
+/* A record has no names, and a clear no registers. */
+static int has_names(const struct asked *asked)
+{
+    return map_of(asked->meter) != OTHER_MAP && asked->order->kind != CEDARSKEIN_RECORD && asked->order->kind != CEDARSKEIN_CLEAR;
+}
+
 /* What was read, or what the meter has said that it wrote. */
 static void tell_done(const struct asked *asked)
 {
@@ -114,7 +120,7 @@ static void tell_done(const struct asked *asked)
     uint8_t value[2];
     store_word(value, 0, order->number);
     printf("Done");
-    if (map_of(asked->meter) != OTHER_MAP && order->kind != CEDARSKEIN_CLEAR)
+    if (has_names(asked))
         printf(", with the names of %s", asked->sheet);
     printf(order->kind == CEDARSKEIN_CLEAR ? ": the alarm mark is cleared\n" : ":\n");
     switch (order->kind) {
@@ -145,6 +151,17 @@ static void tell_way_to_reason(const struct asked *asked)
     printf("\n");
 }
 
+/* A clear elsewhere than at the meter's clear address. A sheet that has none, or this very one, is not this meter's. */
+static void tell_clear_address(const struct asked *asked)
+{
+    unsigned address = asked->order->address;
+    printf("%04X is not the meter's clear address; ", address);
+    if (allows_function(asked->meter, CLEAR) && clear_address(asked->meter) != address)
+        printf("by %s it is %04X", asked->sheet, clear_address(asked->meter));
+    else
+        printf("that is word 10 of its own sheet, and %s is another's", asked->sheet);
+}
+
 static void tell_error(const struct asked *asked)
 {
     const struct order *order = asked->order;
@@ -157,6 +174,8 @@ static void tell_error(const struct asked *asked)
         printf("the meter does not take the count of this order");
     else if (order->kind == CEDARSKEIN_RECORD)
         printf("the meter has no record at %04X, or none is stored there yet", (unsigned)order->address);
+    else if (order->kind == CEDARSKEIN_CLEAR)
+        tell_clear_address(asked);
     else
         printf("the meter has no register at an address of this order, or it is not open to function %02X", asked->query[FUNCTION_BYTE]);
     if (asked->error == BAD_VALUE && order->kind == CEDARSKEIN_WRITES)
@@ -171,15 +190,26 @@ static int begins_with_query(const struct asked *asked)
     return asked->reply_n >= asked->query_n && memcmp(asked->reply, asked->query, asked->query_n) == 0;
 }
 
-/* A reply of another length than the order's. Where the sheet has records at the address, it says which order fits. */
+/* The words in the body of values that came, where it is one; else 0. */
+static unsigned words_that_came(const struct asked *asked)
+{
+    size_t n = asked->reply_n;
+    return n > BARE_READ_REPLY && n % 2 == 1 && asked->reply[2] == n - BARE_READ_REPLY ? asked->reply[2] / 2U : 0;
+}
+
+/* A reply of another length than the order's. Where the sheet has records at the address, or what came may be one, it says which order fits. */
 static void tell_other_length(const struct asked *asked)
 {
     const struct order *order = asked->order;
-    if (!is_write(order) && lies_in_history(asked->meter, order->address))
+    if (is_write(order) || asked->reply[FUNCTION_BYTE] & ERROR_BIT)
+        return;
+    if (lies_in_history(asked->meter, order->address))
         printf("; this sheet's records have %u words: ORDER=\"record %04X %u\"", history_of(asked->meter).words, (unsigned)order->address,
                history_of(asked->meter).words);
     else if (order->kind == CEDARSKEIN_RECORD)
         printf("; the meter's records have another number of words, or it has none there");
+    else if (order->number == 1 && words_that_came(asked) > 1)
+        printf("; a record? then ORDER=\"record %04X %u\"", (unsigned)order->address, words_that_came(asked));
 }
 
 static void tell_refused(const struct asked *asked)

@@ -58,6 +58,8 @@ static const char *words_for(int error)
 {
     switch (error) {
     case ENOENT: return "it is not there: " EXAMPLE;
+    case ENXIO:
+    case ENODEV: return "no line is behind it: " EXAMPLE;
     case EBUSY: return IN_USE;
     case EACCES: return "you may not use it; on Debian the group dialout may";
     default: return strerror(error);
