@@ -3,8 +3,9 @@
    LINK is the serial line or a pseudo-terminal. ORDER is one of: read ADDRESS COUNT, record ADDRESS WORDS, write ADDRESS VALUE,
    writes ADDRESS VALUE .., clear ADDRESS; addresses and values are hexadecimal, a count and the words of a record decimal. STATION is the meter's, 1
    where nothing is said, and RATE 9600, as where nothing is said, or 4800. SHEET has the names and units of the registers, where it is a maker's.
-   Exit status 0 where the order is done; 1 where the meter answers with an error, not at all, or with what is no reply; 2, and nothing on standard
-   output, where there is nothing that can be asked: a bad order, or a line that cannot be had. */
+   Exit status 0 where the order is done; 1 where the meter answers with an error, not at all, or with what is no reply, and where the line goes away, does
+   not get quiet or takes no bytes; 2, and nothing on standard output, where there is nothing that can be asked: a bad order, sheet, station or rate, or a
+   line that cannot be had. */
 #define _XOPEN_SOURCE 700
 #include <stdio.h>
 #include <stdlib.h>
