@@ -1,8 +1,8 @@
 // The controller's half of the line: the query of an order is built, and a reply is read against the order. It knows frames, and no meter.
 ghost use mathlib.Core.Path.{_≡_};
-ghost use mathlib.Core.Bool.{not, true, false};
+ghost use mathlib.Core.Bool.{not};
 ghost use mathlib.Core.List.{_++_, _∷_};
-ghost use Prim.Native.Nat.{_+_, _*_, _≤_};
+ghost use Prim.Native.Nat.{_+_, _≤_};
 ghost use lib.ListN.{length, take, drop};
 ghost use Rattle.lists.specs.Lists.{between};
 ghost use Rattle.frame.specs.Frame.{writesMany};

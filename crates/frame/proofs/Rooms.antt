@@ -1,13 +1,13 @@
 -- A reply in an answer buffer, as one table under one statement: with room for it, with just room, and without; and one that is longer than a frame
--- can be. Assumes nothing.
+-- can be. And which buffers are too small. Assumes nothing.
 use mathlib.Core.Path.{_≡_, refl}
-use mathlib.Core.Bool.{Bool, true, _&&_}
-use mathlib.Core.List.{List, [], _∷_, _++_}
+use mathlib.Core.Bool.{Bool, true, false, _&&_}
+use mathlib.Core.List.{List, [], _∷_, _++_, map}
 use Prim.Native.Nat.{ℕ}
 use lib.Dec.{eqb}
 use lib.ListN.{replicate}
 use Rattle.lists.specs.Lists.{each, samePlaces}
-use Rattle.frame.specs.Reply.{layReply}
+use Rattle.frame.specs.Reply.{smallBuffer, layReply}
 
 -- a reply, a buffer, how many of its bytes are filled, and the buffer afterwards
 pub record Row : Type 0 where
@@ -35,3 +35,7 @@ table =
 pub rooms : each right table ≡ true
 unfolding table each samePlaces layReply
 rooms = refl
+
+-- rule N5: buffers of no byte, of 99, 100 and 101
+pub small-buffers : map (λ n. smallBuffer (replicate n 7)) (0 ∷ 99 ∷ 100 ∷ 101 ∷ []) ≡ true ∷ true ∷ false ∷ false ∷ []
+small-buffers = refl
