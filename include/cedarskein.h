@@ -21,9 +21,9 @@
  * The bank
  *
  *   2B + 2 bytes: the words of places 0 to B - 1, and the alarm mark behind them. B is word 5 of the sheet. Every word, of
- *   a sheet, of a bank, of a ring, of posted bytes and of a record, is two bytes, the upper one first. The word of place p
- *   is bytes 2p and 2p + 1 of the bank; an area's addresses have the places from the area's first place upward. The mark is
- *   the last two bytes.
+ *   a sheet, of a bank, of a ring, of posted bytes, of a record and of the values of an order or a reply, is two bytes, the
+ *   upper one first. The word of place p is bytes 2p and 2p + 1 of the bank; an area's addresses have the places from the
+ *   area's first place upward. The mark is the last two bytes.
  *
  * The ring
  *
@@ -51,6 +51,18 @@
  *     record = ring + 2 * (2 + (size_t)place * w);
  *
  *   Call cedarskein_ring_check at start-up, and whenever the two words were written by anything but cedarskein_add_record.
+ *
+ * Registers that are only written
+ *
+ *   An area's access is 1 (read only), 2 (write only) or 3 (read and write); 2 needs a sheet of version 2. The registers of
+ *   an access 2 area are items, judged and stored like those of access 3, and a master writes both by 06 and 10. A read that
+ *   touches one gets error 02: what a master wrote there is not sent to any other. The AS-WE 40 has the presets of its
+ *   totals there, 0118 to 011E.
+ *
+ *   The firmware finds what was written in the bank, at the register's place. It looks after each frame that was answered
+ *   with 0, error replies too, and takes over what it has not taken over yet. The bank shows the value and not the frame:
+ *   whoever must notice the same value written twice compares the frame's addresses with the area's. To write the low bound
+ *   back once a value is taken over is allowed, where no other task uses the bank meanwhile.
  *
  * The next station and the next rate
  *
@@ -108,6 +120,33 @@
  *   and replies are as they were.
  *
  *   With 3.1 two calls are new, for the box that asks, and the numbers 9 to 13, which no other call gives.
+ *
+ * A board from before version 3.2, and the AS-WE 40
+ *
+ *   With 3.2 a sheet's version may be 2, and then its areas may have access 2 (see "Registers that are only written").
+ *   Calls, numbers and sheets of version 1 are as they were. A library before 3.2 refuses a sheet of version 2 by 2.
+ *
+ *   The AS-WE 40's sheet is of version 2 now and has seven registers more, 0118 to 011E; those of bores 50 and 80 did not
+ *   change. Its bank has 92 bytes in place of 78, and with the new sheet a bank of the old one is 3 from every call on a
+ *   bank. A board that keeps its old sheet goes on as before. One that takes the new sheet carries its bank over, once:
+ *
+ *     places of the old bank   of the new bank
+ *     0 to 19                  0 to 19           the settings 00FF to 0116
+ *                              20 to 26          the presets 0118 to 011E, which are new
+ *     20 and 21                27 and 28         the settings 0123 and 0124
+ *     22 to 37                 29 to 44          the readings 01FF to 020E
+ *     38                       45                the mark
+ *
+ *     number = cedarskein_bank_fresh(sheet, sheet_n, bank, 92);
+ *     memcpy(bank, old, 40);
+ *     memcpy(bank + 54, old + 40, 38);
+ *     number = cedarskein_bank_check(sheet, sheet_n, bank, 92);
+ *
+ *   With 0 from both, every setting, reading and the mark are what they were, and the presets are at their low bounds. With
+ *   4 from the second, the old bank was not sound: carry its last good copy over. Write both copies of the new bank where
+ *   the old ones do not lie (see "A power cut"), and only then give the old ones up: where a cut comes in between, and no
+ *   new copy is good at start-up, carry over again. host/carried.c does this to boards with each setting at both ends of
+ *   its range.
  *
  * The box that asks
  *
@@ -231,9 +270,9 @@ extern "C" {
 #endif
 
 #define CEDARSKEIN_VERSION_MAJOR 3
-#define CEDARSKEIN_VERSION_MINOR 1
+#define CEDARSKEIN_VERSION_MINOR 2
 #define CEDARSKEIN_VERSION_PATCH 0
-#define CEDARSKEIN_VERSION "3.1.0"
+#define CEDARSKEIN_VERSION "3.2.0"
 
 #define CEDARSKEIN_LONGEST_FRAME 100 /* bytes, its check included; a longer frame gets silence, a longer reply 10 */
 #define CEDARSKEIN_LEAST_OUT 100     /* bytes that out must have at least, for the longest reply or query */
@@ -250,12 +289,12 @@ enum cedarskein_number {
     CEDARSKEIN_DONE = 0,
     /* Silence: send nothing, and wait for the next frame. */
     CEDARSKEIN_SILENCE = 1,
-    /* The sheet is not sound: it is damaged, not a sheet, or one with stations outside 1 to 247 from before 1.3 (see
-     * "Stations"). Stay off the line; nothing but a good sheet helps. Of cedarskein_add_record also: the sheet has no record
-     * area, and so no ring. */
+    /* The sheet is not sound: it is damaged, not a sheet, one of another version than 1 and 2, or one with stations outside
+     * 1 to 247 from before 1.3 (see "Stations"). Stay off the line; nothing but a good sheet helps. Of cedarskein_add_record
+     * also: the sheet has no record area, and so no ring. */
     CEDARSKEIN_SHEET_BREAKS_RULE = 2,
     /* The bank has not 2B + 2 bytes: it belongs to another sheet, or bank_n is wrong. Mend the program; after a change of
-     * sheet, make a new bank fresh. */
+     * sheet, make a new bank fresh, or carry the old one over (see "A board from before version 3.2"). */
     CEDARSKEIN_BANK_MISFITS = 3,
     /* The bank is not sound: an item is out of its range, or the mark is neither 0 nor 1. No call here brings that about,
      * but a power cut or a stray write can, or an update from before 1.3 (see "Stations"). It does not pass: every frame is
@@ -349,7 +388,7 @@ uint32_t cedarskein_bank_fresh(const uint8_t *sheet, size_t sheet_n, uint8_t *ba
 
 /* Posts readings: takes words, upper byte first, and stores them from an address upward. Gives back 0, else the first of
  * 2, 3, 4, 7 and 6; the bank is then as it was. With 0 only the posted words of the bank change. An address above FFFF, a
- * run past it, or a record's address is 6. */
+ * run past it, a register that can be written or a record's address is 6. */
 uint32_t cedarskein_post(const uint8_t *sheet, size_t sheet_n, uint8_t *bank, size_t bank_n, uint32_t address,
                          const uint8_t *words, size_t words_n);
 

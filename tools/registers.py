@@ -235,6 +235,10 @@ An address is that of the first register. A pair is two registers that hold one 
 value times one step; degC is degrees Celsius.
 
 - Settings are read by function 03 and written by 06 and 10. A value out of its range gets error 03.
+- Presets, whose access is write, are written by 06 and 10 and never read: a 03 that touches one gets error 02. What was written stands in the bank, where
+  the firmware finds it. The upper digit, the middle and the lower digits of the preset volume are plain numbers that make up one volume, the forward one
+  that the meter's display shows; the preset second volume is the forward one that it does not show (003: which is the actual and which the compensated
+  volume goes by the meter's specification).
 - Readings are read by 03. They may be all that their kind can hold: the firmware posts them, and the library does not judge them.
 - The clear is function 05 at this address with the value 0. It sets the alarm mark to 0.
 - The volume alarm limit of UX15/25 is for the volume of one hour (001, 5.2). What each error bit means stands in the makers' figures alone. 003 prints
