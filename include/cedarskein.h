@@ -85,9 +85,11 @@
  *   - with the old sheet, 2 from every call that takes a sheet. Put the new one in its place (cedarskein_sheets.h, or a
  *     file of sheets/);
  *   - with the new sheet and a bank whose station is 1 to 247, no change: the bank is good as it is, since its size, the
- *     places and the other ranges are what they were;
+ *     places and the other ranges are what they were (but for the AS-WE 40, whose bank has another size since 3.2);
  *   - with the new sheet and a bank whose station is 0 or 248 to 255, 4 from every call on the bank but
  *     cedarskein_bank_fresh, which would lose every setting.
+ *
+ *   A bank of the AS-WE 40 is first carried over (see "A board from before version 3.2"), whatever its station is.
  *
  *   To keep the other settings of such a bank, give it a station that no other meter of the line has, and check it:
  *
@@ -143,10 +145,10 @@
  *     number = cedarskein_bank_check(sheet, sheet_n, bank, 92);
  *
  *   With 0 from both, every setting, reading and the mark are what they were, and the presets are at their low bounds. With
- *   4 from the second, the old bank was not sound: carry its last good copy over. Write both copies of the new bank where
- *   the old ones do not lie (see "A power cut"), and only then give the old ones up: where a cut comes in between, and no
- *   new copy is good at start-up, carry over again. host/carried.c does this to boards with each setting at both ends of
- *   its range.
+ *   4 from the second, the old bank is not sound under the new sheet: where its station is 0 or 248 to 255, see "Stations",
+ *   and else carry its last good copy over. Write both copies of the new bank where the old ones do not lie (see "A power
+ *   cut"), and only then give the old ones up: where a cut comes in between, and no new copy is good at start-up, carry over
+ *   again. demo/carried.c has this as C; host/carried_over.c does it to boards with each setting at both ends of its range.
  *
  * The box that asks
  *
