@@ -10,7 +10,7 @@ use Rattle.words.specs.Words.{wordAt, withWord, bytesOf}
 use Rattle.words.specs.Changes.{Change, at, changed}
 use Rattle.range.specs.Range.{inRange}
 use Rattle.sheet_rules.specs.Rows.{areas, items, recordArea}
-use Rattle.sheet_rules.specs.Rules.{sound, headerSound, areasSound, itemsSound, settingsSound, recordsSound, itemPlaces, writablePlaces, placesFollow, areasAscend, lengthsSum}
+use Rattle.sheet_rules.specs.Rules.{sound, headerSound, areasSound, itemsSound, settingsSound, recordsSound, itemPlaces, coveredPlaces, placesFollow, areasAscend, lengthsSum}
 use Rattle.sheet_rules.specs.Lookup.{liesIn}
 use Rattle.lists.specs.Lists.{each, some, upFrom, samePlaces}
 use Rattle.lists.specs.Cases.{firstCase}
@@ -224,5 +224,5 @@ table =
 
 -- every row is right
 pub bank-limits : each right table ≡ true
-unfolding table right changed bytesOf checkAnswer freshOutcome freshAnswer freshStores lowStores postOutcome postAnswer postStores allReadOnly markOutcome markAnswer stored liesIn firstCase bankSound goodBy sound headerSound areasSound itemsSound settingsSound recordsSound recordArea each some upFrom samePlaces itemPlaces writablePlaces placesFollow areasAscend lengthsSum areas items wordAt withWord inRange
+unfolding table right changed bytesOf checkAnswer freshOutcome freshAnswer freshStores lowStores postOutcome postAnswer postStores allReadOnly markOutcome markAnswer stored liesIn firstCase bankSound goodBy sound headerSound areasSound itemsSound settingsSound recordsSound recordArea each some upFrom samePlaces itemPlaces coveredPlaces placesFollow areasAscend lengthsSum areas items wordAt withWord inRange
 bank-limits = refl

@@ -13,13 +13,13 @@ use Rattle.sheet_rules.specs.declared.Item.{Item}
 use Rattle.sheet_rules.specs.declared.Lies.the-variants.{At}
 use Rattle.sheet_rules.specs.Rows.{bankWords, addressPlace, ratePlace, areas, items, itemAt, itemCount}
 use Rattle.lists.specs.Lists.{some}
-use Rattle.sheet_rules.specs.Rules.{lengthOf, lengthsSum, isPair, writable, readOnly, readAndWrite, placeInArea, settingAt, addressItem, rateItem, lowestStation, highestStation, settingsSound, sound}
+use Rattle.sheet_rules.specs.Rules.{lengthOf, lengthsSum, isPair, covered, readOnly, placeInArea, settingAt, addressItem, rateItem, lowestStation, highestStation, settingsSound, sound}
 use Rattle.sheet_rules.specs.Lookup.{liesIn, holds}
 use Rattle.lists.proofs.Tests.{first-of, second-of}
 use Rattle.lists.proofs.Among.{Among, some-among, among-row, row-among}
 use Rattle.sheet_rules.proofs.Sound.{sound-areas, sound-parts}
 use Rattle.sheet_rules.proofs.Addresses.{among-below, lies-there, place-address}
-use Rattle.sheet_rules.proofs.Places.{inWritable, covered-once, covered-only}
+use Rattle.sheet_rules.proofs.Places.{inCovered, covered-once, covered-only}
 
 -- an item holds its first place
 pub holds-first : (item : Item) (place : ℕ) → item .place ≡ place → holds item place ≡ true
@@ -110,18 +110,18 @@ module _ (sheet : List ℕ) (keeps : sound sheet ≡ true) where
       setting-item sheet (ratePlace sheet) (rateItem (ratePlace sheet))
       (λ item e. first-of-three (settingAt (ratePlace sheet) item) (eqb (item .low) 0) (eqb (item .high) 1) e) (settings .1)
 
-  -- an item's places lie in access 3 areas, and so below B
-  pub held-writable : {item : Item} (place : ℕ) → Among item (items sheet) → holds item place ≡ true → inWritable (areas sheet) place ≡ true
-  held-writable place m e =
+  -- an item's places lie in areas of access 2 or 3, and so below B
+  pub held-covered : {item : Item} (place : ℕ) → Among item (items sheet) → holds item place ≡ true → inCovered (areas sheet) place ≡ true
+  held-covered place m e =
       let row = item-row sheet m in
       covered-only sheet keeps place (row .0) (row .1) (subst (λ (i : Item). holds i place ≡ true) (row .2) e)
 
-  pub writable-below : (place : ℕ) → inWritable (areas sheet) place ≡ true → place < bankWords sheet
-  writable-below place e =
-      let found = some-among (λ (area : Area). writable (area .access) && placeInArea place area) (areas sheet) e in
+  pub covered-below : (place : ℕ) → inCovered (areas sheet) place ≡ true → place < bankWords sheet
+  covered-below place e =
+      let found = some-among (λ (area : Area). covered (area .access) && placeInArea place area) (areas sheet) e in
       let area = found .0 in
       let rules = sound-areas sheet keeps in
-      let within = second-of (writable (area .access)) (placeInArea place area) (found .2) in
+      let within = second-of (covered (area .access)) (placeInArea place area) (found .2) in
       omega (
         arith,
         ltb-true place (area .place + lengthOf area) (second-of (leb (area .place) place) (ltb place (area .place + lengthOf area)) within),
@@ -130,7 +130,7 @@ module _ (sheet : List ℕ) (keeps : sound sheet ≡ true) where
       )
 
   pub held-below : {item : Item} (place : ℕ) → Among item (items sheet) → holds item place ≡ true → place < bankWords sheet
-  held-below place m e = writable-below place (held-writable place m e)
+  held-below place m e = covered-below place (held-covered place m e)
 
   -- one item alone holds a place
   pub holder-alone : {item other : Item} (place : ℕ) → Among item (items sheet) → holds item place ≡ true
@@ -144,14 +144,14 @@ module _ (sheet : List ℕ) (keeps : sound sheet ≡ true) where
       (subst (λ (i : Item). holds i place ≡ true) (row .2) e) (subst (λ (i : Item). holds i place ≡ true) (next .2) f))
       ∙ sym (next .2)
 
-  -- what lies in an access 3 area has access 3, whatever address leads to it
-  pub writable-access : (address place access : ℕ) → liesIn (areas sheet) address ≡ At place access → inWritable (areas sheet) place ≡ true
-      → access ≡ readAndWrite
-  writable-access address place access lies e =
-      let found = some-among (λ (area : Area). writable (area .access) && placeInArea place area) (areas sheet) e in
+  -- what lies in an area that items cover has an access that they cover, whatever address leads to it
+  pub covered-access : (address place access : ℕ) → liesIn (areas sheet) address ≡ At place access → inCovered (areas sheet) place ≡ true
+      → covered access ≡ true
+  covered-access address place access lies e =
+      let found = some-among (λ (area : Area). covered (area .access) && placeInArea place area) (areas sheet) e in
       let area = found .0 in
-      let opened = first-of (writable (area .access)) (placeInArea place area) (found .2) in
-      let within = second-of (writable (area .access)) (placeInArea place area) (found .2) in
+      let opened = first-of (covered (area .access)) (placeInArea place area) (found .2) in
+      let within = second-of (covered (area .access)) (placeInArea place area) (found .2) in
       let low = leb-true (area .place) place (first-of (leb (area .place) place) (ltb place (area .place + lengthOf area)) within) in
       let high = ltb-true place (area .place + lengthOf area) (second-of (leb (area .place) place) (ltb place (area .place + lengthOf area)) within) in
       let there-too : ℕ = area .first + (place - area .place) in
@@ -163,11 +163,11 @@ module _ (sheet : List ℕ) (keeps : sound sheet ≡ true) where
       sym (place-address sheet keeps address place access lies) ∙ place-address sheet keeps there-too place (area .access) lies-too in
       let both : At place access ≡ At place (area .access) = sym lies ∙ ap (liesIn (areas sheet)) same ∙ lies-too in
       let equal : access ≡ area .access = cc in
-      equal ∙ eqb-true (area .access) readAndWrite opened
+      ap covered equal ∙ opened
 
   -- a place that lies in an access 1 area is no item's
   pub read-only-unheld : (address place : ℕ) → liesIn (areas sheet) address ≡ At place readOnly
       → {item : Item} → Among item (items sheet) → holds item place ≡ true → ⊥
   read-only-unheld address place lies m e =
-      let wrong : readOnly ≡ readAndWrite = writable-access address place readOnly lies (held-writable place m e) in
-      omega arith
+      let wrong : _≡_ {A = Bool} false true = covered-access address place readOnly lies (held-covered place m e) in
+      absurd (false≢true wrong)

@@ -12,7 +12,7 @@ use Rattle.check_value.specs.Check.{valueOf}
 use Rattle.check_value.specs.Frame.{passes}
 use Rattle.range.specs.Range.{inRange}
 use Rattle.sheet_rules.specs.Rows.{areas, items, recordArea}
-use Rattle.sheet_rules.specs.Rules.{sound, headerSound, areasSound, itemsSound, settingsSound, recordsSound, itemPlaces, writablePlaces, placesFollow, areasAscend, lengthsSum}
+use Rattle.sheet_rules.specs.Rules.{sound, headerSound, areasSound, itemsSound, settingsSound, recordsSound, itemPlaces, coveredPlaces, placesFollow, areasAscend, lengthsSum}
 use Rattle.lists.specs.Cases.{firstCase}
 use Rattle.lists.specs.Lists.{each, some, upFrom, samePlaces}
 use Rattle.sheet_rules.specs.Lookup.{liesIn}
@@ -50,7 +50,7 @@ abbrev answerBuffer : List ℕ
 answerBuffer = replicate 100 0xA5
 
 pub accepted : Accepted given answerBuffer
-unfolding ringFits ringSound recordArea bytesOf firstCase bankSound goodBy sound headerSound areasSound itemsSound settingsSound recordsSound each some upFrom samePlaces itemPlaces writablePlaces placesFollow areasAscend lengthsSum areas items wordAt withWord inRange
+unfolding ringFits ringSound recordArea bytesOf firstCase bankSound goodBy sound headerSound areasSound itemsSound settingsSound recordsSound each some upFrom samePlaces itemPlaces coveredPlaces placesFollow areasAscend lengthsSum areas items wordAt withWord inRange
 accepted = record { sheetSound = refl; bankFits = refl; bankWhole = refl; ringGoes = refl; bufferLong = omega arith }
 
 -- a read of each record, of two at once, and the first of them with a bit changed
@@ -84,7 +84,7 @@ pub full-answers : map (answerTo (bytesOf full)) reads
     ∷ errs (0x01 ∷ 0x83 ∷ 0x03 ∷ 0x01 ∷ 0x31 ∷ [])
     ∷ handed 1 0 0 bank answerBuffer
     ∷ []
-unfolding allOpen answerOutcome frameCheck ringFits ringSound recordArea actedOn judgedFrame replyTo storesOf withCheck runStores stopPlace stopIn badItem someBad stored passes valueOf liesIn bytesOf firstCase bankSound goodBy sound headerSound areasSound itemsSound settingsSound recordsSound each some upFrom samePlaces itemPlaces writablePlaces placesFollow areasAscend lengthsSum areas items wordAt withWord inRange
+unfolding allOpen answerOutcome frameCheck ringFits ringSound recordArea actedOn judgedFrame replyTo storesOf withCheck runStores stopPlace stopIn badItem someBad stored passes valueOf liesIn bytesOf firstCase bankSound goodBy sound headerSound areasSound itemsSound settingsSound recordsSound each some upFrom samePlaces itemPlaces coveredPlaces placesFollow areasAscend lengthsSum areas items wordAt withWord inRange
 full-answers = refl
 
 -- two are stored: the third is beyond them
@@ -93,7 +93,7 @@ pub beyond-answers : map (answerTo (bytesOf partFull)) (take 3 reads)
     ∷ sends (0x01 ∷ 0x03 ∷ 0x02 ∷ 0x11 ∷ 0x11 ∷ 0x74 ∷ 0x18 ∷ [])
     ∷ errs (0x01 ∷ 0x83 ∷ 0x02 ∷ 0xC0 ∷ 0xF1 ∷ [])
     ∷ []
-unfolding allOpen answerOutcome frameCheck ringFits ringSound recordArea actedOn judgedFrame replyTo storesOf withCheck runStores stopPlace stopIn badItem someBad stored passes valueOf liesIn bytesOf firstCase bankSound goodBy sound headerSound areasSound itemsSound settingsSound recordsSound each some upFrom samePlaces itemPlaces writablePlaces placesFollow areasAscend lengthsSum areas items wordAt withWord inRange
+unfolding allOpen answerOutcome frameCheck ringFits ringSound recordArea actedOn judgedFrame replyTo storesOf withCheck runStores stopPlace stopIn badItem someBad stored passes valueOf liesIn bytesOf firstCase bankSound goodBy sound headerSound areasSound itemsSound settingsSound recordsSound each some upFrom samePlaces itemPlaces coveredPlaces placesFollow areasAscend lengthsSum areas items wordAt withWord inRange
 beyond-answers = refl
 
 -- 4444 is added: then the reads send 4444, 2222 and 1111
@@ -105,7 +105,7 @@ pub added-answers : map (answerTo after) (take 3 reads)
     ∷ sends (0x01 ∷ 0x03 ∷ 0x02 ∷ 0x22 ∷ 0x22 ∷ 0x20 ∷ 0xFD ∷ [])
     ∷ sends (0x01 ∷ 0x03 ∷ 0x02 ∷ 0x11 ∷ 0x11 ∷ 0x74 ∷ 0x18 ∷ [])
     ∷ []
-unfolding addOutcome addAnswer addStores allOpen answerOutcome frameCheck ringFits ringSound recordArea actedOn judgedFrame replyTo storesOf withCheck runStores stopPlace stopIn badItem someBad stored passes valueOf liesIn bytesOf firstCase bankSound goodBy sound headerSound areasSound itemsSound settingsSound recordsSound each some upFrom samePlaces itemPlaces writablePlaces placesFollow areasAscend lengthsSum areas items wordAt withWord inRange
+unfolding addOutcome addAnswer addStores allOpen answerOutcome frameCheck ringFits ringSound recordArea actedOn judgedFrame replyTo storesOf withCheck runStores stopPlace stopIn badItem someBad stored passes valueOf liesIn bytesOf firstCase bankSound goodBy sound headerSound areasSound itemsSound settingsSound recordsSound each some upFrom samePlaces itemPlaces coveredPlaces placesFollow areasAscend lengthsSum areas items wordAt withWord inRange
 added-answers = refl
 
 -- ---- demand 1: an input for each refusal of the calls on a ring, for 8 of those with a frame, and one that is not refused
@@ -121,7 +121,7 @@ ringCalls =
     ∷ answerNumber (ringAnswer (bytesOf (small .sheet)) []) ∷ []
 
 pub ring-numbers : ringCalls ≡ 2 ∷ 8 ∷ 0 ∷ 0 ∷ []
-unfolding ringAnswer ringFits ringSound recordArea bytesOf firstCase sound headerSound areasSound itemsSound settingsSound recordsSound each some upFrom samePlaces itemPlaces writablePlaces placesFollow areasAscend lengthsSum areas items wordAt withWord inRange
+unfolding ringAnswer ringFits ringSound recordArea bytesOf firstCase sound headerSound areasSound itemsSound settingsSound recordsSound each some upFrom samePlaces itemPlaces coveredPlaces placesFollow areasAscend lengthsSum areas items wordAt withWord inRange
 ring-numbers = refl
 
 abbrev addCalls : List ℕ
@@ -133,7 +133,7 @@ addCalls =
     ∷ ringToldOf (addOutcome sheet (bytesOf full) (0 ∷ 1 ∷ [])) .number ∷ []
 
 pub add-numbers : addCalls ≡ 2 ∷ 2 ∷ 8 ∷ 7 ∷ 0 ∷ []
-unfolding addOutcome addAnswer addStores stored ringFits ringSound recordArea bytesOf firstCase sound headerSound areasSound itemsSound settingsSound recordsSound each some upFrom samePlaces itemPlaces writablePlaces placesFollow areasAscend lengthsSum areas items wordAt withWord inRange
+unfolding addOutcome addAnswer addStores stored ringFits ringSound recordArea bytesOf firstCase sound headerSound areasSound itemsSound settingsSound recordsSound each some upFrom samePlaces itemPlaces coveredPlaces placesFollow areasAscend lengthsSum areas items wordAt withWord inRange
 add-numbers = refl
 
 abbrev frameCalls : List ℕ
@@ -142,5 +142,5 @@ frameCalls =
     ++ map (λ ring. saidOf (explanation (lentWith sheet bank ring) (0x01 ∷ [])) .number) ([] ∷ bytesOf full ∷ [])
 
 pub frame-numbers : frameCalls ≡ 8 ∷ 1 ∷ 8 ∷ 0 ∷ []
-unfolding explanation lentAnswer reasonOf firstShut allOpen answerOutcome frameCheck ringFits ringSound recordArea actedOn judgedFrame replyTo storesOf withCheck runStores stopPlace stopIn badItem someBad stored passes valueOf liesIn bytesOf firstCase bankSound goodBy sound headerSound areasSound itemsSound settingsSound recordsSound each some upFrom samePlaces itemPlaces writablePlaces placesFollow areasAscend lengthsSum areas items wordAt withWord inRange
+unfolding explanation lentAnswer reasonOf firstShut allOpen answerOutcome frameCheck ringFits ringSound recordArea actedOn judgedFrame replyTo storesOf withCheck runStores stopPlace stopIn badItem someBad stored passes valueOf liesIn bytesOf firstCase bankSound goodBy sound headerSound areasSound itemsSound settingsSound recordsSound each some upFrom samePlaces itemPlaces coveredPlaces placesFollow areasAscend lengthsSum areas items wordAt withWord inRange
 frame-numbers = refl

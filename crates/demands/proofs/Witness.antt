@@ -17,7 +17,7 @@ use Rattle.range.specs.Range.{inRange}
 use Rattle.sheet_rules.specs.Rows.{areas, items, recordArea}
 use Rattle.ring_rules.specs.Calls.{ringFits}
 use Rattle.meter_rules.specs.Judgement.{lentAnswer}
-use Rattle.sheet_rules.specs.Rules.{sound, headerSound, areasSound, itemsSound, settingsSound, recordsSound, itemPlaces, writablePlaces, placesFollow, areasAscend, lengthsSum, sheetAnswer}
+use Rattle.sheet_rules.specs.Rules.{sound, headerSound, areasSound, itemsSound, settingsSound, recordsSound, itemPlaces, coveredPlaces, placesFollow, areasAscend, lengthsSum, sheetAnswer}
 use Rattle.lists.specs.Lists.{each, some, upFrom, samePlaces}
 use Rattle.sheet_rules.specs.Lookup.{liesIn, addressOf}
 use Rattle.makers.specs.Maps.{ux}
@@ -56,7 +56,7 @@ pub fresh-bank-made : toldOf (freshOutcome (lent uxSheet (replicate 70 0xFF))) .
 fresh-bank-made = ap (λ o. toldOf o .bank) ux-fresh-made
 
 pub accepted : Accepted (lent uxSheet freshBank) answerBuffer
-unfolding ringFits recordArea bytesOf firstCase bankSound goodBy sound headerSound areasSound itemsSound settingsSound recordsSound each some upFrom samePlaces itemPlaces writablePlaces placesFollow areasAscend lengthsSum areas items wordAt withWord inRange sheetOf
+unfolding ringFits recordArea bytesOf firstCase bankSound goodBy sound headerSound areasSound itemsSound settingsSound recordsSound each some upFrom samePlaces itemPlaces coveredPlaces placesFollow areasAscend lengthsSum areas items wordAt withWord inRange sheetOf
 accepted = record { sheetSound = refl; bankFits = refl; bankWhole = refl; ringGoes = refl; bufferLong = omega arith }
 
 -- ---- demand 3: one bit, two, three far apart, and sixteen in a run over three bytes
@@ -77,11 +77,11 @@ called frame frame-bytes =
     some-answer (lent uxSheet freshBank) frame answerBuffer (tested-bytes uxSheet tt) (tested-bytes freshBank tt) (tested-bytes [] tt) frame-bytes (tested-bytes answerBuffer tt)
 
 pub damaged-answers : map answerTo framesReceived ≡ map (λ frame. handed 1 0 0 freshBank answerBuffer) framesReceived
-unfolding allOpen answerOutcome frameCheck ringFits recordArea actedOn judgedFrame replyTo storesOf withCheck runStores stopPlace stopIn badItem someBad stored passes valueOf liesIn bytesOf firstCase bankSound goodBy sound headerSound areasSound itemsSound settingsSound recordsSound each some upFrom samePlaces itemPlaces writablePlaces placesFollow areasAscend lengthsSum areas items wordAt withWord inRange sheetOf
+unfolding allOpen answerOutcome frameCheck ringFits recordArea actedOn judgedFrame replyTo storesOf withCheck runStores stopPlace stopIn badItem someBad stored passes valueOf liesIn bytesOf firstCase bankSound goodBy sound headerSound areasSound itemsSound settingsSound recordsSound each some upFrom samePlaces itemPlaces coveredPlaces placesFollow areasAscend lengthsSum areas items wordAt withWord inRange sheetOf
 damaged-answers = refl
 
 pub undamaged-answer : answerTo frameSent ≡ handed 0 9 1 freshBank ((0x01 ∷ 0x03 ∷ 0x04 ∷ 0x00 ∷ 0x00 ∷ 0x00 ∷ 0x00 ∷ 0xFA ∷ 0x33 ∷ []) ++ drop 9 answerBuffer)
-unfolding allOpen answerOutcome frameCheck ringFits recordArea actedOn judgedFrame replyTo storesOf withCheck runStores stopPlace stopIn badItem someBad stored passes valueOf liesIn bytesOf firstCase bankSound goodBy sound headerSound areasSound itemsSound settingsSound recordsSound each some upFrom samePlaces itemPlaces writablePlaces placesFollow areasAscend lengthsSum areas items wordAt withWord inRange sheetOf
+unfolding allOpen answerOutcome frameCheck ringFits recordArea actedOn judgedFrame replyTo storesOf withCheck runStores stopPlace stopIn badItem someBad stored passes valueOf liesIn bytesOf firstCase bankSound goodBy sound headerSound areasSound itemsSound settingsSound recordsSound each some upFrom samePlaces itemPlaces coveredPlaces placesFollow areasAscend lengthsSum areas items wordAt withWord inRange sheetOf
 undamaged-answer = refl
 
 -- ---- rule D25: the read that station 1 answers, for 0, F8 and FF, with right checks
@@ -98,7 +98,7 @@ unfolding passes valueOf
 kept-back-pass = refl
 
 pub kept-back-answers : map answerTo keptBackFrames ≡ map (λ frame. handed 1 0 0 freshBank answerBuffer) keptBackFrames
-unfolding allOpen answerOutcome frameCheck ringFits recordArea actedOn judgedFrame replyTo storesOf withCheck runStores stopPlace stopIn badItem someBad stored passes valueOf liesIn bytesOf firstCase bankSound goodBy sound headerSound areasSound itemsSound settingsSound recordsSound each some upFrom samePlaces itemPlaces writablePlaces placesFollow areasAscend lengthsSum areas items wordAt withWord inRange sheetOf
+unfolding allOpen answerOutcome frameCheck ringFits recordArea actedOn judgedFrame replyTo storesOf withCheck runStores stopPlace stopIn badItem someBad stored passes valueOf liesIn bytesOf firstCase bankSound goodBy sound headerSound areasSound itemsSound settingsSound recordsSound each some upFrom samePlaces itemPlaces coveredPlaces placesFollow areasAscend lengthsSum areas items wordAt withWord inRange sheetOf
 kept-back-answers = refl
 
 -- ---- demand 2: a frame for each step, and good ones
@@ -145,7 +145,7 @@ pub steps-met : map (judgedFrame (lent uxSheet freshBank)) judgedFrames
     ∷ GoodWrite 14 1
     ∷ GoodClear
     ∷ []
-unfolding allOpen answerOutcome frameCheck ringFits recordArea actedOn judgedFrame replyTo storesOf withCheck runStores stopPlace stopSide stopIn badItem someBad stored passes valueOf liesIn bytesOf firstCase bankSound goodBy sound headerSound areasSound itemsSound settingsSound recordsSound each some upFrom samePlaces itemPlaces writablePlaces placesFollow areasAscend lengthsSum areas items wordAt withWord inRange sheetOf
+unfolding allOpen answerOutcome frameCheck ringFits recordArea actedOn judgedFrame replyTo storesOf withCheck runStores stopPlace stopSide stopIn badItem someBad stored passes valueOf liesIn bytesOf firstCase bankSound goodBy sound headerSound areasSound itemsSound settingsSound recordsSound each some upFrom samePlaces itemPlaces coveredPlaces placesFollow areasAscend lengthsSum areas items wordAt withWord inRange sheetOf
 steps-met = refl
 
 -- the reasons that are told of them, each with its address and its side
@@ -163,7 +163,7 @@ pub reasons-told : map (λ frame. saidOf (explanation (lent uxSheet freshBank) f
     ∷ said 0 0 0 0
     ∷ said 0 0 0 0
     ∷ []
-unfolding explanation lentAnswer ringFits recordArea reasonOf firstShut allOpen addressOf stopPlace stopSide stopIn badItem someBad valueOf liesIn bytesOf firstCase bankSound goodBy sound headerSound areasSound itemsSound settingsSound recordsSound each some upFrom samePlaces itemPlaces writablePlaces placesFollow areasAscend lengthsSum areas items wordAt withWord inRange sheetOf
+unfolding explanation lentAnswer ringFits recordArea reasonOf firstShut allOpen addressOf stopPlace stopSide stopIn badItem someBad valueOf liesIn bytesOf firstCase bankSound goodBy sound headerSound areasSound itemsSound settingsSound recordsSound each some upFrom samePlaces itemPlaces coveredPlaces placesFollow areasAscend lengthsSum areas items wordAt withWord inRange sheetOf
 reasons-told = refl
 
 pub asked : (frame : List ℕ) → Bytes frame → Explains (lent uxSheet freshBank) frame (saidOf (explanation (lent uxSheet freshBank) frame))
@@ -184,7 +184,7 @@ abbrev unsoundBank : List ℕ
 unsoundBank = withWord freshBank 68 2
 
 pub sheet-check-numbers : map (λ sheet. answerNumber (sheetAnswer sheet)) ([] ∷ otherVersion ∷ take 255 uxSheet ∷ uxSheet ∷ []) ≡ 2 ∷ 2 ∷ 2 ∷ 0 ∷ []
-unfolding bytesOf firstCase bankSound goodBy sound headerSound areasSound itemsSound settingsSound recordsSound each some upFrom samePlaces itemPlaces writablePlaces placesFollow areasAscend lengthsSum areas items wordAt withWord inRange sheetOf
+unfolding bytesOf firstCase bankSound goodBy sound headerSound areasSound itemsSound settingsSound recordsSound each some upFrom samePlaces itemPlaces coveredPlaces placesFollow areasAscend lengthsSum areas items wordAt withWord inRange sheetOf
 sheet-check-numbers = refl
 
 abbrev bankChecks : List ℕ
@@ -193,7 +193,7 @@ bankChecks =
     ∷ answerNumber (checkAnswer (lent uxSheet freshBank)) ∷ []
 
 pub bank-check-numbers : bankChecks ≡ 2 ∷ 3 ∷ 4 ∷ 0 ∷ []
-unfolding checkAnswer bytesOf firstCase bankSound goodBy sound headerSound areasSound itemsSound settingsSound recordsSound each some upFrom samePlaces itemPlaces writablePlaces placesFollow areasAscend lengthsSum areas items wordAt withWord inRange sheetOf
+unfolding checkAnswer bytesOf firstCase bankSound goodBy sound headerSound areasSound itemsSound settingsSound recordsSound each some upFrom samePlaces itemPlaces coveredPlaces placesFollow areasAscend lengthsSum areas items wordAt withWord inRange sheetOf
 bank-check-numbers = refl
 
 abbrev freshCalls : List ℕ
@@ -201,7 +201,7 @@ freshCalls =
     toldOf (freshOutcome (lent otherVersion freshBank)) .number ∷ toldOf (freshOutcome (lent uxSheet shortBank)) .number ∷ toldOf (freshOutcome (lent uxSheet unsoundBank)) .number ∷ []
 
 pub fresh-numbers : freshCalls ≡ 2 ∷ 3 ∷ 0 ∷ []
-unfolding freshOutcome freshAnswer freshStores lowStores stored bytesOf firstCase bankSound goodBy sound headerSound areasSound itemsSound settingsSound recordsSound each some upFrom samePlaces itemPlaces writablePlaces placesFollow areasAscend lengthsSum areas items wordAt withWord inRange sheetOf
+unfolding freshOutcome freshAnswer freshStores lowStores stored bytesOf firstCase bankSound goodBy sound headerSound areasSound itemsSound settingsSound recordsSound each some upFrom samePlaces itemPlaces coveredPlaces placesFollow areasAscend lengthsSum areas items wordAt withWord inRange sheetOf
 fresh-numbers = refl
 
 abbrev postCalls : List ℕ
@@ -215,7 +215,7 @@ postCalls =
     ∷ toldOf (postOutcome (lent uxSheet freshBank) 0x0200 (0 ∷ 1 ∷ [])) .number ∷ []
 
 pub post-numbers : postCalls ≡ 2 ∷ 3 ∷ 4 ∷ 7 ∷ 7 ∷ 6 ∷ 0 ∷ []
-unfolding postOutcome postAnswer postStores allReadOnly liesIn bytesOf firstCase bankSound goodBy sound headerSound areasSound itemsSound settingsSound recordsSound each some upFrom samePlaces itemPlaces writablePlaces placesFollow areasAscend lengthsSum areas items wordAt withWord inRange sheetOf
+unfolding postOutcome postAnswer postStores allReadOnly liesIn bytesOf firstCase bankSound goodBy sound headerSound areasSound itemsSound settingsSound recordsSound each some upFrom samePlaces itemPlaces coveredPlaces placesFollow areasAscend lengthsSum areas items wordAt withWord inRange sheetOf
 post-numbers = refl
 
 abbrev markCalls : List ℕ
@@ -225,7 +225,7 @@ markCalls =
     ∷ toldOf (markOutcome (lent uxSheet freshBank) 1) .number ∷ []
 
 pub mark-numbers : markCalls ≡ 2 ∷ 3 ∷ 4 ∷ 7 ∷ 0 ∷ []
-unfolding markOutcome markAnswer bytesOf firstCase bankSound goodBy sound headerSound areasSound itemsSound settingsSound recordsSound each some upFrom samePlaces itemPlaces writablePlaces placesFollow areasAscend lengthsSum areas items wordAt withWord inRange sheetOf
+unfolding markOutcome markAnswer bytesOf firstCase bankSound goodBy sound headerSound areasSound itemsSound settingsSound recordsSound each some upFrom samePlaces itemPlaces coveredPlaces placesFollow areasAscend lengthsSum areas items wordAt withWord inRange sheetOf
 mark-numbers = refl
 
 abbrev frameCalls : List ℕ
@@ -238,7 +238,7 @@ frameCalls =
     ∷ handedOf (answerOutcome (lent uxSheet freshBank) frameSent answerBuffer) .number ∷ []
 
 pub frame-numbers : frameCalls ≡ 2 ∷ 3 ∷ 4 ∷ 5 ∷ 1 ∷ 0 ∷ []
-unfolding allOpen answerOutcome frameCheck ringFits recordArea actedOn judgedFrame replyTo storesOf withCheck runStores stopPlace stopIn badItem someBad stored passes valueOf liesIn bytesOf firstCase bankSound goodBy sound headerSound areasSound itemsSound settingsSound recordsSound each some upFrom samePlaces itemPlaces writablePlaces placesFollow areasAscend lengthsSum areas items wordAt withWord inRange sheetOf
+unfolding allOpen answerOutcome frameCheck ringFits recordArea actedOn judgedFrame replyTo storesOf withCheck runStores stopPlace stopIn badItem someBad stored passes valueOf liesIn bytesOf firstCase bankSound goodBy sound headerSound areasSound itemsSound settingsSound recordsSound each some upFrom samePlaces itemPlaces coveredPlaces placesFollow areasAscend lengthsSum areas items wordAt withWord inRange sheetOf
 frame-numbers = refl
 
 abbrev whyCalls : List ℕ
@@ -249,5 +249,5 @@ whyCalls =
     ∷ saidOf (explanation (lent uxSheet freshBank) frameSent) .number ∷ []
 
 pub why-numbers : whyCalls ≡ 2 ∷ 3 ∷ 4 ∷ 0 ∷ []
-unfolding explanation lentAnswer ringFits recordArea bytesOf firstCase bankSound goodBy sound headerSound areasSound itemsSound settingsSound recordsSound each some upFrom samePlaces itemPlaces writablePlaces placesFollow areasAscend lengthsSum areas items wordAt withWord inRange sheetOf
+unfolding explanation lentAnswer ringFits recordArea bytesOf firstCase bankSound goodBy sound headerSound areasSound itemsSound settingsSound recordsSound each some upFrom samePlaces itemPlaces coveredPlaces placesFollow areasAscend lengthsSum areas items wordAt withWord inRange sheetOf
 why-numbers = refl

@@ -13,7 +13,7 @@ use Rattle.check_value.specs.Check.{valueOf}
 use Rattle.check_value.specs.Frame.{passes}
 use Rattle.range.specs.Range.{inRange}
 use Rattle.sheet_rules.specs.Rows.{areas, items, recordArea}
-use Rattle.sheet_rules.specs.Rules.{lowestStation, highestStation, sound, headerSound, areasSound, itemsSound, settingsSound, recordsSound, itemPlaces, writablePlaces, placesFollow, areasAscend, lengthsSum}
+use Rattle.sheet_rules.specs.Rules.{lowestStation, highestStation, sound, headerSound, areasSound, itemsSound, settingsSound, recordsSound, itemPlaces, coveredPlaces, placesFollow, areasAscend, lengthsSum}
 use Rattle.sheet_rules.specs.Lookup.{liesIn}
 use Rattle.sheet_rules.specs.Runs.{allOpen}
 use Rattle.makers.specs.Maps.{ux}
@@ -111,7 +111,7 @@ uxOrders =
 
 pub ux-heard : map (hears (lent (sheetOf ux) (bytesOf (uxMeter .fresh)))) uxOrders
     ≡ told 0 (0x00 ∷ 0x01 ∷ []) ∷ told 0 [] ∷ told 0 [] ∷ told 0 [] ∷ told 3 [] ∷ told 2 [] ∷ []
-unfolding query readingOutcome readingOf noFrame allOpen answerOutcome frameCheck ringFits recordArea actedOn judgedFrame replyTo storesOf withCheck runStores stopPlace stopIn badItem someBad stored passes valueOf liesIn bytesOf firstCase bankSound goodBy sound headerSound areasSound itemsSound settingsSound recordsSound each some upFrom samePlaces itemPlaces writablePlaces placesFollow areasAscend lengthsSum areas items wordAt withWord inRange sheetOf
+unfolding query readingOutcome readingOf noFrame allOpen answerOutcome frameCheck ringFits recordArea actedOn judgedFrame replyTo storesOf withCheck runStores stopPlace stopIn badItem someBad stored passes valueOf liesIn bytesOf firstCase bankSound goodBy sound headerSound areasSound itemsSound settingsSound recordsSound each some upFrom samePlaces itemPlaces coveredPlaces placesFollow areasAscend lengthsSum areas items wordAt withWord inRange sheetOf
 ux-heard = refl
 
 -- at the meter with three records of one word, all stored: records 1 and 3, and what is behind them
@@ -120,5 +120,5 @@ recordOrders = askedBy 1 1 0x0004 1 [] ∷ askedBy 1 1 0x0006 1 [] ∷ askedBy 1
 
 pub records-heard : map (hears (lentWith (bytesOf history) (bytesOf freshBank) (bytesOf full))) recordOrders
     ≡ told 0 (0x22 ∷ 0x22 ∷ []) ∷ told 0 (0x33 ∷ 0x33 ∷ []) ∷ told 2 [] ∷ []
-unfolding query readingOutcome readingOf noFrame allOpen answerOutcome frameCheck ringFits ringSound recordArea actedOn judgedFrame replyTo storesOf withCheck runStores stopPlace stopIn badItem someBad stored passes valueOf liesIn bytesOf firstCase bankSound goodBy sound headerSound areasSound itemsSound settingsSound recordsSound each some upFrom samePlaces itemPlaces writablePlaces placesFollow areasAscend lengthsSum areas items wordAt withWord inRange
+unfolding query readingOutcome readingOf noFrame allOpen answerOutcome frameCheck ringFits ringSound recordArea actedOn judgedFrame replyTo storesOf withCheck runStores stopPlace stopIn badItem someBad stored passes valueOf liesIn bytesOf firstCase bankSound goodBy sound headerSound areasSound itemsSound settingsSound recordsSound each some upFrom samePlaces itemPlaces coveredPlaces placesFollow areasAscend lengthsSum areas items wordAt withWord inRange
 records-heard = refl

@@ -9,7 +9,7 @@ use Rattle.words.specs.Words.{wordAt, bytesOf}
 use Rattle.range.specs.Range.{numberOf, notAbove, inRange}
 use Rattle.sheet_rules.specs.Rows.{areas, items}
 use Rattle.sheet_rules.specs.Lookup.{addressOf}
-use Rattle.sheet_rules.specs.Rules.{sound, headerSound, areasSound, itemsSound, settingsSound, recordsSound, itemPlaces, writablePlaces, placesFollow, areasAscend, lengthsSum}
+use Rattle.sheet_rules.specs.Rules.{sound, headerSound, areasSound, itemsSound, settingsSound, recordsSound, itemPlaces, coveredPlaces, placesFollow, areasAscend, lengthsSum}
 use Rattle.lists.specs.Lists.{each, some, upFrom, samePlaces}
 use Rattle.makers.specs.Maps.{ux, aswe, bore40, bore50, bore80}
 use Rattle.makers.specs.Sheets.{sheetOf}
@@ -86,5 +86,5 @@ table =
 
 -- every row is right
 pub makers-listed : each right table ≡ true
-unfolding table uxText asweText sheetOf listing ascii decimal decimalWithin signedDecimal summaryText itemText itemTexts addressOf sound areas items wordAt bytesOf numberOf notAbove inRange headerSound areasSound itemsSound settingsSound recordsSound each some upFrom samePlaces itemPlaces writablePlaces placesFollow areasAscend lengthsSum
+unfolding table uxText asweText sheetOf listing ascii decimal decimalWithin signedDecimal summaryText itemText itemTexts addressOf sound areas items wordAt bytesOf numberOf notAbove inRange headerSound areasSound itemsSound settingsSound recordsSound each some upFrom samePlaces itemPlaces coveredPlaces placesFollow areasAscend lengthsSum
 makers-listed = refl

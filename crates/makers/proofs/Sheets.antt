@@ -9,7 +9,7 @@ use Rattle.words.specs.Words.{wordAt}
 use Rattle.sheet_rules.specs.declared.Area.{Area}
 use Rattle.sheet_rules.specs.declared.Item.{Item}
 use Rattle.sheet_rules.specs.Rows.{areaCount, itemCount, bankWords, functions, clearAddress, addressPlace, ratePlace, areas, items}
-use Rattle.sheet_rules.specs.Rules.{sound, headerSound, areasSound, itemsSound, settingsSound, recordsSound, itemPlaces, writablePlaces, placesFollow, areasAscend, lengthsSum}
+use Rattle.sheet_rules.specs.Rules.{sound, headerSound, areasSound, itemsSound, settingsSound, recordsSound, itemPlaces, coveredPlaces, placesFollow, areasAscend, lengthsSum}
 use Rattle.lists.specs.Lists.{each, some, upFrom, samePlaces}
 use Rattle.sheet_rules.specs.Lookup.{addressOf}
 use Rattle.makers.specs.Maps.{Row, Map, ux, aswe, bore40, bore50, bore80}
@@ -87,7 +87,7 @@ meant map counts =
     }
 
 pub says : (meter : Meter) → saidBy (sheetOf (mapOf meter)) ≡ meant (mapOf meter) (countsOf meter)
-unfolding saidBy meant rowsOf areasOf itemsOf sheetOf sound headerSound areasSound itemsSound settingsSound recordsSound each some upFrom samePlaces itemPlaces writablePlaces placesFollow areasAscend lengthsSum areas items wordAt inRange addressOf
+unfolding saidBy meant rowsOf areasOf itemsOf sheetOf sound headerSound areasSound itemsSound settingsSound recordsSound each some upFrom samePlaces itemPlaces coveredPlaces placesFollow areasAscend lengthsSum areas items wordAt inRange addressOf
 says ux15-25 = refl
 says aswe-40 = refl
 says aswe-50 = refl

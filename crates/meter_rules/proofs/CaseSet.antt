@@ -13,7 +13,7 @@ use Rattle.check_value.specs.Frame.{passes}
 use Rattle.range.specs.Range.{inRange}
 use Rattle.sheet_rules.specs.Rows.{areas, items, recordArea}
 use Rattle.ring_rules.specs.Calls.{ringFits}
-use Rattle.sheet_rules.specs.Rules.{sound, headerSound, areasSound, itemsSound, settingsSound, recordsSound, itemPlaces, writablePlaces, placesFollow, areasAscend, lengthsSum}
+use Rattle.sheet_rules.specs.Rules.{sound, headerSound, areasSound, itemsSound, settingsSound, recordsSound, itemPlaces, coveredPlaces, placesFollow, areasAscend, lengthsSum}
 use Rattle.lists.specs.Lists.{each, some, upFrom, samePlaces}
 use Rattle.sheet_rules.specs.Lookup.{liesIn}
 use Rattle.makers.specs.Maps.{ux, aswe, bore40}
@@ -56,11 +56,11 @@ asweMeter =
 
 -- the fresh words are what the call for a fresh bank makes of that many bytes, here of FF
 pub ux-fresh-made : freshOutcome (lent (uxMeter .sheet) (replicate 70 0xFF)) ≡ bankOutcome Done (bytesOf (uxMeter .fresh))
-unfolding bytesOf freshOutcome freshAnswer freshStores lowStores stored firstCase sound headerSound areasSound itemsSound settingsSound recordsSound each some upFrom samePlaces itemPlaces writablePlaces placesFollow areasAscend lengthsSum areas items wordAt withWord inRange sheetOf
+unfolding bytesOf freshOutcome freshAnswer freshStores lowStores stored firstCase sound headerSound areasSound itemsSound settingsSound recordsSound each some upFrom samePlaces itemPlaces coveredPlaces placesFollow areasAscend lengthsSum areas items wordAt withWord inRange sheetOf
 ux-fresh-made = refl
 
 pub aswe-fresh-made : freshOutcome (lent (asweMeter .sheet) (replicate 78 0xFF)) ≡ bankOutcome Done (bytesOf (asweMeter .fresh))
-unfolding bytesOf freshOutcome freshAnswer freshStores lowStores stored firstCase sound headerSound areasSound itemsSound settingsSound recordsSound each some upFrom samePlaces itemPlaces writablePlaces placesFollow areasAscend lengthsSum areas items wordAt withWord inRange sheetOf
+unfolding bytesOf freshOutcome freshAnswer freshStores lowStores stored firstCase sound headerSound areasSound itemsSound settingsSound recordsSound each some upFrom samePlaces itemPlaces coveredPlaces placesFollow areasAscend lengthsSum areas items wordAt withWord inRange sheetOf
 aswe-fresh-made = refl
 
 -- ---- the rows
@@ -139,5 +139,5 @@ table =
 
 -- every row is right
 pub case-set-P : each right table ≡ true
-unfolding allOpen table right changed bytesOf answerOutcome frameCheck ringFits recordArea actedOn judgedFrame firstCase replyTo storesOf withCheck runStores stopPlace stopIn badItem someBad goodBy bankSound stored passes valueOf sound headerSound areasSound itemsSound settingsSound recordsSound each some upFrom samePlaces itemPlaces writablePlaces placesFollow areasAscend lengthsSum areas items liesIn wordAt withWord inRange sheetOf
+unfolding allOpen table right changed bytesOf answerOutcome frameCheck ringFits recordArea actedOn judgedFrame firstCase replyTo storesOf withCheck runStores stopPlace stopIn badItem someBad goodBy bankSound stored passes valueOf sound headerSound areasSound itemsSound settingsSound recordsSound each some upFrom samePlaces itemPlaces coveredPlaces placesFollow areasAscend lengthsSum areas items liesIn wordAt withWord inRange sheetOf
 case-set-P = refl

@@ -14,7 +14,7 @@ use Rattle.check_value.specs.Frame.{passes}
 use Rattle.range.specs.Range.{inRange}
 use Rattle.sheet_rules.specs.Rows.{areas, items, recordArea}
 use Rattle.ring_rules.specs.Calls.{ringFits}
-use Rattle.sheet_rules.specs.Rules.{sound, headerSound, areasSound, itemsSound, settingsSound, recordsSound, itemPlaces, writablePlaces, placesFollow, areasAscend, lengthsSum}
+use Rattle.sheet_rules.specs.Rules.{sound, headerSound, areasSound, itemsSound, settingsSound, recordsSound, itemPlaces, coveredPlaces, placesFollow, areasAscend, lengthsSum}
 use Rattle.lists.specs.Lists.{each, some, upFrom, samePlaces}
 use Rattle.sheet_rules.specs.Lookup.{liesIn}
 use Rattle.bank_rules.specs.Stores.{stored}
@@ -693,5 +693,5 @@ table =
 
 -- every row is right
 pub frame-limits : each right table ≡ true
-unfolding allOpen table right changed bytesOf answerOutcome frameCheck ringFits recordArea actedOn judgedFrame firstCase replyTo storesOf withCheck runStores stopPlace stopIn badItem someBad goodBy bankSound stored passes valueOf sound headerSound areasSound itemsSound settingsSound recordsSound each some upFrom samePlaces itemPlaces writablePlaces placesFollow areasAscend lengthsSum areas items liesIn wordAt withWord inRange
+unfolding allOpen table right changed bytesOf answerOutcome frameCheck ringFits recordArea actedOn judgedFrame firstCase replyTo storesOf withCheck runStores stopPlace stopIn badItem someBad goodBy bankSound stored passes valueOf sound headerSound areasSound itemsSound settingsSound recordsSound each some upFrom samePlaces itemPlaces coveredPlaces placesFollow areasAscend lengthsSum areas items liesIn wordAt withWord inRange
 frame-limits = refl

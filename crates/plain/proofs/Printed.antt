@@ -21,7 +21,7 @@ use Rattle.sheet_rules.specs.Lookup.{liesIn, addressOf}
 use Rattle.sheet_rules.proofs.Sound.{sound-parts, sound-areas}
 use Rattle.sheet_rules.proofs.Addresses.{address-there, lies-there, address-lies, lies-word}
 use Rattle.bank_rules.specs.Calls.{Lent}
-use Rattle.bank_rules.proofs.Held.{holds-first, holds-second, held-below, held-writable, writable-access}
+use Rattle.bank_rules.proofs.Held.{holds-first, holds-second, held-below, held-covered, covered-access}
 use Rattle.makers.specs.Maps.{Row}
 use Rattle.makers.specs.Sheets.{sheetOf}
 use Rattle.makers.proofs.Sheets.{Meter, ux15-25, aswe-40, aswe-50, aswe-80, mapOf, countsOf, Said, saidBy, meant, says, rowOf, rowsOf, sheet-sound}
@@ -44,8 +44,8 @@ module _ (given : Lent) (keeps : sound (given .sheet) ≡ true) (bytes : Bytes (
   item-lies =
       let found = address-lies (given .sheet) keeps (item .place) (held-below (given .sheet) keeps (item .place) among (holds-first item (item .place) refl)) in
       found .1 ∙ ap (At (item .place))
-      (writable-access (given .sheet) keeps first (item .place) (found .0) (found .1)
-      (held-writable (given .sheet) keeps (item .place) among (holds-first item (item .place) refl)))
+      (covered-access (given .sheet) keeps first (item .place) (found .0) (found .1)
+      (held-covered (given .sheet) keeps (item .place) among (holds-first item (item .place) refl)))
 
   small : first ≤ 0xFFFF
   small = omega (arith, lies-word (given .sheet) bytes first (item .place) 3 item-lies)
@@ -82,8 +82,8 @@ module _ (given : Lent) (keeps : sound (given .sheet) ≡ true) (bytes : Bytes (
             let there-now = lies-there (first + 1) m (rules .ascend) (omega (arith, at, low)) (omega (arith, at, low, top)) in
             let place : area .place + (first + 1 - area .first) ≡ p + 1 = omega (arith, at, low) in
             let lies = there-now ∙ ap (λ (n : ℕ). At n (area .access)) place in
-            lies ∙ ap (At (p + 1)) (writable-access (given .sheet) keeps (first + 1) (p + 1) (area .access) lies
-            (held-writable (given .sheet) keeps (p + 1) among (holds-second item (p + 1) (eq-eqb (item .kind) 2 pair) refl)))
+            lies ∙ ap (At (p + 1)) (covered-access (given .sheet) keeps (first + 1) (p + 1) (area .access) lies
+            (held-covered (given .sheet) keeps (p + 1) among (holds-second item (p + 1) (eq-eqb (item .kind) 2 pair) refl)))
 
     small-next : first + 1 ≤ 0xFFFF
     small-next = omega (arith, lies-word (given .sheet) bytes (first + 1) (item .place + 1) 3 next-lies)

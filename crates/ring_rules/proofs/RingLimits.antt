@@ -11,7 +11,7 @@ use Rattle.words.specs.Words.{wordAt, withWord, bytesOf}
 use Rattle.words.specs.Changes.{Change, at, changed}
 use Rattle.range.specs.Range.{inRange}
 use Rattle.sheet_rules.specs.Rows.{areas, items, recordArea}
-use Rattle.sheet_rules.specs.Rules.{sound, headerSound, areasSound, itemsSound, settingsSound, recordsSound, itemPlaces, writablePlaces, placesFollow, areasAscend, lengthsSum}
+use Rattle.sheet_rules.specs.Rules.{sound, headerSound, areasSound, itemsSound, settingsSound, recordsSound, itemPlaces, coveredPlaces, placesFollow, areasAscend, lengthsSum}
 use Rattle.lists.specs.Lists.{each, some, upFrom, samePlaces}
 use Rattle.lists.specs.Cases.{firstCase}
 use Rattle.refusals.specs.Answers.{answerNumber}
@@ -193,5 +193,5 @@ table =
 
 -- every row is right
 pub ring-limits : each right table ≡ true
-unfolding table right changed bytesOf ringAnswer addOutcome addAnswer addStores ringFits ringSound recordArea stored firstCase sound headerSound areasSound itemsSound settingsSound recordsSound each some upFrom samePlaces itemPlaces writablePlaces placesFollow areasAscend lengthsSum areas items wordAt withWord inRange
+unfolding table right changed bytesOf ringAnswer addOutcome addAnswer addStores ringFits ringSound recordArea stored firstCase sound headerSound areasSound itemsSound settingsSound recordsSound each some upFrom samePlaces itemPlaces coveredPlaces placesFollow areasAscend lengthsSum areas items wordAt withWord inRange
 ring-limits = refl

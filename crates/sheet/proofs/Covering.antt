@@ -11,7 +11,7 @@ use Rattle.sheet_rules.specs.declared.Item.{Item}
 use Rattle.sheet.specs.declared.item_rows.Cover.{Cover}
 use Rattle.sheet_rules.specs.Rows.{areaCount, areaAt, areas, items}
 use Rattle.lists.specs.Lists.{upFrom, samePlaces, each}
-use Rattle.sheet_rules.specs.Rules.{lengthOf, placesFollow, writable, writablePlaces, isPair, pairWithin, areasSound, firstLastRule}
+use Rattle.sheet_rules.specs.Rules.{lengthOf, placesFollow, covered, coveredPlaces, isPair, pairWithin, areasSound, firstLastRule}
 use Rattle.sheet.specs.Cover.{placesLeft, UnderWay, sizeOf}
 use Rattle.lists.proofs.Walks.{rows-on, rows-end}
 use Rattle.sheet_rules.proofs.Rows.{areasFrom, areas-rows}
@@ -51,8 +51,8 @@ size-small item = go (isPair item)
     go true = omega arith
     go false = omega arith
 
-pub wide-small : (area : Area) → cond (writable (area .access)) (lengthOf area) 0 ≤ lengthOf area
-wide-small area = pick-small (writable (area .access))
+pub wide-small : (area : Area) → cond (covered (area .access)) (lengthOf area) 0 ≤ lengthOf area
+wide-small area = pick-small (covered (area .access))
 
 pub area-among : (sheet : List ℕ) (k : ℕ) (area : Area) → area ≡ areaAt sheet k → k < areaCount sheet → Among area (areas sheet)
 area-among sheet k area row inside =
@@ -65,15 +65,15 @@ area-among sheet k area row inside =
 module _ (sheet : List ℕ) where
   -- nothing is left of the area at hand: the next area is opened
   module _ (k : ℕ) (area : Area) (size : ℕ) (row : area ≡ areaAt sheet k) (inside : k < areaCount sheet)
-      (size-says : size ≡ cond (writable (area .access)) (lengthOf area) 0) where
+      (size-says : size ≡ cond (covered (area .access)) (lengthOf area) 0) where
     pub left-open : (next end : ℕ) → end ≤ next
         → placesLeft sheet (cover (area .place) (area .place + size) (k + 1)) ≡ placesLeft sheet (cover next end k)
-    unfolding placesLeft writablePlaces upFrom
+    unfolding placesLeft coveredPlaces upFrom
     left-open next end done =
-        ap (λ (l : List ℕ). l ++ writablePlaces (areasFrom sheet (k + 1)))
+        ap (λ (l : List ℕ). l ++ coveredPlaces (areasFrom sheet (k + 1)))
         (ap (λ (n : ℕ). upFrom (area .place) (area .place + n - area .place)) size-says
-        ∙ own-places (writable (area .access)) (area .place) (lengthOf area))
-        ∙ sym (ap₂ (λ (n : ℕ) (l : List Area). upFrom next n ++ writablePlaces l) none
+        ∙ own-places (covered (area .access)) (area .place) (lengthOf area))
+        ∙ sym (ap₂ (λ (n : ℕ) (l : List Area). upFrom next n ++ coveredPlaces l) none
         (rows-on (areaAt sheet) k (areaCount sheet) inside ∙ ap (λ (a : Area). a ∷ areasFrom sheet (k + 1)) (sym row)))
       where
         none : end - next ≡ 0
@@ -92,14 +92,14 @@ module _ (sheet : List ℕ) where
         }
       where
         size-small : size ≤ lengthOf area
-        size-small = rw size-says (pick-small (writable (area .access)))
+        size-small = rw size-says (pick-small (covered (area .access)))
 
         whole : (place : ℕ) → area .place ≤ place → place < area .place + size
             → pairWithin (areas sheet) place ≡ ltb (place + 1) (area .place + size)
         whole place low high =
             let all : size ≡ lengthOf area =
             size-says ∙ ap (λ (b : Bool). cond b (lengthOf area) 0)
-            (own-within (writable (area .access)) (area .place) (lengthOf area) place low (rw size-says at high)) in
+            (own-within (covered (area .access)) (area .place) (lengthOf area) place low (rw size-says at high)) in
             rw all (pair-within 0 (area-among sheet k area row inside) follow place low (rw all at high))
 
   -- a walk begins, and goes on within the area at hand
@@ -129,8 +129,8 @@ module _ (sheet : List ℕ) where
   pub left-on : (next end k : ℕ) → next < end → placesLeft sheet (cover next end k) ≡ next ∷ placesLeft sheet (cover (next + 1) end k)
   unfolding placesLeft upFrom
   left-on next end k some-left =
-      ap (λ (n : ℕ). upFrom next n ++ writablePlaces (areasFrom sheet k)) more
-      ∙ ap (λ (n : ℕ). next ∷ (upFrom n (end - (next + 1)) ++ writablePlaces (areasFrom sheet k))) one
+      ap (λ (n : ℕ). upFrom next n ++ coveredPlaces (areasFrom sheet k)) more
+      ∙ ap (λ (n : ℕ). next ∷ (upFrom n (end - (next + 1)) ++ coveredPlaces (areasFrom sheet k))) one
     where
       more : end - next ≡ suc (end - (next + 1))
       more = omega arith
@@ -139,9 +139,9 @@ module _ (sheet : List ℕ) where
       one = omega arith
 
   pub left-none : (next end k : ℕ) → end ≤ next → areaCount sheet ≤ k → placesLeft sheet (cover next end k) ≡ []
-  unfolding placesLeft upFrom writablePlaces
+  unfolding placesLeft upFrom coveredPlaces
   left-none next end k done past =
-      ap₂ (λ (n : ℕ) (l : List Area). upFrom next n ++ writablePlaces l) none (rows-end (areaAt sheet) k (areaCount sheet) past)
+      ap₂ (λ (n : ℕ) (l : List Area). upFrom next n ++ coveredPlaces l) none (rows-end (areaAt sheet) k (areaCount sheet) past)
     where
       none : end - next ≡ 0
       none = omega arith

@@ -10,7 +10,7 @@ use Rattle.sheet_rules.specs.declared.Item.{Item}
 use Rattle.sheet.specs.declared.item_rows.Cover.{Cover}
 use Rattle.lists.specs.Lists.{rows, each, some, samePlaces, upFrom}
 use Rattle.sheet_rules.specs.Rows.{areas, areaCount, areaAt, items, itemAt, itemCount, addressPlace, ratePlace}
-use Rattle.sheet_rules.specs.Rules.{kindRule, boundsRule, lowHighRule, isPair, itemPlaces, writablePlaces, pairRule, addressItem, rateItem, itemsSound, settingsSound}
+use Rattle.sheet_rules.specs.Rules.{kindRule, boundsRule, lowHighRule, isPair, itemPlaces, coveredPlaces, pairRule, addressItem, rateItem, itemsSound, settingsSound}
 use Rattle.sheet.specs.Cover.{sizeOf, placesLeft, UnderWay, Opened}
 use Rattle.lists.proofs.Tests.{and-left-comm}
 use Rattle.lists.proofs.Walks.{rows-on, rows-end, rows-all}
@@ -63,7 +63,7 @@ module _ (sheet : List ℕ) where
       && ((address || some (addressItem (addressPlace sheet)) l) && (rate || some (rateItem (ratePlace sheet)) l))
 
   asked-whole : (addressPlace sheet ≡ ratePlace sheet → ⊥)
-      → asked (items sheet) (writablePlaces (areas sheet)) false false ≡ (itemsSound sheet && settingsSound sheet)
+      → asked (items sheet) (coveredPlaces (areas sheet)) false false ≡ (itemsSound sheet && settingsSound sheet)
   unfolding asked rules itemsSound settingsSound
   asked-whole apart = simp (ne-eqb (addressPlace sheet) (ratePlace sheet) apart)
 
@@ -89,7 +89,7 @@ module _ (sheet : List ℕ) where
       → asked (itemsFrom 0) (placesLeft sheet (cover 0 0 0)) false false ≡ (itemsSound sheet && settingsSound sheet)
   unfolding placesLeft upFrom
   asked-all apart =
-      ap₂ (λ (l : List Item) (all : List Area). asked l (writablePlaces all) false false)
+      ap₂ (λ (l : List Item) (all : List Area). asked l (coveredPlaces all) false false)
       (rows-all (itemAt sheet) (itemCount sheet) ∙ items-rows sheet) (rows-all (areaAt sheet) (areaCount sheet) ∙ areas-rows sheet)
       ∙ asked-whole apart
 

@@ -9,7 +9,7 @@ use Rattle.sheet_rules.specs.declared.Item.{Item}
 use Rattle.sheet.specs.declared.item_rows.Cover.{Cover}
 use Rattle.sheet_rules.specs.Rows.{areaCount, areaAt, areas}
 use Rattle.lists.specs.Lists.{each, upFrom, rows}
-use Rattle.sheet_rules.specs.Rules.{firstLastRule, placesFollow, isPair, writablePlaces, pairWithin}
+use Rattle.sheet_rules.specs.Rules.{firstLastRule, placesFollow, isPair, coveredPlaces, pairWithin}
 
 -- how many places an item has
 abbrev pub sizeOf : Item → ℕ
@@ -19,7 +19,7 @@ sizeOf item = cond (isPair item) 2 1
 unfoldable pub placesLeft : List ℕ → Cover → List ℕ
 placesLeft sheet cover =
     upFrom (cover .next) (cover .end - cover .next)
-    ++ writablePlaces (rows (areaAt sheet) (cover .area) (areaCount sheet - cover .area))
+    ++ coveredPlaces (rows (areaAt sheet) (cover .area) (areaCount sheet - cover .area))
 
 -- a cover that is under way: a pair at one of the places that the area at hand has left lies within one area just where the next place is one of
 -- them too

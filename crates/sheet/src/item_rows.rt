@@ -4,7 +4,7 @@ ghost use mathlib.Core.Bool.{true, cond, _&&_};
 ghost use Prim.Native.Nat.{_+_, _<_};
 ghost use lib.Dec.{leb, eqb};
 ghost use Rattle.sheet_rules.specs.Rows.{areaCount, headerOf};
-ghost use Rattle.sheet_rules.specs.Rules.{writable, lengthOf, firstLastRule, areasSound, itemsSound, settingsSound};
+ghost use Rattle.sheet_rules.specs.Rules.{covered, lengthOf, firstLastRule, areasSound, itemsSound, settingsSound};
 ghost use Rattle.sheet.specs.Cover.{UnderWay, Opened, sizeOf};
 use sheet_rules::Area;
 use sheet_rules::Header;
@@ -20,9 +20,9 @@ struct Cover {
 
 // How many of an area's places are covered by items: all of an access 3 area's, and none of another's. Its first address is not above
 // its last.
-fn writable_length(area: Area) -> u32
+fn covered_length(area: Area) -> u32
     requires { ⌜ firstLastRule area ≡ true ⌝ }
-    ensures { λ r. ⌜ r ≡ cond (writable (area .access)) (lengthOf area) 0 ⌝ }
+    ensures { λ r. ⌜ r ≡ cond (covered (area .access)) (lengthOf area) 0 ⌝ }
 {
     if area.access != 3 {
         return 0;
@@ -42,7 +42,7 @@ fn opened(sheet: &[u8], count: u16, cover: Cover) -> Cover
     while end <= next && area < count {
         let row = rows::area_row(sheet, area);
         next = row.place as u32;
-        end = next + writable_length(row);
+        end = next + covered_length(row);
         area += 1;
     }
     Cover { next, end, area }

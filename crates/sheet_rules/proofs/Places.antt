@@ -11,7 +11,7 @@ use Rattle.sheet_rules.specs.declared.Area.{Area}
 use Rattle.sheet_rules.specs.declared.Item.{Item}
 use Rattle.lists.specs.Lists.{rows, some, upFrom, samePlaces}
 use Rattle.sheet_rules.specs.Rows.{areas, items, itemAt, itemCount}
-use Rattle.sheet_rules.specs.Rules.{placesFollow, lengthOf, writable, writablePlaces, placesOf, itemPlaces, isPair, placeInArea, sound}
+use Rattle.sheet_rules.specs.Rules.{placesFollow, lengthOf, covered, coveredPlaces, placesOf, itemPlaces, isPair, placeInArea, sound}
 use Rattle.sheet_rules.specs.Lookup.{holds}
 use Rattle.lists.proofs.Tests.{first-of, second-of}
 use Rattle.lists.proofs.Among.{Among, here, there, among-nil, among-cons, among-left, among-right, among-append, some-among, up-among, among-up}
@@ -55,24 +55,24 @@ unfolding upFrom
 rise-up first zero t r = rise-lower (first + 0) first (omega arith) t r
 rise-up first (suc count) t r = (omega arith, rise-up (suc first) count t (rise-lower (first + suc count) (suc first + count) (omega arith) t r))
 
-rise-writable : (before : ℕ) (l : List Area) → placesFollow before l ≡ true → Rise before (writablePlaces l)
-unfolding writablePlaces
-rise-writable before [] follow = tt
-rise-writable before (area ∷ behind) follow =
-    go (writable (area .access)) (rise-writable (before + lengthOf area) behind (follow-behind before area behind follow))
+rise-covered : (before : ℕ) (l : List Area) → placesFollow before l ≡ true → Rise before (coveredPlaces l)
+unfolding coveredPlaces
+rise-covered before [] follow = tt
+rise-covered before (area ∷ behind) follow =
+    go (covered (area .access)) (rise-covered (before + lengthOf area) behind (follow-behind before area behind follow))
   where
     at : area .place ≡ before
     at = follow-here before area behind follow
 
-    go : (open? : Bool) → Rise (before + lengthOf area) (writablePlaces behind)
-        → Rise before (cond open? (upFrom (area .place) (lengthOf area)) [] ++ writablePlaces behind)
+    go : (open? : Bool) → Rise (before + lengthOf area) (coveredPlaces behind)
+        → Rise before (cond open? (upFrom (area .place) (lengthOf area)) [] ++ coveredPlaces behind)
     go true rest =
-        rise-lower (area .place) before (omega (arith, at)) (upFrom (area .place) (lengthOf area) ++ writablePlaces behind)
-        (rise-up (area .place) (lengthOf area) (writablePlaces behind)
-        (rise-lower (before + lengthOf area) (area .place + lengthOf area) (omega (arith, at)) (writablePlaces behind) rest))
-    go false rest = rise-lower (before + lengthOf area) before (omega arith) (writablePlaces behind) rest
+        rise-lower (area .place) before (omega (arith, at)) (upFrom (area .place) (lengthOf area) ++ coveredPlaces behind)
+        (rise-up (area .place) (lengthOf area) (coveredPlaces behind)
+        (rise-lower (before + lengthOf area) (area .place + lengthOf area) (omega (arith, at)) (coveredPlaces behind) rest))
+    go false rest = rise-lower (before + lengthOf area) before (omega arith) (coveredPlaces behind) rest
 
--- ---- the places of an item, of the items, and of the access 3 areas
+-- ---- the places of an item, of the items, and of the areas that items cover
 
 holds-among : (item : Item) (place : ℕ) → holds item place ≡ true → Among place (placesOf item)
 holds-among item place e = go (eqb (item .place) place) (isPair item) (eqb (item .place + 1) place) refl refl e
@@ -140,15 +140,15 @@ module _ (row : ℕ → Item) where
       (omega arith) (omega arith) (subst (λ (n : ℕ). Among x (placesOf (row n))) (omega arith) m)
       (subst (λ (n : ℕ). Among y (placesOf (row n))) (omega arith) n)
 
--- a place lies in an access 3 area
-abbrev pub inWritable : List Area → ℕ → Bool
-inWritable all place = some (λ area. writable (area .access) && placeInArea place area) all
+-- a place lies in an area that items cover, of access 2 or 3
+abbrev pub inCovered : List Area → ℕ → Bool
+inCovered all place = some (λ area. covered (area .access) && placeInArea place area) all
 
-own-among : {area : Area} {all : List Area} (place : ℕ) → Among area all → writable (area .access) ≡ true
-    → area .place ≤ place → place < area .place + lengthOf area → Among place (writablePlaces all)
-unfolding writablePlaces
+own-among : {area : Area} {all : List Area} (place : ℕ) → Among area all → covered (area .access) ≡ true
+    → area .place ≤ place → place < area .place + lengthOf area → Among place (coveredPlaces all)
+unfolding coveredPlaces
 own-among {area} place (here {l = behind}) open? low high =
-    among-left (writablePlaces behind)
+    among-left (coveredPlaces behind)
     (subst (λ (b : Bool). Among place (cond b (upFrom (area .place) (lengthOf area)) [])) (sym open?)
     (subst (λ (n : ℕ). Among n (upFrom (area .place) (lengthOf area))) back
     (up-among (area .place) (lengthOf area) (place - area .place) (omega arith))))
@@ -156,30 +156,30 @@ own-among {area} place (here {l = behind}) open? low high =
     back : area .place + (place - area .place) ≡ place
     back = omega arith
 own-among place (there {b = other} m) open? low high =
-    among-right (cond (writable (other .access)) (upFrom (other .place) (lengthOf other)) []) (own-among place m open? low high)
+    among-right (cond (covered (other .access)) (upFrom (other .place) (lengthOf other)) []) (own-among place m open? low high)
 
-writable-among : (all : List Area) (place : ℕ) → inWritable all place ≡ true → Among place (writablePlaces all)
-writable-among all place e =
-    let found = some-among (λ (area : Area). writable (area .access) && placeInArea place area) all e in
+covered-among : (all : List Area) (place : ℕ) → inCovered all place ≡ true → Among place (coveredPlaces all)
+covered-among all place e =
+    let found = some-among (λ (area : Area). covered (area .access) && placeInArea place area) all e in
     let area = found .0 in
-    let within = second-of (writable (area .access)) (placeInArea place area) (found .2) in
-    own-among place (found .1) (first-of (writable (area .access)) (placeInArea place area) (found .2))
+    let within = second-of (covered (area .access)) (placeInArea place area) (found .2) in
+    own-among place (found .1) (first-of (covered (area .access)) (placeInArea place area) (found .2))
     (leb-true (area .place) place (first-of (leb (area .place) place) (ltb place (area .place + lengthOf area)) within))
     (ltb-true place (area .place + lengthOf area) (second-of (leb (area .place) place) (ltb place (area .place + lengthOf area)) within))
 
-among-writable : (all : List Area) (place : ℕ) → Among place (writablePlaces all) → inWritable all place ≡ true
-unfolding writablePlaces some
-among-writable [] place m = absurd (among-nil m)
-among-writable (area ∷ behind) place m =
-    go (writable (area .access)) (among-append (cond (writable (area .access)) (upFrom (area .place) (lengthOf area)) []) (writablePlaces behind) m)
-    (λ r. among-writable behind place r)
+among-covered : (all : List Area) (place : ℕ) → Among place (coveredPlaces all) → inCovered all place ≡ true
+unfolding coveredPlaces some
+among-covered [] place m = absurd (among-nil m)
+among-covered (area ∷ behind) place m =
+    go (covered (area .access)) (among-append (cond (covered (area .access)) (upFrom (area .place) (lengthOf area)) []) (coveredPlaces behind) m)
+    (λ r. among-covered behind place r)
   where
-    go : (open? : Bool) → Among place (cond open? (upFrom (area .place) (lengthOf area)) []) ⊎ Among place (writablePlaces behind)
-        → (Among place (writablePlaces behind) → inWritable behind place ≡ true)
-        → ((open? && placeInArea place area) || inWritable behind place) ≡ true
+    go : (open? : Bool) → Among place (cond open? (upFrom (area .place) (lengthOf area)) []) ⊎ Among place (coveredPlaces behind)
+        → (Among place (coveredPlaces behind) → inCovered behind place ≡ true)
+        → ((open? && placeInArea place area) || inCovered behind place) ≡ true
     go true (inl m) rest =
         let within = among-up (area .place) (lengthOf area) m in
-        ap₂ (λ (x y : Bool). (x && y) || inWritable behind place)
+        ap₂ (λ (x y : Bool). (x && y) || inCovered behind place)
         (le-leb (area .place) place (within .0)) (lt-ltb place (area .place + lengthOf area) (within .1))
     go false (inl m) rest = absurd (among-nil m)
     go open? (inr m) rest =
@@ -188,11 +188,11 @@ among-writable (area ∷ behind) place m =
 -- ---- over a sound sheet
 
 module _ (sheet : List ℕ) (keeps : sound sheet ≡ true) where
-  covered : itemPlaces (items sheet) ≡ writablePlaces (areas sheet)
-  covered = same-list (itemPlaces (items sheet)) (writablePlaces (areas sheet)) (sound-cover sheet keeps)
+  same-places : itemPlaces (items sheet) ≡ coveredPlaces (areas sheet)
+  same-places = same-list (itemPlaces (items sheet)) (coveredPlaces (areas sheet)) (sound-cover sheet keeps)
 
   rising : Rise 0 (itemPlaces (items sheet))
-  rising = rw covered (rise-writable 0 (areas sheet) (sound-areas sheet keeps .follow))
+  rising = rw same-places (rise-covered 0 (areas sheet) (sound-areas sheet keeps .follow))
 
   -- an item's places, as the rows count their indices
   counted : {x : ℕ} (k : ℕ) → Among x (placesOf (itemAt sheet k)) → Among x (placesOf (itemAt sheet (0 + k)))
@@ -210,13 +210,13 @@ module _ (sheet : List ℕ) (keeps : sound sheet ≡ true) where
   pub items-ascend : (i j : ℕ) → i < j → j < itemCount sheet → itemAt sheet i .place < itemAt sheet j .place
   items-ascend i j less inside = apart i j (itemAt sheet i .place) (itemAt sheet j .place) less inside here here
 
-  -- rule S47: each place of an access 3 area is held
-  pub covered-by : (place : ℕ) → inWritable (areas sheet) place ≡ true
+  -- rule S47: each place of an access 2 or access 3 area is held
+  pub covered-by : (place : ℕ) → inCovered (areas sheet) place ≡ true
       → (k : ℕ) × (k < itemCount sheet) × (holds (itemAt sheet k) place ≡ true)
   unfolding items
   covered-by place e =
       let found = among-item (itemAt sheet) 0 (itemCount sheet) place
-      (subst (λ (l : List ℕ). Among place l) (sym covered) (writable-among (areas sheet) place e)) in
+      (subst (λ (l : List ℕ). Among place l) (sym same-places) (covered-among (areas sheet) place e)) in
       let same : 0 + found .0 ≡ found .0 = omega arith in (
         found .0,
         found .1,
@@ -241,9 +241,9 @@ module _ (sheet : List ℕ) (keeps : sound sheet ≡ true) where
       go false false l r = omega (arith, ltb-false i j l, ltb-false j i r)
 
   -- rule S47: and no place besides
-  pub covered-only : (place k : ℕ) → k < itemCount sheet → holds (itemAt sheet k) place ≡ true → inWritable (areas sheet) place ≡ true
+  pub covered-only : (place k : ℕ) → k < itemCount sheet → holds (itemAt sheet k) place ≡ true → inCovered (areas sheet) place ≡ true
   unfolding items
   covered-only place k inside e =
-      among-writable (areas sheet) place
-      (subst (λ (l : List ℕ). Among place l) covered
+      among-covered (areas sheet) place
+      (subst (λ (l : List ℕ). Among place l) same-places
       (item-among (itemAt sheet) 0 (itemCount sheet) k place inside (counted k (holds-among (itemAt sheet k) place e))))

@@ -1,5 +1,5 @@
 -- Both sides of every limit in the rules of the sheet, as one table under one statement: a sheet with some of its words changed, and whether
--- it is sound, typed from 01 and from 02's record area. A broken sheet has one fault alone where that can be; the comment behind a row says which side it is on.
+-- it is sound, typed from 01 and from 02's record area and write-only areas. A broken sheet has one fault alone where that can be; the comment behind a row says which side it is on.
 -- Assumes nothing.
 use mathlib.Core.Path.{_≡_, refl}
 use mathlib.Core.Bool.{Bool, true, not}
@@ -10,7 +10,7 @@ use Rattle.words.specs.Words.{wordAt, bytesOf}
 use Rattle.words.specs.Changes.{Change, at, changed}
 use Rattle.range.specs.Range.{inRange}
 use Rattle.sheet_rules.specs.Rows.{areas, items, recordArea}
-use Rattle.sheet_rules.specs.Rules.{sound, headerSound, areasSound, itemsSound, settingsSound, recordsSound, itemPlaces, writablePlaces, placesFollow, areasAscend, lengthsSum}
+use Rattle.sheet_rules.specs.Rules.{sound, headerSound, areasSound, itemsSound, settingsSound, recordsSound, itemPlaces, coveredPlaces, placesFollow, areasAscend, lengthsSum}
 use Rattle.lists.specs.Lists.{each, some, upFrom, samePlaces}
 
 -- ---- the sheet that is changed: three areas, six items, nine words of the bank, all functions, clear address 0040
@@ -113,7 +113,10 @@ table =
     -- word 0, the version
     broken-with base (at 0 0 ∷ [])  -- 0
     ∷ sound-with base []  -- 1
-    ∷ broken-with base (at 0 2 ∷ [])  -- 2
+    ∷ sound-with base (at 0 2 ∷ [])  -- 2, without access 2
+    ∷ broken-with base (at 0 3 ∷ [])  -- 3
+    ∷ broken-with base (at 0 0x0101 ∷ [])  -- 0101
+    ∷ broken-with base (at 0 0x0102 ∷ [])  -- 0102
     -- word 1, the number of areas
     ∷ broken-with (built 0 2 2) []  -- 0
     ∷ sound-with (built 1 2 2) []  -- 1
@@ -212,9 +215,22 @@ table =
     ∷ broken-with (recorded 0x0000 1 1) (at 10 0 ∷ [])  -- 0000 with 05, where word 10 is 0
     -- access: area 2 has 1, the others have 3
     ∷ broken-with base (at (access 2) 0 ∷ [])  -- 0
-    ∷ broken-with base (at (access 2) 2 ∷ [])  -- 2
     ∷ broken-with base (at (access 2) 4 ∷ [])  -- 4
     ∷ broken-with base (at (access 2) 0x0101 ∷ [])  -- 0101
+    ∷ broken-with base (at 0 2 ∷ at (access 2) 0 ∷ [])  -- 0, in version 2
+    ∷ broken-with base (at 0 2 ∷ at (access 1) 4 ∷ [])  -- 4, in version 2
+    ∷ broken-with base (at 0 2 ∷ at (access 1) 0x0102 ∷ [])  -- 0102, in version 2
+    -- access 2, in sheets of version 2 alone: areas 0 and 1 have items, and area 0 has the address and the rate
+    ∷ broken-with base (at (access 1) 2 ∷ [])  -- area 1, in version 1
+    ∷ sound-with base (at 0 2 ∷ at (access 1) 2 ∷ [])  -- in version 2
+    ∷ broken-with base (at 0 3 ∷ at (access 1) 2 ∷ [])  -- in version 3
+    ∷ broken-with base (at 0 0 ∷ at (access 1) 2 ∷ [])  -- in version 0
+    ∷ broken-with base (at (access 0) 2 ∷ [])  -- area 0, in version 1
+    ∷ sound-with base (at 0 2 ∷ at (access 0) 2 ∷ [])  -- in version 2
+    ∷ sound-with base (at 0 2 ∷ at (access 0) 2 ∷ at (access 1) 2 ∷ [])  -- both
+    ∷ broken-with base (at (access 0) 2 ∷ at (access 1) 2 ∷ [])  -- both, in version 1
+    ∷ sound-with (recorded 0x0400 6600 22) (at 0 2 ∷ at (access 1) 2 ∷ [])  -- with a record area
+    ∷ broken-with (recorded 0x0400 6600 22) (at (access 1) 2 ∷ [])  -- with a record area, in version 1
     -- first address and last address
     ∷ sound-with base (at (first 2) 0x0031 ∷ at 5 8 ∷ [])  -- equal
     ∷ broken-with base (at (first 2) 0x0032 ∷ at 5 7 ∷ [])  -- first one above last: an area of no word
@@ -297,6 +313,7 @@ table =
     ∷ broken-with base (at (lowUpper 3) 0x0004 ∷ at (low 3) 0x0000 ∷ [])  -- by the upper word
     ∷ sound-with base (at (lowUpper 3) 0x7FFF ∷ at (low 3) 0xFFFF ∷ at (highUpper 3) 0x8000 ∷ at (high 3) 0x0000 ∷ [])  -- without a sign
     ∷ broken-with base (at (lowUpper 3) 0x8000 ∷ at (low 3) 0x0000 ∷ at (highUpper 3) 0x7FFF ∷ at (high 3) 0xFFFF ∷ [])  -- without a sign
+    ∷ sound-with base (at (lowUpper 3) 0x0000 ∷ at (low 3) 0x0000 ∷ at (highUpper 3) 0xFFFF ∷ at (high 3) 0xFFFF ∷ [])  -- all 32 bits
     -- items ascend
     ∷ broken-with base (at (place 4) 6 ∷ at (place 5) 5 ∷ [])  -- the last two changed about
     -- items cover each place of an access 3 area once
@@ -308,14 +325,23 @@ table =
     ∷ sound-with (another 7) (at (last 1) 0x0022 ∷ at (areaPlace 2) 8 ∷ at 5 10 ∷ [])  -- area 1 has a word more, and its item
     ∷ broken-with base (at (last 1) 0x0022 ∷ at (areaPlace 2) 8 ∷ at 5 10 ∷ [])  -- without its item
     ∷ broken-with base (at (access 2) 3 ∷ [])  -- area 2 with access 3, without items
+    -- .. and each place of an access 2 area
+    ∷ broken-with (another 6) (at 0 2 ∷ at (access 1) 2 ∷ [])  -- place 6 twice
+    ∷ sound-with (another 7) (at 0 2 ∷ at (access 1) 2 ∷ at (last 1) 0x0022 ∷ at (areaPlace 2) 8 ∷ at 5 10 ∷ [])  -- area 1 has a word more, and its item
+    ∷ broken-with base (at 0 2 ∷ at (access 1) 2 ∷ at (last 1) 0x0022 ∷ at (areaPlace 2) 8 ∷ at 5 10 ∷ [])  -- without its item
+    ∷ broken-with base (at 0 2 ∷ at (access 2) 2 ∷ [])  -- area 2 with access 2, without items
     -- items cover no other place
     ∷ broken-with (another 7) []  -- a place of access 1
     ∷ broken-with (another 9) []  -- the mark's place
     ∷ broken-with base (at (access 1) 1 ∷ [])  -- area 1 with access 1, with items
+    ∷ broken-with base (at 0 2 ∷ at (access 0) 2 ∷ at (access 1) 1 ∷ [])  -- the same beside an access 2 area
     -- a pair lies within one area; in the base places 3 and 4 are the last ones of area 0
     ∷ sound-with base (at (last 0) 0x0012 ∷ at (first 1) 0x001E ∷ at (areaPlace 1) 3 ∷ [])  -- the first ones of area 1
     ∷ broken-with base (at (last 0) 0x0013 ∷ at (first 1) 0x0014 ∷ at (last 1) 0x0016 ∷ at (areaPlace 1) 4 ∷ [])  -- one in each, which touch
     ∷ broken-with base (at (last 0) 0x0013 ∷ at (first 1) 0x001F ∷ at (areaPlace 1) 4 ∷ [])  -- one in each, with a gap
+    ∷ sound-with base (at 0 2 ∷ at (access 1) 2 ∷ at (last 0) 0x0012 ∷ at (first 1) 0x001E ∷ at (areaPlace 1) 3 ∷ [])  -- within area 1 of access 2
+    ∷ broken-with base (at 0 2 ∷ at (access 1) 2 ∷ at (last 0) 0x0013 ∷ at (first 1) 0x0014 ∷ at (last 1) 0x0016 ∷ at (areaPlace 1) 4 ∷ [])  -- one in each, of access 3 and 2, which touch
+    ∷ broken-with base (at 0 2 ∷ at (access 0) 2 ∷ at (access 1) 2 ∷ at (last 0) 0x0013 ∷ at (first 1) 0x0014 ∷ at (last 1) 0x0016 ∷ at (areaPlace 1) 4 ∷ [])  -- both of access 2
     -- address and rate at different places
     ∷ broken-with base (at 8 1 ∷ [])  -- both at the rate's
     ∷ broken-with base (at 9 0 ∷ at (low 0) 0 ∷ at (high 0) 1 ∷ [])  -- both at the address's
@@ -360,5 +386,5 @@ table =
 
 -- every row is right
 pub sheet-limits : each right table ≡ true
-unfolding table right changed bytesOf built builtAreas builtBehind builtItems sound headerSound areasSound itemsSound settingsSound recordsSound recordArea each some upFrom samePlaces itemPlaces writablePlaces placesFollow areasAscend lengthsSum areas items wordAt inRange
+unfolding table right changed bytesOf built builtAreas builtBehind builtItems sound headerSound areasSound itemsSound settingsSound recordsSound recordArea each some upFrom samePlaces itemPlaces coveredPlaces placesFollow areasAscend lengthsSum areas items wordAt inRange
 sheet-limits = refl

@@ -8,7 +8,7 @@ use Rattle.words.specs.Words.{wordAt, bytesOf}
 use Rattle.words.specs.Changes.{Change, at, changed}
 use Rattle.range.specs.Range.{inRange}
 use Rattle.sheet_rules.specs.Rows.{areas, items}
-use Rattle.sheet_rules.specs.Rules.{sound, headerSound, areasSound, itemsSound, settingsSound, recordsSound, itemPlaces, writablePlaces, placesFollow, areasAscend, lengthsSum}
+use Rattle.sheet_rules.specs.Rules.{sound, headerSound, areasSound, itemsSound, settingsSound, recordsSound, itemPlaces, coveredPlaces, placesFollow, areasAscend, lengthsSum}
 use Rattle.lists.specs.Lists.{each, some, upFrom, samePlaces}
 
 -- the words of rule L8
@@ -35,7 +35,8 @@ table =
     sound-with []
     -- rule S0
     ∷ broken-with (at 0 0 ∷ [])
-    ∷ broken-with (at 0 2 ∷ [])
+    ∷ sound-with (at 0 2 ∷ [])
+    ∷ broken-with (at 0 3 ∷ [])
     -- rule S2
     ∷ broken-with (at 2 11 ∷ [])
     ∷ broken-with (at 2 13 ∷ [])
@@ -67,8 +68,14 @@ table =
     -- rule S21
     ∷ broken-with (at 15 0 ∷ [])
     ∷ broken-with (at 15 1 ∷ [])
-    ∷ broken-with (at 15 2 ∷ [])
     ∷ broken-with (at 15 4 ∷ [])
+    ∷ broken-with (at 0 2 ∷ at 15 0 ∷ [])
+    ∷ broken-with (at 0 2 ∷ at 15 1 ∷ [])
+    ∷ broken-with (at 0 2 ∷ at 15 4 ∷ [])
+    -- rule S30
+    ∷ broken-with (at 15 2 ∷ [])
+    ∷ sound-with (at 0 2 ∷ at 15 2 ∷ [])
+    ∷ broken-with (at 0 3 ∷ at 15 2 ∷ [])
     -- rule S41
     ∷ sound-with (at 28 0 ∷ at 31 0 ∷ [])
     ∷ broken-with (at 28 3 ∷ at 31 0 ∷ [])
@@ -113,5 +120,5 @@ table =
 
 -- every row is right
 pub both-sides : each right table ≡ true
-unfolding table right changed bytesOf sound headerSound areasSound itemsSound settingsSound recordsSound each some upFrom samePlaces itemPlaces writablePlaces placesFollow areasAscend lengthsSum areas items wordAt inRange
+unfolding table right changed bytesOf sound headerSound areasSound itemsSound settingsSound recordsSound each some upFrom samePlaces itemPlaces coveredPlaces placesFollow areasAscend lengthsSum areas items wordAt inRange
 both-sides = refl

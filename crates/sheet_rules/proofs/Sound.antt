@@ -8,9 +8,9 @@ use native.Mathlib.Omega.{arith}
 use lib.Dec.{leb}
 use lib.ListN.{length}
 use borrow.Author.Tests.{leb-true, eqb-true, not-false}
-use Rattle.sheet_rules.specs.Rows.{areas, items, areaCount, itemCount, bankWords, functions, sheetWords, recordAreas, sheetEnd, itemEnd}
+use Rattle.sheet_rules.specs.Rows.{version, areas, items, areaCount, itemCount, bankWords, functions, sheetWords, recordAreas, sheetEnd, itemEnd}
 use Rattle.lists.specs.Lists.{between, each}
-use Rattle.sheet_rules.specs.Rules.{versionRule, areaCountRule, areaOffsetRule, itemCountRule, itemOffsetRule, bankWordsRule, functionsRule, sheetWordsRule, recordAreasRule, byteLengthRule, kindRule, boundsRule, lowHighRule, coverRule, pairRule, accessRule, firstLastRule, areasAscend, placesFollow, lengthsSumRule, clearAddressRule, headerSound, areasSound, itemsSound, settingsSound, recordsSound, sound, sheetRefusals, sheetAnswer}
+use Rattle.sheet_rules.specs.Rules.{versionRule, areaCountRule, areaOffsetRule, itemCountRule, itemOffsetRule, bankWordsRule, functionsRule, sheetWordsRule, recordAreasRule, byteLengthRule, kindRule, boundsRule, lowHighRule, coverRule, pairRule, accessRule, writeOnlyRule, firstLastRule, areasAscend, placesFollow, lengthsSumRule, clearAddressRule, headerSound, areasSound, itemsSound, settingsSound, recordsSound, sound, sheetRefusals, sheetAnswer}
 use Rattle.lists.specs.Cases.{when, firstCase}
 use Rattle.refusals.specs.declared.Refusal.the-variants.{BrokenSheet}
 use Rattle.refusals.specs.declared.Answer.the-variants.{Done, Refused}
@@ -32,6 +32,12 @@ six a b c d e f h =
       second-of (a && b && c && d) e h5,
       second-of (a && b && c && d && e) f h,
     )
+
+seven : (a b c d e f g : Bool) → (a && b && c && d && e && f && g) ≡ true
+    → (a ≡ true) × (b ≡ true) × (c ≡ true) × (d ≡ true) × (e ≡ true) × (f ≡ true) × (g ≡ true)
+seven a b c d e f g h =
+    let low = six a b c d e f (first-of (a && b && c && d && e && f) g h) in
+    (low .0, low .1, low .2, low .3, low .4, low .5, second-of (a && b && c && d && e && f) g h)
 
 ten : (a b c d e f g h i j : Bool) → (a && b && c && d && e && f && g && h && i && j) ≡ true
     → (a ≡ true) × (b ≡ true) × (c ≡ true) × (d ≡ true) × (e ≡ true) × (f ≡ true) × (g ≡ true) × (h ≡ true) × (i ≡ true) × (j ≡ true)
@@ -63,6 +69,7 @@ module _ (sheet : List ℕ) where
   -- the areas' rules, taken apart
   pub record AreasRules : Type 0 where
     pub access : each accessRule (areas sheet) ≡ true
+    pub writeOnly : each (writeOnlyRule (version sheet)) (areas sheet) ≡ true
     pub firstLast : each firstLastRule (areas sheet) ≡ true
     pub ascend : areasAscend (areas sheet) ≡ true
     pub follow : placesFollow 0 (areas sheet) ≡ true
@@ -71,9 +78,9 @@ module _ (sheet : List ℕ) where
   pub areas-rules : areasSound sheet ≡ true → AreasRules
   unfolding areasSound
   areas-rules e =
-      let rules = six (each accessRule (areas sheet)) (each firstLastRule (areas sheet)) (areasAscend (areas sheet))
-      (placesFollow 0 (areas sheet)) (lengthsSumRule sheet) (clearAddressRule sheet) e in
-      record { access = rules .0; firstLast = rules .1; ascend = rules .2; follow = rules .3; total = rules .4 }
+      let rules = seven (each accessRule (areas sheet)) (each (writeOnlyRule (version sheet)) (areas sheet)) (each firstLastRule (areas sheet))
+      (areasAscend (areas sheet)) (placesFollow 0 (areas sheet)) (lengthsSumRule sheet) (clearAddressRule sheet) e in
+      record { access = rules .0; writeOnly = rules .1; firstLast = rules .2; ascend = rules .3; follow = rules .4; total = rules .5 }
 
   pub follows : areasSound sheet ≡ true → placesFollow 0 (areas sheet) ≡ true
   follows e = areas-rules e .follow

@@ -1,4 +1,4 @@
--- Terms of the rules by themselves: the places that an item holds (rules S45 and S48), what an access is good for (rules S21, J60 and J61), and how far a run of
+-- Terms of the rules by themselves: the places that an item holds (rules S45 and S48), what an access is good for (rules S21, S30, S47, J60 and J61), and how far a run of
 -- addresses is open (rules J60 to J62), each as one table under one statement. Assumes nothing.
 use mathlib.Core.Path.{_≡_, refl}
 use mathlib.Core.Bool.{Bool, true, not, _&&_}
@@ -10,7 +10,7 @@ use Rattle.sheet_rules.specs.declared.Item.{Item}
 use Rattle.sheet_rules.specs.declared.Purpose.{Purpose}
 use Rattle.sheet_rules.specs.declared.Purpose.the-variants.{Read, Write}
 use Rattle.sheet_rules.specs.Rows.{itemEnd}
-use Rattle.sheet_rules.specs.Rules.{readable, writable}
+use Rattle.sheet_rules.specs.Rules.{accessRule, writeOnlyRule, readable, writable, covered}
 use Rattle.sheet_rules.specs.Lookup.{holds}
 use Rattle.sheet_rules.specs.Runs.{reach}
 use Rattle.lists.specs.Lists.{each}
@@ -43,31 +43,39 @@ pub places-held : each right table ≡ true
 unfolding table each
 places-held = refl
 
--- an access, that it may be read, and that it may be written
+abbrev area : ℕ → ℕ → ℕ → ℕ → Area
+area first last place access = record { first = first; last = last; place = place; access = access }
+
+-- an access: whether it may be read, whether it may be written, and whether items cover its places; and whether sheets of version 1 and of version 2 have it
 pub data Access : Type 0 where
   closed : ℕ → Access
   read-only : ℕ → Access
+  write-only : ℕ → Access
   read-and-write : ℕ → Access
 
+abbrev known : ℕ → ℕ → Bool
+known version access = accessRule (area 0 0 0 access) && writeOnlyRule version (area 0 0 0 access)
+
 abbrev pub fitting : Access → Bool
-fitting (closed access) = not (readable access) && not (writable access)
-fitting (read-only access) = readable access && not (writable access)
-fitting (read-and-write access) = readable access && writable access
+fitting (closed access) = not (readable access) && not (writable access) && not (covered access) && not (known 1 access) && not (known 2 access)
+fitting (read-only access) = readable access && not (writable access) && not (covered access) && known 1 access && known 2 access
+fitting (write-only access) = not (readable access) && writable access && covered access && not (known 1 access) && known 2 access
+fitting (read-and-write access) = readable access && writable access && covered access && known 1 access && known 2 access
 
 pub accesses : List Access
-accesses = closed 0 ∷ read-only 1 ∷ closed 2 ∷ read-and-write 3 ∷ closed 4 ∷ []
+accesses = closed 0 ∷ read-only 1 ∷ write-only 2 ∷ read-and-write 3 ∷ closed 4 ∷ []
 
 -- every row is right
 pub accesses-fit : each fitting accesses ≡ true
 unfolding accesses each
 accesses-fit = refl
 
-abbrev area : ℕ → ℕ → ℕ → ℕ → Area
-area first last place access = record { first = first; last = last; place = place; access = access }
-
--- 0010 to 0013 with access 3 and 0014 and 0015 with access 1 are neighbours; 0016 is a gap
+-- 0010 to 0013 with access 3 and 0014 and 0015 with access 1 are neighbours; 0016 is a gap; 0017 and 0018 with access 3, 0019 with access 2, 001A with access 3 and
+-- 001B with access 1 are neighbours
 abbrev someAreas : List Area
-someAreas = area 0x0010 0x0013 0 3 ∷ area 0x0014 0x0015 4 1 ∷ area 0x0017 0x0018 6 3 ∷ area 0xFFFE 0xFFFF 8 1 ∷ []
+someAreas =
+    area 0x0010 0x0013 0 3 ∷ area 0x0014 0x0015 4 1 ∷ area 0x0017 0x0018 6 3 ∷ area 0x0019 0x0019 8 2 ∷ area 0x001A 0x001A 9 3
+    ∷ area 0x001B 0x001B 10 1 ∷ area 0xFFFE 0xFFFF 11 1 ∷ []
 
 -- a purpose, an address, and the first one from it on that is not open
 pub record Reach : Type 0 where
@@ -84,10 +92,11 @@ reaches this = eqb (reach (this .purpose) someAreas (this .start)) (this .end)
 pub runs : List Reach
 runs =
     from Read 0x000F 0x000F ∷ from Read 0x0010 0x0016 ∷ from Read 0x0013 0x0016 ∷ from Read 0x0014 0x0016 ∷ from Read 0x0015 0x0016
-    ∷ from Read 0x0016 0x0016 ∷ from Read 0x0017 0x0019 ∷ from Read 0x0018 0x0019 ∷ from Read 0x0019 0x0019
+    ∷ from Read 0x0016 0x0016 ∷ from Read 0x0017 0x0019 ∷ from Read 0x0018 0x0019 ∷ from Read 0x0019 0x0019 ∷ from Read 0x001A 0x001C ∷ from Read 0x001B 0x001C
     ∷ from Read 0xFFFE 0x10000 ∷ from Read 0xFFFF 0x10000 ∷ from Read 0x10000 0x10000
     ∷ from Write 0x000F 0x000F ∷ from Write 0x0010 0x0014 ∷ from Write 0x0013 0x0014 ∷ from Write 0x0014 0x0014 ∷ from Write 0x0015 0x0015
-    ∷ from Write 0x0016 0x0016 ∷ from Write 0x0017 0x0019 ∷ from Write 0xFFFF 0xFFFF ∷ []
+    ∷ from Write 0x0016 0x0016 ∷ from Write 0x0017 0x001B ∷ from Write 0x0018 0x001B ∷ from Write 0x0019 0x001B ∷ from Write 0x001A 0x001B ∷ from Write 0x001B 0x001B
+    ∷ from Write 0xFFFF 0xFFFF ∷ []
 
 -- every row is right
 pub runs-reach : each reaches runs ≡ true

@@ -19,9 +19,15 @@ use Rattle.lists.specs.Lists.{between, each, samePlaces, some, upFrom}
 
 -- ---- the header
 
--- rule S0
+-- rule S0: the version that knows read only, and read and write; and the one that knows write only besides
+abbrev pub firstVersion : ℕ
+firstVersion = 1
+
+abbrev pub secondVersion : ℕ
+secondVersion = 2
+
 abbrev pub versionRule : List ℕ → Bool
-versionRule sheet = eqb (version sheet) 1
+versionRule sheet = between firstVersion secondVersion (version sheet)
 
 -- rule S1
 abbrev pub areaCountRule : List ℕ → Bool
@@ -83,15 +89,34 @@ allowed sheet bit = eqb (functions sheet / bit % 2) 1
 
 -- ---- the area rows
 
--- rule S21: the two sorts of access
+-- rule S21: the three sorts of access
 abbrev pub readOnly : ℕ
 readOnly = 1
+
+abbrev pub writeOnly : ℕ
+writeOnly = 2
 
 abbrev pub readAndWrite : ℕ
 readAndWrite = 3
 
 abbrev pub accessRule : Area → Bool
-accessRule area = eqb (area .access) readOnly || eqb (area .access) readAndWrite
+accessRule area = eqb (area .access) readOnly || eqb (area .access) writeOnly || eqb (area .access) readAndWrite
+
+-- rule S30: access 2 is in sheets of version 2 alone
+abbrev pub writeOnlyRule : ℕ → Area → Bool
+writeOnlyRule version area = not (eqb (area .access) writeOnly) || eqb version secondVersion
+
+-- rule S21: the access of an area that may be read
+abbrev pub readable : ℕ → Bool
+readable access = eqb access readOnly || eqb access readAndWrite
+
+-- rule S21: the access of an area that may be written
+abbrev pub writable : ℕ → Bool
+writable access = eqb access writeOnly || eqb access readAndWrite
+
+-- rule S47: the access of an area whose places are covered by items
+abbrev pub covered : ℕ → Bool
+covered access = eqb access writeOnly || eqb access readAndWrite
 
 -- rule S22
 abbrev pub firstLastRule : Area → Bool
@@ -131,8 +156,8 @@ clearAddressRule sheet =
 
 unfoldable pub areasSound : List ℕ → Bool
 areasSound sheet =
-    each accessRule (areas sheet) && each firstLastRule (areas sheet) && areasAscend (areas sheet)
-    && placesFollow 0 (areas sheet) && lengthsSumRule sheet && clearAddressRule sheet
+    each accessRule (areas sheet) && each (writeOnlyRule (version sheet)) (areas sheet) && each firstLastRule (areas sheet)
+    && areasAscend (areas sheet) && placesFollow 0 (areas sheet) && lengthsSumRule sheet && clearAddressRule sheet
 
 -- ---- the item rows
 
@@ -159,23 +184,15 @@ unfoldable pub itemPlaces : List Item → List ℕ
 itemPlaces [] = []
 itemPlaces (item ∷ behind) = placesOf item ++ itemPlaces behind
 
--- the access of an area that may be written, and whose places are covered by items
-abbrev pub writable : ℕ → Bool
-writable access = eqb access readAndWrite
-
--- the access of an area that may be read
-abbrev pub readable : ℕ → Bool
-readable access = eqb access readOnly || eqb access readAndWrite
-
-unfoldable pub writablePlaces : List Area → List ℕ
+unfoldable pub coveredPlaces : List Area → List ℕ
 unfolding upFrom
-writablePlaces [] = []
-writablePlaces (area ∷ behind) =
-    cond (writable (area .access)) (upFrom (area .place) (lengthOf area)) [] ++ writablePlaces behind
+coveredPlaces [] = []
+coveredPlaces (area ∷ behind) =
+    cond (covered (area .access)) (upFrom (area .place) (lengthOf area)) [] ++ coveredPlaces behind
 
--- rules S46 and S47: the places of the items, row after row, are the places of the access 3 areas, row after row
+-- rules S46 and S47: the places of the items, row after row, are the places of the access 2 and access 3 areas, row after row
 abbrev pub coverRule : List ℕ → Bool
-coverRule sheet = samePlaces (itemPlaces (items sheet)) (writablePlaces (areas sheet))
+coverRule sheet = samePlaces (itemPlaces (items sheet)) (coveredPlaces (areas sheet))
 
 -- a place is one of an area's
 abbrev pub placeInArea : ℕ → Area → Bool

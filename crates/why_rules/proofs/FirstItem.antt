@@ -10,12 +10,12 @@ use borrow.Author.Tests.{eq-eqb}
 use Rattle.sheet_rules.specs.declared.Lies.the-variants.{At}
 use Rattle.sheet_rules.specs.Rows.{areas, bankWords}
 use Rattle.sheet_rules.specs.Rules.{isPair, readAndWrite, sound}
-use Rattle.sheet_rules.proofs.Places.{inWritable}
+use Rattle.sheet_rules.proofs.Places.{inCovered}
 use Rattle.sheet_rules.specs.Lookup.{liesIn}
 use Rattle.sheet_rules.proofs.Sound.{sound-numbers}
 use Rattle.sheet_rules.proofs.Addresses.{address-lies}
 use Rattle.bank_rules.specs.Calls.{Lent}
-use Rattle.bank_rules.proofs.Held.{held-writable, writable-below, writable-access}
+use Rattle.bank_rules.proofs.Held.{held-covered, covered-below, covered-access}
 use Rattle.meter_rules.specs.Write.{someBad, stopPlace}
 use Rattle.meter_rules.proofs.WhichSide.{stopped}
 use Rattle.why_rules.specs.Facts.{firstBadItem}
@@ -23,16 +23,16 @@ use Rattle.why_rules.specs.Facts.{firstBadItem}
 module _ (given : Lent) (frame : List ℕ) where
   module _ (one : someBad given frame ≡ true) where
     module _ (keeps : sound (given .sheet) ≡ true) where
-      held : inWritable (areas (given .sheet)) (stopPlace given frame) ≡ true
+      held : inCovered (areas (given .sheet)) (stopPlace given frame) ≡ true
       held =
           let found = stopped given frame one in
-          ap (inWritable (areas (given .sheet))) (sym (found .atPlace))
-          ∙ held-writable (given .sheet) keeps (found .item .place) (found .among)
+          ap (inCovered (areas (given .sheet))) (sym (found .atPlace))
+          ∙ held-covered (given .sheet) keeps (found .item .place) (found .among)
           (ap (λ (b : Bool). b || (isPair (found .item) && eqb (found .item .place + 1) (found .item .place)))
           (eq-eqb (found .item .place) (found .item .place) refl))
 
       stop-below : stopPlace given frame < bankWords (given .sheet)
-      stop-below = writable-below (given .sheet) keeps (stopPlace given frame) held
+      stop-below = covered-below (given .sheet) keeps (stopPlace given frame) held
 
       pub stop-small : stopPlace given frame < 65536
       stop-small = omega (arith, stop-below, sound-numbers (given .sheet) keeps)
@@ -43,4 +43,4 @@ module _ (given : Lent) (frame : List ℕ) where
           let found = address-lies (given .sheet) keeps (stopPlace given frame) stop-below in
           found .1
           ∙ ap (At (stopPlace given frame))
-          (writable-access (given .sheet) keeps (firstBadItem given frame) (stopPlace given frame) (found .0) (found .1) held)
+          (covered-access (given .sheet) keeps (firstBadItem given frame) (stopPlace given frame) (found .0) (found .1) held)

@@ -12,7 +12,7 @@ use Rattle.words.specs.Changes.{Change, at, changed}
 use Rattle.check_value.specs.Check.{valueOf}
 use Rattle.range.specs.Range.{inRange}
 use Rattle.sheet_rules.specs.Rows.{areas, items, recordArea}
-use Rattle.sheet_rules.specs.Rules.{sound, headerSound, areasSound, itemsSound, settingsSound, recordsSound, itemPlaces, writablePlaces, placesFollow, areasAscend, lengthsSum}
+use Rattle.sheet_rules.specs.Rules.{sound, headerSound, areasSound, itemsSound, settingsSound, recordsSound, itemPlaces, coveredPlaces, placesFollow, areasAscend, lengthsSum}
 use Rattle.lists.specs.Lists.{each, some, upFrom, samePlaces}
 use Rattle.lists.specs.Cases.{firstCase}
 use Rattle.sheet_rules.specs.Lookup.{liesIn, addressOf}
@@ -397,5 +397,5 @@ table =
 
 -- every row is right
 pub reason-cases : each right table ≡ true
-unfolding table right changed bytesOf explanation lentAnswer ringFits recordArea reasonOf firstCase firstShut allOpen addressOf stopPlace stopSide stopIn badItem someBad goodBy bankSound valueOf sound headerSound areasSound itemsSound settingsSound recordsSound each some upFrom samePlaces itemPlaces writablePlaces placesFollow areasAscend lengthsSum areas items liesIn wordAt withWord inRange
+unfolding table right changed bytesOf explanation lentAnswer ringFits recordArea reasonOf firstCase firstShut allOpen addressOf stopPlace stopSide stopIn badItem someBad goodBy bankSound valueOf sound headerSound areasSound itemsSound settingsSound recordsSound each some upFrom samePlaces itemPlaces coveredPlaces placesFollow areasAscend lengthsSum areas items liesIn wordAt withWord inRange
 reason-cases = refl

@@ -12,7 +12,7 @@ use Rattle.range.specs.Range.{inRange}
 use Rattle.lists.specs.Cases.{firstCase}
 use Rattle.lists.specs.Lists.{each, some, upFrom, samePlaces}
 use Rattle.sheet_rules.specs.Rows.{areas, items, recordArea}
-use Rattle.sheet_rules.specs.Rules.{sound, headerSound, areasSound, itemsSound, settingsSound, recordsSound, itemPlaces, writablePlaces, placesFollow, areasAscend, lengthsSum}
+use Rattle.sheet_rules.specs.Rules.{sound, headerSound, areasSound, itemsSound, settingsSound, recordsSound, itemPlaces, coveredPlaces, placesFollow, areasAscend, lengthsSum}
 use Rattle.sheet_rules.specs.Lookup.{liesIn, addressOf}
 use Rattle.sheet_rules.specs.Runs.{allOpen}
 use Rattle.bank_rules.specs.Bank.{bankSound, goodBy}
@@ -151,5 +151,5 @@ table =
 
 -- every row is right
 pub record-reasons : each right table ≡ true
-unfolding table right changed bytesOf explanation lentAnswer ringFits ringSound recordArea reasonOf firstCase firstShut allOpen addressOf stopPlace stopIn badItem someBad goodBy bankSound valueOf sound headerSound areasSound itemsSound settingsSound recordsSound each some upFrom samePlaces itemPlaces writablePlaces placesFollow areasAscend lengthsSum areas items liesIn wordAt withWord inRange
+unfolding table right changed bytesOf explanation lentAnswer ringFits ringSound recordArea reasonOf firstCase firstShut allOpen addressOf stopPlace stopIn badItem someBad goodBy bankSound valueOf sound headerSound areasSound itemsSound settingsSound recordsSound each some upFrom samePlaces itemPlaces coveredPlaces placesFollow areasAscend lengthsSum areas items liesIn wordAt withWord inRange
 record-reasons = refl

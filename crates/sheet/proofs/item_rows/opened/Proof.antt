@@ -30,8 +30,8 @@ area-row-requires c κs = search needs
 cast-next : tie.Need-cast-next Inv-loop μ-loop
 cast-next c = search needs
 
-writable-length-requires : tie.Need-writable-length-requires Inv-loop μ-loop
-writable-length-requires c κs =
+covered-length-requires : tie.Need-covered-length-requires Inv-loop μ-loop
+covered-length-requires c κs =
     let s = now (c .before .before .before .before .before .before .args .sheet) in
     let loop = c .before .before .before .before .loop in
     let area = c .before .area-row in
@@ -40,7 +40,7 @@ writable-length-requires c κs =
     (loop .inv .1 .order)
 
 add-end : tie.Need-add-end Inv-loop μ-loop
-add-end c = omega (arith, c .writable-length .ensures, wide-small (c .before .before .area-row .result))
+add-end c = omega (arith, c .covered-length .ensures, wide-small (c .before .before .area-row .result))
 
 add-area : tie.Need-add-area Inv-loop μ-loop
 add-area c = omega (arith, ltb-true (c .before .before .before .before .before .loop .area) (c .before .before .before .before .before .before .before .args .count) (c .before .before .before .if1 .taken))
@@ -53,7 +53,7 @@ loop-again c =
     let s = now (c .before .before .before .before .before .before .before .args .sheet) in
     let loop = c .before .before .before .before .before .loop in
     let area = c .before .before .area-row in
-    let size = c .writable-length in
+    let size = c .covered-length in
     let inside = ltb-true (c .before .before .before .before .before .loop .area) (c .before .before .before .before .before .before .before .args .count) (c .before .before .before .if1 .taken) in (
       loop .inv .0,
       way-open s (loop .area) (area .result) (size .result) (area .ensures) (omega (arith, loop .inv .0, inside)) (size .ensures)
@@ -81,7 +81,7 @@ opened-spec =
     loop-holds
     area-row-requires
     cast-next
-    writable-length-requires
+    covered-length-requires
     add-end
     add-area
     loop-less

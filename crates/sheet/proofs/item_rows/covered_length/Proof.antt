@@ -1,10 +1,10 @@
--- `sheet::item_rows::writable_length` meets its contract. Assumes nothing.
+-- `sheet::item_rows::covered_length` meets its contract. Assumes nothing.
 use native.Mathlib.Omega.{arith}
 use borrow.Author.Tests.{eq-eqb, ne-eqb, leb-true}
 use Rattle.sheet_rules.specs.Rules.{readAndWrite}
 use borrow.Author.Needs.{needs}
-use Rattle.sheet.proofs.item_rows.writable_length.Statement.{statement}
-use Rattle.sheet.proofs.item_rows.writable_length.Tie as tie
+use Rattle.sheet.proofs.item_rows.covered_length.Statement.{statement}
+use Rattle.sheet.proofs.item_rows.covered_length.Tie as tie
 
 returns : tie.Need-returns
 returns c = simp (ne-eqb (c .before .before .args .area .access) readAndWrite (c .if1 .taken))
@@ -26,6 +26,6 @@ sub-result c =
 returns-2 : tie.Need-returns-2
 returns-2 c = simp (eq-eqb (c .before .before .before .before .args .area .access) readAndWrite (c .before .before .if1 .left))
 
-pub writable-length-spec : {M : Type 1} → statement M
-writable-length-spec =
+pub covered-length-spec : {M : Type 1} → statement M
+covered-length-spec =
     tie.close (tie.spec returns cast-result add-result cast-result-2 sub-result returns-2)
