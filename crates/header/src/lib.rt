@@ -31,7 +31,7 @@ fn header_sound(sheet: &[u8], header: Header) -> bool
     let items = header.items;
     let words = header.words;
     let record_areas = header.record_areas;
-    header.version == 1
+    between(1, 2, header.version)
         && between(1, 8, areas)
         && header.area_offset == 12
         && between(2, 64, items)

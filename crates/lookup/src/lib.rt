@@ -9,8 +9,10 @@ use sheet_rules::Lies;
 use sheet_rules::Purpose;
 use sheet_rules::Run;
 
-// The two accesses: rule S21.
+// The three accesses: rule S21.
 const READ_ONLY: u16 = 1;
+
+const WRITE_ONLY: u16 = 2;
 
 const READ_AND_WRITE: u16 = 3;
 
@@ -75,7 +77,7 @@ fn permitted(purpose: Purpose, access: u16) -> bool
 {
     match purpose {
         Purpose::Read => access == READ_ONLY || access == READ_AND_WRITE,
-        Purpose::Write => access == READ_AND_WRITE,
+        Purpose::Write => access == WRITE_ONLY || access == READ_AND_WRITE,
     }
 }
 

@@ -3,7 +3,7 @@
 ghost use mathlib.Core.Path.{_≡_};
 ghost use mathlib.Core.Bool.{not, cond, _&&_, _||_};
 ghost use lib.Dec.{leb, eqb};
-ghost use Rattle.sheet_rules.specs.Rules.{readable, accessRule, firstLastRule, inArea, lengthOf, isPair, kindRule, boundsRule, lowHighRule, settingAt, addressItem, rateItem, recordCountRule, recordWordsRule, recordsEndRule, inRecords, apartRule};
+ghost use Rattle.sheet_rules.specs.Rules.{accessRule, writeOnlyRule, firstLastRule, inArea, lengthOf, isPair, kindRule, boundsRule, lowHighRule, settingAt, addressItem, rateItem, recordCountRule, recordWordsRule, recordsEndRule, inRecords, apartRule};
 use sheet_rules::Area;
 use sheet_rules::Item;
 use sheet_rules::RecordArea;
@@ -33,21 +33,22 @@ pub fn length_of(area: Area) -> u32
     area.last as u32 + 1 - area.first as u32
 }
 
-// Rule S21.
-fn known_access(access: u16) -> bool
-    ensures { λ r. ⌜ r ≡ readable access ⌝ }
+// Rules S21 and S30: access 2 is in sheets of version 2 alone.
+fn known_access(area: Area, version: u16) -> bool
+    ensures { λ r. ⌜ r ≡ (accessRule area && writeOnlyRule version area) ⌝ }
 {
-    if access == 1 {
-        return true;
+    if area.access == 2 {
+        return version == 2;
     }
-    access == 3
+    area.access == 1 || area.access == 3
 }
 
-// One area behind others: `lowest` is one past the last address so far, `places` the sum of the lengths so far. Rules S21 to S24.
-pub fn area_sound(area: Area, lowest: u32, places: u32) -> bool
-    ensures { λ r. ⌜ r ≡ (accessRule area && firstLastRule area && leb lowest (area .first) && eqb (area .place) places) ⌝ }
+// One area behind others, in a sheet of a version: `lowest` is one past the last address so far, `places` the sum of the lengths so far.
+// Rules S21 to S24 and S30.
+pub fn area_sound(area: Area, version: u16, lowest: u32, places: u32) -> bool
+    ensures { λ r. ⌜ r ≡ (accessRule area && writeOnlyRule version area && firstLastRule area && leb lowest (area .first) && eqb (area .place) places) ⌝ }
 {
-    if !known_access(area.access) {
+    if !known_access(area, version) {
         return false;
     }
     if area.last < area.first {

@@ -10,22 +10,22 @@ use lib.Dec.{leb, eqb, leb·zero}
 use borrow.Author.Tests.{le-leb, leb-true}
 use Rattle.lists.proofs.Tests.{and-left-comm, first-of, second-of}
 use Rattle.sheet_rules.specs.declared.Area.{Area}
-use Rattle.sheet_rules.specs.Rows.{areas, areaAt, areaCount, bankWords, functions, clearAddress}
+use Rattle.sheet_rules.specs.Rows.{version, areas, areaAt, areaCount, bankWords, functions, clearAddress}
 use Rattle.sheet_rules.proofs.Rows.{areasFrom}
 use Rattle.lists.proofs.Walks.{rows-on, rows-end}
 use Rattle.lists.specs.Lists.{each, some}
-use Rattle.sheet_rules.specs.Rules.{accessRule, firstLastRule, areasAscend, placesFollow, lengthsSum, inArea, lengthOf, allowed, bitOf05, clearAddressRule, areasSound}
+use Rattle.sheet_rules.specs.Rules.{accessRule, writeOnlyRule, firstLastRule, areasAscend, placesFollow, lengthsSum, inArea, lengthOf, allowed, bitOf05, clearAddressRule, areasSound}
 
--- an area in its turn: behind the lowest address that is free, at the sum of the lengths, clear of the clear address
-abbrev pub inTurn : ℕ → ℕ → Area → Bool
-inTurn lowest places area =
-    accessRule area && firstLastRule area && leb lowest (area .first) && eqb (area .place) places
+-- an area in its turn, in a sheet of a version: behind the lowest address that is free, at the sum of the lengths
+abbrev pub inTurn : ℕ → ℕ → ℕ → Area → Bool
+inTurn version lowest places area =
+    accessRule area && writeOnlyRule version area && firstLastRule area && leb lowest (area .first) && eqb (area .place) places
 
-unfoldable pub walk : Bool → ℕ → ℕ → ℕ → ℕ → List Area → Bool
-walk kept clear total lowest places [] = eqb places total
-walk kept clear total lowest places (area ∷ behind) =
-    inTurn lowest places area && not (kept && inArea clear area)
-    && walk kept clear total (area .last + 1) (places + lengthOf area) behind
+unfoldable pub walk : ℕ → Bool → ℕ → ℕ → ℕ → ℕ → List Area → Bool
+walk version kept clear total lowest places [] = eqb places total
+walk version kept clear total lowest places (area ∷ behind) =
+    inTurn version lowest places area && not (kept && inArea clear area)
+    && walk version kept clear total (area .last + 1) (places + lengthOf area) behind
 
 unfoldable pub from : ℕ → List Area → Bool
 from lowest l = each (λ area. leb lowest (area .first)) l
@@ -42,15 +42,16 @@ higher low high order (area ∷ behind) = go (higher low high order behind) (leb
     go rest false e = simp and-false
 
 -- the walk's head and rest, regrouped rule by rule
-regroup : (a f l p c ea ef el eh asc fo su n : Bool) → ((f && l) ≡ true → (el && eh) ≡ eh)
-    → (a && f && l && p && c && (ea && ef && (eh && asc) && fo && su && n))
-    ≡ ((a && ea) && (f && ef) && ((l && el) && (eh && asc)) && (p && fo) && su && (c && n))
-regroup false f l p c ea ef el eh asc fo su n h = refl
-regroup true false l p c ea ef el eh asc fo su n h = simp and-false
-regroup true true false p c ea ef el eh asc fo su n h = simp and-false
-regroup true true true p c ea ef el eh asc fo su n h =
+regroup : (a w f l p c ea ew ef el eh asc fo su n : Bool) → ((f && l) ≡ true → (el && eh) ≡ eh)
+    → (a && w && f && l && p && c && (ea && ew && ef && (eh && asc) && fo && su && n))
+    ≡ ((a && ea) && (w && ew) && (f && ef) && ((l && el) && (eh && asc)) && (p && fo) && su && (c && n))
+regroup false w f l p c ea ew ef el eh asc fo su n h = refl
+regroup true false f l p c ea ew ef el eh asc fo su n h = simp and-false
+regroup true true false l p c ea ew ef el eh asc fo su n h = simp and-false
+regroup true true true false p c ea ew ef el eh asc fo su n h = simp and-false
+regroup true true true true p c ea ew ef el eh asc fo su n h =
     let e : (el && (eh && asc)) ≡ (eh && asc) = rw (← and-assoc el eh asc, h refl) in
-    simp e (simp (and-assoc, and-left-comm) (and-assoc p c (ea && (ef && (eh && (asc && (fo && (su && n))))))))
+    simp e (simp (and-assoc, and-left-comm) (and-assoc p c (ea && (ew && (ef && (eh && (asc && (fo && (su && n)))))))))
 
 clear-parts : (kept here behind : Bool) → not (kept && (here || behind)) ≡ (not (kept && here) && not (kept && behind))
 clear-parts false here behind = refl
@@ -58,17 +59,17 @@ clear-parts true true behind = refl
 clear-parts true false behind = refl
 
 -- the walk is the rules of 01, each over all the areas
-pub walk-rules : (kept : Bool) (clear total lowest places : ℕ) (l : List Area)
-    → walk kept clear total lowest places l
-    ≡ (each accessRule l && each firstLastRule l && (from lowest l && areasAscend l) && placesFollow places l
+pub walk-rules : (version : ℕ) (kept : Bool) (clear total lowest places : ℕ) (l : List Area)
+    → walk version kept clear total lowest places l
+    ≡ (each accessRule l && each (writeOnlyRule version) l && each firstLastRule l && (from lowest l && areasAscend l) && placesFollow places l
     && eqb (places + lengthsSum l) total && not (kept && some (inArea clear) l))
 unfolding walk from each some areasAscend placesFollow lengthsSum
-walk-rules kept clear total lowest places [] = simp (add-zero, and-false, and-true)
-walk-rules kept clear total lowest places (area ∷ behind) =
-    ap (λ (rest : Bool). inTurn lowest places area && not (kept && inArea clear area) && rest)
-    (walk-rules kept clear total (area .last + 1) (places + lengthOf area) behind)
-    ∙ regroup (accessRule area) (firstLastRule area) (leb lowest (area .first)) (eqb (area .place) places)
-    (not (kept && inArea clear area)) (each accessRule behind) (each firstLastRule behind) (from lowest behind)
+walk-rules version kept clear total lowest places [] = simp (add-zero, and-false, and-true)
+walk-rules version kept clear total lowest places (area ∷ behind) =
+    ap (λ (rest : Bool). inTurn version lowest places area && not (kept && inArea clear area) && rest)
+    (walk-rules version kept clear total (area .last + 1) (places + lengthOf area) behind)
+    ∙ regroup (accessRule area) (writeOnlyRule version area) (firstLastRule area) (leb lowest (area .first)) (eqb (area .place) places)
+    (not (kept && inArea clear area)) (each accessRule behind) (each (writeOnlyRule version) behind) (each firstLastRule behind) (from lowest behind)
     (from (area .last + 1) behind) (areasAscend behind) (placesFollow (places + lengthOf area) behind)
     (eqb (places + lengthOf area + lengthsSum behind) total) (not (kept && some (inArea clear) behind))
     (λ e. higher lowest (area .last + 1)
@@ -90,7 +91,7 @@ module _ (sheet : List ℕ) where
   wordRule = allowed sheet bitOf05 || eqb (clearAddress sheet) 0
 
   abbrev pub walkAll : Bool
-  walkAll = walk (allowed sheet bitOf05) (clearAddress sheet) (bankWords sheet) 0 0 (areas sheet)
+  walkAll = walk (version sheet) (allowed sheet bitOf05) (clearAddress sheet) (bankWords sheet) 0 0 (areas sheet)
 
   clear-rule : wordRule ≡ true → clearAddressRule sheet ≡ not (allowed sheet bitOf05 && some (inArea (clearAddress sheet)) (areas sheet))
   clear-rule = go (allowed sheet bitOf05) (eqb (clearAddress sheet) 0) (some (inArea (clearAddress sheet)) (areas sheet))
@@ -102,7 +103,7 @@ module _ (sheet : List ℕ) where
   pub walk-sound : wordRule ≡ true → walkAll ≡ areasSound sheet
   unfolding areasSound
   walk-sound e =
-      walk-rules (allowed sheet bitOf05) (clearAddress sheet) (bankWords sheet) 0 0 (areas sheet)
+      walk-rules (version sheet) (allowed sheet bitOf05) (clearAddress sheet) (bankWords sheet) 0 0 (areas sheet)
       ∙ simp (all-from-zero, zero-add, clear-rule e)
 
   -- the code's own words for the two
@@ -124,25 +125,25 @@ module _ (sheet : List ℕ) where
       go false none outside e = e
 
 -- the walk at a row and behind it, and behind the last row
-module _ (sheet : List ℕ) (kept : Bool) (clear total lowest places k : ℕ) where
+module _ (sheet : List ℕ) (version : ℕ) (kept : Bool) (clear total lowest places k : ℕ) where
   pub walk-on : (area : Area) → area ≡ areaAt sheet k → k < areaCount sheet
-      → walk kept clear total lowest places (areasFrom sheet k)
-      ≡ (inTurn lowest places area && not (kept && inArea clear area)
-      && walk kept clear total (area .last + 1) (places + lengthOf area) (areasFrom sheet (k + 1)))
+      → walk version kept clear total lowest places (areasFrom sheet k)
+      ≡ (inTurn version lowest places area && not (kept && inArea clear area)
+      && walk version kept clear total (area .last + 1) (places + lengthOf area) (areasFrom sheet (k + 1)))
   unfolding walk
   walk-on area here inside =
-      ap (walk kept clear total lowest places)
+      ap (walk version kept clear total lowest places)
       (rows-on (areaAt sheet) k (areaCount sheet) inside ∙ ap (λ (a : Area). a ∷ areasFrom sheet (k + 1)) (sym here))
 
-  pub walk-next : (area : Area) {size : ℕ} → area ≡ areaAt sheet k → k < areaCount sheet → inTurn lowest places area ≡ true
+  pub walk-next : (area : Area) {size : ℕ} → area ≡ areaAt sheet k → k < areaCount sheet → inTurn version lowest places area ≡ true
       → not (kept && inArea clear area) ≡ true → size ≡ lengthOf area
-      → walk kept clear total lowest places (areasFrom sheet k)
-      ≡ walk kept clear total (area .last + 1) (places + size) (areasFrom sheet (k + 1))
+      → walk version kept clear total lowest places (areasFrom sheet k)
+      ≡ walk version kept clear total (area .last + 1) (places + size) (areasFrom sheet (k + 1))
   walk-next area here inside turn outside size =
       walk-on area here inside
-      ∙ ap₂ (λ (x y : Bool). x && y && walk kept clear total (area .last + 1) (places + lengthOf area) (areasFrom sheet (k + 1))) turn outside
-      ∙ ap (λ (n : ℕ). walk kept clear total (area .last + 1) (places + n) (areasFrom sheet (k + 1))) (sym size)
+      ∙ ap₂ (λ (x y : Bool). x && y && walk version kept clear total (area .last + 1) (places + lengthOf area) (areasFrom sheet (k + 1))) turn outside
+      ∙ ap (λ (n : ℕ). walk version kept clear total (area .last + 1) (places + n) (areasFrom sheet (k + 1))) (sym size)
 
-  pub walk-end : areaCount sheet ≤ k → walk kept clear total lowest places (areasFrom sheet k) ≡ eqb places total
+  pub walk-end : areaCount sheet ≤ k → walk version kept clear total lowest places (areasFrom sheet k) ≡ eqb places total
   unfolding walk
-  walk-end past = ap (walk kept clear total lowest places) (rows-end (areaAt sheet) k (areaCount sheet) past)
+  walk-end past = ap (walk version kept clear total lowest places) (rows-end (areaAt sheet) k (areaCount sheet) past)

@@ -9,6 +9,7 @@ pub(crate) fn areas_sound(sheet: &[u8], header: Header) -> bool
     ensures { λ r. ⌜ r ≡ areasSound (now (sheet .entry)) ⌝ }
 {
     let count = header.areas;
+    let version = header.version;
     let clear = header.clear;
     let allowed = header::sums_05(header.functions);
     if !header::clear_sound_without_05(allowed, clear) {
@@ -19,7 +20,7 @@ pub(crate) fn areas_sound(sheet: &[u8], header: Header) -> bool
     let mut k: u16 = 0;
     while k < count {
         let area = rows::area_row(sheet, k);
-        if !one_row::area_sound(area, lowest, places) {
+        if !one_row::area_sound(area, version, lowest, places) {
             return false;
         }
         if !one_row::clear_outside(allowed, clear, area) {

@@ -10,7 +10,7 @@ use sheet_rules::Area;
 use sheet_rules::Header;
 use sheet_rules::Item;
 
-// How far the places of the access 3 areas are covered: `next` is the next place, `end` ends the places of its area, and `area` is
+// How far the places of the access 2 and access 3 areas are covered: `next` is the next place, `end` ends the places of its area, and `area` is
 // the index of the area behind that one.
 struct Cover {
     next: u32,
@@ -18,13 +18,20 @@ struct Cover {
     area: u16,
 }
 
-// How many of an area's places are covered by items: all of an access 3 area's, and none of another's. Its first address is not above
-// its last.
+// Whether items cover the places of an area of this access: rule S47.
+fn is_covered(access: u16) -> bool
+    ensures { λ r. ⌜ r ≡ covered access ⌝ }
+{
+    access == 2 || access == 3
+}
+
+// How many of an area's places are covered by items: all of an access 2 or access 3 area's, and none of another's. Its first address is
+// not above its last.
 fn covered_length(area: Area) -> u32
     requires { ⌜ firstLastRule area ≡ true ⌝ }
     ensures { λ r. ⌜ r ≡ cond (covered (area .access)) (lengthOf area) 0 ⌝ }
 {
-    if area.access != 3 {
+    if !is_covered(area.access) {
         return 0;
     }
     area.last as u32 + 1 - area.first as u32

@@ -6,7 +6,6 @@ use Prim.Native.Nat.{_+_, _*_}
 use lib.Dec.{eqb}
 use lib.ListN.{length}
 use denote.Ref.{now}
-use borrow.Author.Tests.{eq-eqb, ne-eqb}
 use Rattle.sheet_rules.specs.declared.Header.{Header}
 use Rattle.sheet_rules.specs.Rules.{headerSound}
 use Rattle.lists.specs.Lists.{between}
@@ -18,7 +17,7 @@ use Rattle.header.proofs.header_sound.Tie as tie
 -- the rules of a header, but for the last one, by its words
 module _ (h : Header) where
   abbrev rules-2 : Bool
-  rules-2 = eqb (h .version) 1 && between 1 8 (h .areas)
+  rules-2 = between 1 2 (h .version) && between 1 8 (h .areas)
 
   abbrev rules-3 : Bool
   rules-3 = rules-2 && eqb (h .«area_offset») 12
@@ -47,6 +46,9 @@ between-requires c κs = search needs
 between-requires-2 : tie.Need-between-requires-2
 between-requires-2 c κs = search needs
 
+between-requires-3 : tie.Need-between-requires-3
+between-requires-3 c κs = search needs
+
 cast-if5 : tie.Need-cast-if5
 cast-if5 c = search needs
 
@@ -59,11 +61,11 @@ mul-if5 c = search needs
 add-if5 : tie.Need-add-if5
 add-if5 c = search needs
 
-between-requires-3 : tie.Need-between-requires-3
-between-requires-3 c κs = search needs
-
 between-requires-4 : tie.Need-between-requires-4
 between-requires-4 c κs = search needs
+
+between-requires-5 : tie.Need-between-requires-5
+between-requires-5 c κs = search needs
 
 cast-if8 : tie.Need-cast-if8
 cast-if8 c = search needs
@@ -95,8 +97,8 @@ mul-if8-3 c = search needs
 add-if8-3 : tie.Need-add-if8-3
 add-if8-3 c = search needs
 
-between-requires-5 : tie.Need-between-requires-5
-between-requires-5 c κs = search needs
+between-requires-6 : tie.Need-between-requires-6
+between-requires-6 c κs = search needs
 
 cast-result : tie.Need-cast-result
 cast-result c = search needs
@@ -104,14 +106,11 @@ cast-result c = search needs
 mul-result : tie.Need-mul-result
 mul-result c = search needs
 
-first : (h : Header) → eqb (h .version) 1 ≡ eqb (h .version) 1
-first h = refl
-
 so-far-1 : (c : tie.Joined1) → c .if1 .if2 ≡ rules-2 (c .before .before .before .args .header)
 so-far-1 c =
     let h = c .before .before .before .args .header in
-    ⊎-elim (λ w. tested (first h) (eq-eqb _ _ (w .0 .taken)) (w .2 ∙ w .1 .ensures))
-    (λ w. carried (between 1 8 (h .areas)) (first h) (ne-eqb _ _ (w .0 .left)) (w .1)) (c .if1 .came)
+    ⊎-elim (λ w. tested (c .before .between .ensures) (w .0 .taken) (w .2 ∙ w .1 .ensures))
+    (λ w. carried (between 1 8 (h .areas)) (c .before .between .ensures) (w .0 .left) (w .1)) (c .if1 .came)
 
 so-far-2 : (c : tie.Joined2) → c .if2 .if3 ≡ rules-3 (c .before .before .before .before .args .header)
 so-far-2 c =
@@ -175,12 +174,13 @@ header-sound-spec =
     (tie.spec
     between-requires
     between-requires-2
+    between-requires-3
     cast-if5
     cast-if5-2
     mul-if5
     add-if5
-    between-requires-3
     between-requires-4
+    between-requires-5
     cast-if8
     cast-if8-2
     mul-if8
@@ -191,7 +191,7 @@ header-sound-spec =
     cast-if8-4
     mul-if8-3
     add-if8-3
-    between-requires-5
+    between-requires-6
     cast-result
     mul-result
     returns

@@ -6,7 +6,7 @@ use Prim.Native.Nat.{ℕ, _-_, _*_, _≤_}
 use native.Mathlib.Omega.{arith}
 use lib.Dec.{eqb}
 use denote.Ref.{now}
-use Rattle.sheet_rules.specs.Rows.{areaAt, areaCount, bankWords, functions, clearAddress}
+use Rattle.sheet_rules.specs.Rows.{version, areaAt, areaCount, bankWords, functions, clearAddress}
 use Rattle.sheet_rules.specs.Rules.{allowed, bitOf05, areasSound}
 use Rattle.lists.proofs.Tests.{refused, passed}
 use Rattle.lists.proofs.Walks.{rows-all}
@@ -19,12 +19,12 @@ use Rattle.sheet.proofs.area_rows.areas_sound.Statement.{statement}
 use Rattle.sheet.proofs.area_rows.areas_sound.Tie as tie
 
 abbrev Inv-loop : tie.InvT-loop
-Inv-loop sheet header count clear allowed lowest₀ places₀ k₀ lowest places k =
+Inv-loop sheet header count version clear allowed lowest₀ places₀ k₀ lowest places k =
     (k ≤ count) × (places ≤ 65536 * k)
-    × (walk allowed clear (bankWords sheet) lowest places (areasFrom sheet k) ≡ areasSound sheet)
+    × (walk version allowed clear (bankWords sheet) lowest places (areasFrom sheet k) ≡ areasSound sheet)
 
 abbrev μ-loop : tie.MeasureT-loop
-μ-loop sheet header count clear allowed lowest₀ places₀ k₀ lowest places k = count - k
+μ-loop sheet header count version clear allowed lowest₀ places₀ k₀ lowest places k = count - k
 
 sums-05-requires : tie.Need-sums-05-requires Inv-loop μ-loop
 sums-05-requires c κs = search needs
@@ -47,9 +47,10 @@ loop-holds c =
     let clear-word = ap (λ (h : Header). h .clear) pre in (
       omega arith,
       omega arith,
-      ap₂ (λ (kept : Bool) (clear : ℕ). walk kept clear (bankWords s) 0 0 (areasFrom s 0))
+      ap (λ (v : ℕ). walk v (c .before .before .sums-05 .result) (c .before .before .before .before .args .header .clear) (bankWords s) 0 0 (areasFrom s 0)) (ap (λ (h : Header). h .version) pre)
+          ∙ ap₂ (λ (kept : Bool) (clear : ℕ). walk (version s) kept clear (bankWords s) 0 0 (areasFrom s 0))
           (allowed-word s functions-word (c .before .before .sums-05 .ensures)) clear-word
-          ∙ ap (walk (allowed s bitOf05) (clearAddress s) (bankWords s) 0 0) (rows-all (areaAt s) (areaCount s) ∙ areas-rows s)
+          ∙ ap (walk (version s) (allowed s bitOf05) (clearAddress s) (bankWords s) 0 0) (rows-all (areaAt s) (areaCount s) ∙ areas-rows s)
           ∙ walk-sound s (kept-word s functions-word (c .before .before .sums-05 .ensures) clear-word
           ∙ passed (c .before .clear-sound-without-05 .ensures) (c .if1 .left)),
     )
@@ -66,7 +67,7 @@ returns-2 c =
     let s = now (a .sheet) in
     let loop = c .before .before .before .before .loop in
     let inside : loop .k < areaCount s = omega (arith, ap (λ (h : Header). h .areas) (c .before .before .before .before .before .before .before .before .before .pre)) in
-    sym (walk-on s (c .before .before .before .before .before .before .before .sums-05 .result) (a .header .clear) (bankWords s) (loop .lowest) (loop .places) (loop .k)
+    sym (walk-on s (a .header .version) (c .before .before .before .before .before .before .before .sums-05 .result) (a .header .clear) (bankWords s) (loop .lowest) (loop .places) (loop .k)
     (c .before .before .area-row .result) (c .before .before .area-row .ensures) inside
     ∙ simp (refused (c .before .area-sound .ensures) (c .if2 .taken)))
     ∙ loop .inv .2
@@ -80,7 +81,7 @@ returns-3 c =
     let s = now (a .sheet) in
     let loop = c .before .before .before .before .before .before .loop in
     let inside : loop .k < areaCount s = omega (arith, ap (λ (h : Header). h .areas) (c .before .before .before .before .before .before .before .before .before .before .before .pre)) in
-    sym (walk-on s (c .before .before .before .before .before .before .before .before .before .sums-05 .result) (a .header .clear) (bankWords s) (loop .lowest) (loop .places) (loop .k)
+    sym (walk-on s (a .header .version) (c .before .before .before .before .before .before .before .before .before .sums-05 .result) (a .header .clear) (bankWords s) (loop .lowest) (loop .places) (loop .k)
     (c .before .before .before .before .area-row .result) (c .before .before .before .before .area-row .ensures) inside
     ∙ simp (passed (c .before .before .before .area-sound .ensures) (c .before .before .if2 .left), refused (c .before .clear-outside .ensures) (c .if3 .taken)))
     ∙ loop .inv .2
@@ -111,7 +112,7 @@ loop-again c =
     let inside : loop .k < areaCount s = omega (arith, ap (λ (h : Header). h .areas) (c .before .before .before .before .before .before .before .before .before .before .before .before .before .pre)) in (
       omega arith,
       omega (arith, c .length-of .ensures),
-      sym (walk-next s (c .before .before .before .before .before .before .before .before .before .before .before .sums-05 .result) (a .header .clear) (bankWords s) (loop .lowest) (loop .places) (loop .k)
+      sym (walk-next s (a .header .version) (c .before .before .before .before .before .before .before .before .before .before .before .sums-05 .result) (a .header .clear) (bankWords s) (loop .lowest) (loop .places) (loop .k)
           (c .before .before .before .before .before .before .area-row .result) (c .before .before .before .before .before .before .area-row .ensures) inside (passed (c .before .before .before .before .before .area-sound .ensures) (c .before .before .before .before .if2 .left))
           (passed (c .before .before .before .clear-outside .ensures) (c .before .before .if3 .left)) (c .length-of .ensures)) ∙ loop .inv .2,
     )
@@ -126,7 +127,7 @@ returns-4 c =
     let loop = c .before .before .loop in
     let past : areaCount s ≤ loop .k = omega (arith, ap (λ (h : Header). h .areas) (c .before .before .before .before .before .before .before .pre)) in
     ap (eqb (loop .places)) (ap (λ (h : Header). h .bank) (c .before .before .before .before .before .before .before .pre))
-    ∙ sym (walk-end s (c .before .before .before .before .before .sums-05 .result) (a .header .clear) (bankWords s) (loop .lowest) (loop .places) (loop .k) past)
+    ∙ sym (walk-end s (a .header .version) (c .before .before .before .before .before .sums-05 .result) (a .header .clear) (bankWords s) (loop .lowest) (loop .places) (loop .k) past)
     ∙ loop .inv .2
 
 pub areas-sound-spec : {M : Type 1} → statement M

@@ -1,13 +1,16 @@
 -- `sheet::item_rows::covered_length` meets its contract. Assumes nothing.
 use native.Mathlib.Omega.{arith}
-use borrow.Author.Tests.{eq-eqb, ne-eqb, leb-true}
-use Rattle.sheet_rules.specs.Rules.{readAndWrite}
+use borrow.Author.Tests.{leb-true}
+use Rattle.lists.proofs.Tests.{refused, passed}
 use borrow.Author.Needs.{needs}
 use Rattle.sheet.proofs.item_rows.covered_length.Statement.{statement}
 use Rattle.sheet.proofs.item_rows.covered_length.Tie as tie
 
+is-covered-requires : tie.Need-is-covered-requires
+is-covered-requires c κs = search needs
+
 returns : tie.Need-returns
-returns c = simp (ne-eqb (c .before .before .args .area .access) readAndWrite (c .if1 .taken))
+returns c = simp (refused (c .before .is-covered .ensures) (c .if1 .taken))
 
 cast-result : tie.Need-cast-result
 cast-result c = search needs
@@ -24,8 +27,8 @@ sub-result c =
     omega (arith, leb-true (area .first) (area .last) (c .before .before .before .before .pre))
 
 returns-2 : tie.Need-returns-2
-returns-2 c = simp (eq-eqb (c .before .before .before .before .args .area .access) readAndWrite (c .before .before .if1 .left))
+returns-2 c = simp (passed (c .before .before .before .is-covered .ensures) (c .before .before .if1 .left))
 
 pub covered-length-spec : {M : Type 1} → statement M
 covered-length-spec =
-    tie.close (tie.spec returns cast-result add-result cast-result-2 sub-result returns-2)
+    tie.close (tie.spec is-covered-requires returns cast-result add-result cast-result-2 sub-result returns-2)
