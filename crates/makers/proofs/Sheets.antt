@@ -4,15 +4,18 @@ use Prim.Native.Nat.{ℕ}
 use mathlib.Core.Path.{_≡_, refl, ap}
 use mathlib.Core.Bool.{Bool, true}
 use mathlib.Core.List.{List, [], _∷_}
+use lib.ListN.{length}
 use Rattle.range.specs.Range.{inRange}
 use Rattle.words.specs.Words.{wordAt}
 use Rattle.sheet_rules.specs.declared.Area.{Area}
 use Rattle.sheet_rules.specs.declared.Item.{Item}
-use Rattle.sheet_rules.specs.Rows.{areaCount, itemCount, bankWords, functions, clearAddress, addressPlace, ratePlace, areas, items}
+use Rattle.sheet_rules.specs.declared.Lies.{Lies}
+use Rattle.sheet_rules.specs.declared.Lies.the-variants.{At, Nowhere}
+use Rattle.sheet_rules.specs.Rows.{version, areaCount, itemCount, bankWords, functions, clearAddress, addressPlace, ratePlace, areas, items}
 use Rattle.sheet_rules.specs.Rules.{sound, headerSound, areasSound, itemsSound, settingsSound, recordsSound, itemPlaces, coveredPlaces, placesFollow, areasAscend, lengthsSum}
 use Rattle.lists.specs.Lists.{each, some, upFrom, samePlaces}
-use Rattle.sheet_rules.specs.Lookup.{addressOf}
-use Rattle.makers.specs.Maps.{Row, Map, ux, aswe, bore40, bore50, bore80}
+use Rattle.sheet_rules.specs.Lookup.{addressOf, liesIn}
+use Rattle.makers.specs.Maps.{Row, Map, ux, aswe, aswe40, bore50, bore80}
 use Rattle.makers.specs.Sheets.{areasOf, itemsOf, itemWords, sheetOf}
 
 -- the meters that have a map
@@ -21,11 +24,11 @@ pub data Meter : Type 0 where
 
 abbrev pub mapOf : Meter → Map
 mapOf ux15-25 = ux
-mapOf aswe-40 = aswe bore40
+mapOf aswe-40 = aswe40
 mapOf aswe-50 = aswe bore50
 mapOf aswe-80 = aswe bore80
 
--- a meter's numbers of areas, of items and of bank words: rules M14 and M25
+-- a meter's numbers of areas, of items and of bank words: rules M14, M25 and M27
 pub record Counts : Type 0 where
   pub areas : ℕ
   pub items : ℕ
@@ -33,13 +36,25 @@ pub record Counts : Type 0 where
 
 abbrev pub countsOf : Meter → Counts
 countsOf ux15-25 = record { areas = 2; items = 18; bank = 34 }
-countsOf aswe-40 = record { areas = 5; items = 22; bank = 38 }
+countsOf aswe-40 = record { areas = 6; items = 27; bank = 45 }
 countsOf aswe-50 = record { areas = 5; items = 22; bank = 38 }
 countsOf aswe-80 = record { areas = 5; items = 22; bank = 38 }
 
--- an item as a row of a map: by the address of its place
+-- the access of what lies somewhere; 0, which is none, where nothing does
+abbrev pub accessIn : Lies → ℕ
+accessIn (At place access) = access
+accessIn Nowhere = 0
+
+-- an item as a row of a map: by the address of its place, with the access there
 abbrev pub rowOf : List Area → Item → Row
-rowOf all item = record { first = addressOf all (item .place); kind = item .kind; low = item .low; high = item .high }
+rowOf all item =
+    record {
+      first = addressOf all (item .place);
+      kind = item .kind;
+      low = item .low;
+      high = item .high;
+      access = accessIn (liesIn all (addressOf all (item .place)));
+    }
 
 unfoldable pub rowsOf : List Area → List Item → List Row
 rowsOf all [] = []
@@ -48,6 +63,7 @@ rowsOf all (item ∷ behind) = rowOf all item ∷ rowsOf all behind
 -- what a sheet says
 pub record Said : Type 0 where
   pub sound : Bool
+  pub version : ℕ
   pub counts : Counts
   pub areas : List Area
   pub items : List Item
@@ -61,6 +77,7 @@ unfoldable pub saidBy : List ℕ → Said
 saidBy sheet =
     record {
       sound = sound sheet;
+      version = version sheet;
       counts = record { areas = areaCount sheet; items = itemCount sheet; bank = bankWords sheet };
       areas = areas sheet;
       items = items sheet;
@@ -76,6 +93,7 @@ unfoldable pub meant : Map → Counts → Said
 meant map counts =
     record {
       sound = true;
+      version = map .version;
       counts = counts;
       areas = areasOf map;
       items = itemsOf map;
@@ -87,7 +105,7 @@ meant map counts =
     }
 
 pub says : (meter : Meter) → saidBy (sheetOf (mapOf meter)) ≡ meant (mapOf meter) (countsOf meter)
-unfolding saidBy meant rowsOf areasOf itemsOf sheetOf sound headerSound areasSound itemsSound settingsSound recordsSound each some upFrom samePlaces itemPlaces coveredPlaces placesFollow areasAscend lengthsSum areas items wordAt inRange addressOf
+unfolding saidBy meant rowsOf areasOf itemsOf sheetOf sound headerSound areasSound itemsSound settingsSound recordsSound each some upFrom samePlaces itemPlaces coveredPlaces placesFollow areasAscend lengthsSum areas items wordAt inRange addressOf liesIn
 says ux15-25 = refl
 says aswe-40 = refl
 says aswe-50 = refl
@@ -97,7 +115,7 @@ pub sheet-sound : (meter : Meter) → sound (sheetOf (mapOf meter)) ≡ true
 unfolding saidBy meant
 sheet-sound meter = ap (λ (said : Said). said .sound) (says meter)
 
--- the areas of each sheet, typed as the makers have their registers: rules M10 to M25
+-- the areas of each sheet, typed as the makers have their registers: rules M10 to M27
 abbrev area : ℕ → ℕ → ℕ → ℕ → Area
 area first last place access = record { first = first; last = last; place = place; access = access }
 
@@ -106,7 +124,9 @@ asweAreas = area 0x00FF 0x0109 0 3 ∷ area 0x010D 0x0113 11 3 ∷ area 0x0115 0
 
 abbrev pub areasPrinted : Meter → List Area
 areasPrinted ux15-25 = area 0x0100 0x0116 0 3 ∷ area 0x0200 0x020A 23 1 ∷ []
-areasPrinted aswe-40 = asweAreas
+areasPrinted aswe-40 =
+    area 0x00FF 0x0109 0 3 ∷ area 0x010D 0x0113 11 3 ∷ area 0x0115 0x0116 18 3 ∷ area 0x0118 0x011E 20 2 ∷ area 0x0123 0x0124 27 3
+    ∷ area 0x01FF 0x020E 29 1 ∷ []
 areasPrinted aswe-50 = asweAreas
 areasPrinted aswe-80 = asweAreas
 
@@ -118,14 +138,25 @@ areas-printed aswe-50 = refl
 areas-printed aswe-80 = refl
 
 -- .. and the sum of the functions that each allows: all four, and all but 05; the clear address, and 0 where there is none
-pub functions-printed : (functions (sheetOf ux) ∷ functions (sheetOf (aswe bore40)) ∷ functions (sheetOf (aswe bore50)) ∷ functions (sheetOf (aswe bore80)) ∷ [])
+pub functions-printed : (functions (sheetOf ux) ∷ functions (sheetOf aswe40) ∷ functions (sheetOf (aswe bore50)) ∷ functions (sheetOf (aswe bore80)) ∷ [])
     ≡ 15 ∷ 13 ∷ 13 ∷ 13 ∷ []
 unfolding sheetOf wordAt
 functions-printed = refl
 
-pub clears-printed : (clearAddress (sheetOf ux) ∷ clearAddress (sheetOf (aswe bore40)) ∷ []) ≡ 0x0300 ∷ 0x0000 ∷ []
+pub clears-printed : (clearAddress (sheetOf ux) ∷ clearAddress (sheetOf aswe40) ∷ clearAddress (sheetOf (aswe bore50)) ∷ []) ≡ 0x0300 ∷ 0x0000 ∷ 0x0000 ∷ []
 unfolding sheetOf wordAt
 clears-printed = refl
+
+-- .. and the version of each, and how many bytes it has
+pub versions-printed : (version (sheetOf ux) ∷ version (sheetOf aswe40) ∷ version (sheetOf (aswe bore50)) ∷ version (sheetOf (aswe bore80)) ∷ [])
+    ≡ 1 ∷ 2 ∷ 1 ∷ 1 ∷ []
+unfolding sheetOf wordAt
+versions-printed = refl
+
+pub lengths-printed : (length (sheetOf ux) ∷ length (sheetOf aswe40) ∷ length (sheetOf (aswe bore50)) ∷ length (sheetOf (aswe bore80)) ∷ [])
+    ≡ 256 ∷ 396 ∷ 328 ∷ 328 ∷ []
+unfolding sheetOf
+lengths-printed = refl
 
 -- the words of an item's row, each bound upper word first: the makers' bounds are low, these are not
 abbrev bounded : ℕ → ℕ → Item

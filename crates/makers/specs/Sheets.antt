@@ -1,6 +1,6 @@
 -- What the sheet of a map reads as, its areas and items, and the bytes of that sheet, all computed from the map. Assumes nothing.
 use Prim.Native.Nat.{ℕ, _+_, _-_, _*_, _/_, _%_}
-use mathlib.Core.Bool.{cond}
+use mathlib.Core.Bool.{cond, _&&_}
 use mathlib.Core.List.{List, [], _∷_, _++_}
 use lib.Dec.{eqb}
 use lib.ListN.{length}
@@ -9,13 +9,13 @@ use Rattle.range.specs.Range.{unsignedPair}
 use Rattle.sheet_rules.specs.declared.Area.{Area}
 use Rattle.sheet_rules.specs.declared.Item.{Item}
 use Rattle.sheet_rules.specs.Rows.{areaRows}
-use Rattle.sheet_rules.specs.Rules.{readOnly, readAndWrite, lengthsSum}
+use Rattle.sheet_rules.specs.Rules.{readOnly, lengthsSum}
 use Rattle.sheet_rules.specs.Lookup.{liesIn, placeIn}
 use Rattle.makers.specs.Maps.{Row, Map}
 
--- ---- areas: one for each unbroken run of addresses, rule M1
+-- ---- areas: one for each unbroken run of addresses of one access, rule M1
 
--- an unbroken run of addresses
+-- an unbroken run of addresses of one access
 pub record Run : Type 0 where
   pub first : ℕ
   pub last : ℕ
@@ -25,17 +25,17 @@ pub record Run : Type 0 where
 abbrev pub lastOf : Row → ℕ
 lastOf row = row .first + cond (eqb (row .kind) unsignedPair) 1 0
 
--- a run in front of others: one run with the next one where no address lies between them
+-- a run in front of others: one run with the next one where no address lies between them and they have one access
 abbrev pub inFront : Run → List Run → List Run
 inFront run [] = run ∷ []
 inFront run (next ∷ behind) =
-    cond (eqb (run .last + 1) (next .first))
+    cond (eqb (run .last + 1) (next .first) && eqb (run .access) (next .access))
     (record { first = run .first; last = next .last; access = run .access } ∷ behind) (run ∷ next ∷ behind)
 
 unfoldable pub runsOf : List Row → List Run
 runsOf [] = []
 runsOf (row ∷ behind) =
-    inFront (record { first = row .first; last = lastOf row; access = readAndWrite }) (runsOf behind)
+    inFront (record { first = row .first; last = lastOf row; access = row .access }) (runsOf behind)
 
 -- the items' runs, and behind them the read-only one
 unfoldable pub runs : Map → List Run
@@ -68,12 +68,12 @@ unfoldable pub itemsOf : Map → List Item
 unfolding areasOf itemsAt
 itemsOf map = itemsAt (areasOf map) (map .rows)
 
--- ---- the sheet, word by word (its numbers: rules M14 and M25)
+-- ---- the sheet, word by word (its numbers: rules M14, M25 and M27)
 
 unfoldable pub headerWords : Map → List ℕ
 unfolding areasOf liesIn lengthsSum
 headerWords map =
-    1
+    map .version
     ∷ length (areasOf map)
     ∷ areaRows
     ∷ length (map .rows)

@@ -1,11 +1,11 @@
-// The two makers' sheets: rules M10 to M25.
+// The two makers' sheets: rules M10 to M27.
 ghost use mathlib.Core.Path.{_≡_};
-ghost use Rattle.makers.specs.Maps.{ux, aswe, bore40, bore50, bore80};
+ghost use Rattle.makers.specs.Maps.{ux, aswe, aswe40, bore50, bore80};
 ghost use Rattle.makers.specs.Sheets.{sheetOf};
 
 mod tables;
 
-// Where the bound that goes by the bore stands in the AS-WE sheet: the lower byte of the high bound of 0109.
+// Where the bound that goes by the bore stands in the AS-WE sheet of bores 50 and 80: the lower byte of the high bound of 0109.
 const BORE: usize = 195;
 
 // The sheet of UX15/25.
@@ -15,7 +15,7 @@ pub fn ux() -> [u8; 256]
     tables::UX
 }
 
-// The sheet of AS-WE whose item 0109 ends at a given bound.
+// The sheet of AS-WE without presets, whose item 0109 ends at a given bound.
 fn aswe(bore: u8) -> [u8; 328]
     ensures { λ r. ⌜ r ≡ sheetOf (aswe bore) ⌝ }
 {
@@ -24,11 +24,11 @@ fn aswe(bore: u8) -> [u8; 328]
     sheet
 }
 
-// The sheet of AS-WE, bore 40.
-pub fn aswe_40() -> [u8; 328]
-    ensures { λ r. ⌜ r ≡ sheetOf (aswe bore40) ⌝ }
+// The sheet of AS-WE, bore 40, with its presets.
+pub fn aswe_40() -> [u8; 396]
+    ensures { λ r. ⌜ r ≡ sheetOf aswe40 ⌝ }
 {
-    aswe(0x10)
+    tables::ASWE_40
 }
 
 // The sheet of AS-WE, bore 50.
