@@ -52,15 +52,28 @@ sheet = bytesOf sheetWords
 abbrev bank : List Change → List ℕ
 bank changes = bytesOf (changed 0 words changes)
 
--- of version 2; one whose address may be 0, and one whose address may be F8: neither is sound
+-- of version 3; one whose address may be 0, and one whose address may be F8: neither is sound
 abbrev broken : List ℕ
-broken = bytesOf (changed 0 sheetWords (at 0 2 ∷ []))
+broken = bytesOf (changed 0 sheetWords (at 0 3 ∷ []))
 
 abbrev fromZero : List ℕ
 fromZero = bytesOf (changed 0 sheetWords (at 43 0 ∷ []))
 
 abbrev toF8 : List ℕ
 toF8 = bytesOf (changed 0 sheetWords (at 45 0x00F8 ∷ []))
+
+-- with access 2 in place of 3: 0014 and 0015, and 0025; and the address's area too
+abbrev presets : List Change
+presets = at 19 2 ∷ at 35 2 ∷ []
+
+abbrev withPresets : List ℕ
+withPresets = bytesOf (changed 0 sheetWords (at 0 2 ∷ presets))
+
+abbrev allPresets : List ℕ
+allPresets = bytesOf (changed 0 sheetWords (at 0 2 ∷ at 15 2 ∷ presets))
+
+abbrev presetsInVersionOne : List ℕ
+presetsInVersionOne = bytesOf (changed 0 sheetWords presets)
 
 -- with one record of one word in the gap, at 0023
 abbrev withRecord : List ℕ
@@ -123,7 +136,7 @@ pub table : List Row
 table =
     -- the size: 2B + 2 bytes
     whole []
-    ∷ check broken (bank []) 2  -- a sheet of version 2
+    ∷ check broken (bank []) 2  -- a sheet of version 3
     ∷ check broken [] 2  -- and a bank of no bytes: the sheet comes first
     ∷ check sheet (take 27 (bank [])) 3  -- a byte less
     ∷ check sheet (bank [] ++ (0 ∷ [])) 3  -- a byte more
@@ -162,6 +175,18 @@ table =
     ∷ bad (at 10 0x0006 ∷ [])
     ∷ bad (at 10 0x000A ∷ [])
     ∷ whole (at 6 0xFFFF ∷ at 7 0xFFFF ∷ at 8 0xFFFF ∷ at 9 0xFFFF ∷ at 11 0xFFFF ∷ at 12 0xFFFF ∷ [])  -- read only words are free
+    -- access 2: each item within its range
+    ∷ check withPresets (bank []) 0
+    ∷ check presetsInVersionOne (bank []) 2
+    ∷ check withPresets (bank (at 4 0x0001 ∷ at 5 0x0002 ∷ [])) 0  -- the pair
+    ∷ check withPresets (bank (at 4 0x0001 ∷ at 5 0x0001 ∷ [])) 4
+    ∷ check withPresets (bank (at 4 0x0003 ∷ at 5 0x0004 ∷ [])) 0
+    ∷ check withPresets (bank (at 4 0x0003 ∷ at 5 0x0005 ∷ [])) 4
+    ∷ check withPresets (bank (at 10 0x0007 ∷ [])) 0  -- the last item
+    ∷ check withPresets (bank (at 10 0x0006 ∷ [])) 4
+    ∷ check withPresets (bank (at 10 0x000A ∷ [])) 4
+    ∷ check allPresets (bank (at 0 0x00F7 ∷ [])) 0  -- the address
+    ∷ check allPresets (bank (at 0 0x00F8 ∷ [])) 4
     -- the mark is 0 or 1
     ∷ whole (at 13 0 ∷ [])
     ∷ bad (at 13 2 ∷ [])
@@ -172,6 +197,9 @@ table =
     ∷ fresh fromZero (bank []) 2 (bank [])  -- an address from 0 on
     ∷ fresh toF8 (bank []) 2 (bank [])  -- an address up to F8
     ∷ fresh highest (replicate 14 0xFF) 0 (bytesOf (0x0000 ∷ 0x0001 ∷ 0x0001 ∷ 0xFFFF ∷ 0xFFFE ∷ 0xFFFF ∷ 0x0000 ∷ []))
+    ∷ fresh withPresets (replicate 28 0xFF) 0 (bytesOf freshWords)  -- with access 2
+    ∷ fresh allPresets (replicate 28 0xFF) 0 (bytesOf freshWords)
+    ∷ fresh presetsInVersionOne (bank []) 2 (bank [])
     ∷ fresh broken (bank []) 2 (bank [])
     ∷ fresh broken [] 2 []
     ∷ fresh sheet (take 27 (bank [])) 3 (take 27 (bank []))
@@ -193,6 +221,12 @@ table =
     ∷ refuses 0xFFFF (1 ∷ 2 ∷ 3 ∷ 4 ∷ []) 6  -- past FFFF
     ∷ refuses 0x10000 (1 ∷ 2 ∷ []) 6
     ∷ refuses 0x10020 (1 ∷ 2 ∷ []) 6  -- an address is not cut to sixteen bits
+    ∷ post withPresets (bank []) 0x0014 (0 ∷ 2 ∷ []) 6 (bank [])  -- access 2, with its own value
+    ∷ post withPresets (bank []) 0x0025 (0 ∷ 8 ∷ []) 6 (bank [])
+    ∷ post withPresets (bank []) 0x0024 (1 ∷ 2 ∷ 3 ∷ 4 ∷ []) 6 (bank [])  -- into access 2
+    ∷ post withPresets (bank []) 0x0024 (0x12 ∷ 0x34 ∷ []) 0 (bank (at 9 0x1234 ∷ []))  -- up to it
+    ∷ post withPresets (bank []) 0x0010 (0 ∷ 5 ∷ []) 6 (bank [])  -- access 3 beside it
+    ∷ post presetsInVersionOne (bank []) 0x0024 (0x12 ∷ 0x34 ∷ []) 2 (bank [])
     ∷ check withRecord (bank []) 0  -- with a record in the gap
     ∷ post withRecord (bank []) 0x0023 (1 ∷ 2 ∷ []) 6 (bank [])  -- at the record
     ∷ post withRecord (bank []) 0x0022 (1 ∷ 2 ∷ 3 ∷ 4 ∷ []) 6 (bank [])  -- into it
@@ -215,6 +249,7 @@ table =
     ∷ set-mark sheet (bank (at 13 0 ∷ [])) 1 0 (bank [])
     ∷ set-mark sheet (bank []) 1 0 (bank [])
     ∷ set-mark sheet (bank []) 2 7 (bank [])
+    ∷ set-mark withPresets (bank []) 0 0 (bank (at 13 0 ∷ []))
     ∷ set-mark sheet (bank []) 0x10000 7 (bank [])  -- a mark is not cut to sixteen bits
     ∷ set-mark broken (bank []) 2 2 (bank [])
     ∷ set-mark sheet (take 27 (bank [])) 2 3 (take 27 (bank []))

@@ -172,9 +172,9 @@ asked frame frame-bytes = some-why (lent uxSheet freshBank) frame (tested-bytes 
 
 -- ---- demand 1: an input for each refusal of each call, and one that is not refused
 
--- the UX sheet, but of version 2
+-- the UX sheet, but of version 3
 abbrev otherVersion : List ℕ
-otherVersion = withWord uxSheet 0 2
+otherVersion = withWord uxSheet 0 3
 
 -- a bank without its last byte, and one whose mark is 2
 abbrev shortBank : List ℕ

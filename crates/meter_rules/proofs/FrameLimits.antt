@@ -613,8 +613,8 @@ table =
     ∷ replies small (at 1 0x0000 ∷ []) (0x01 ∷ 0x07 ∷ 0x41 ∷ 0xE2 ∷ []) 5 0 (0x01 ∷ 0x87 ∷ 0x01 ∷ 0x82 ∷ 0x30 ∷ []) []
     -- rate 0: a clear
     ∷ replies small (at 1 0x0000 ∷ []) (0x01 ∷ 0x05 ∷ 0x03 ∷ 0x00 ∷ 0x00 ∷ 0x00 ∷ 0xCD ∷ 0x8E ∷ []) 8 0 (0x01 ∷ 0x05 ∷ 0x03 ∷ 0x00 ∷ 0x00 ∷ 0x00 ∷ 0xCD ∷ 0x8E ∷ []) []
-    -- number 2: version 2
-    ∷ refused 2 (bytesOf (changed 0 (small .sheet) (at 0 2 ∷ []))) (bytesOf (small .bank)) (0x01 ∷ 0x03 ∷ 0x00 ∷ 0x00 ∷ 0x00 ∷ 0x01 ∷ 0x84 ∷ 0x0A ∷ [])
+    -- number 2: version 3
+    ∷ refused 2 (bytesOf (changed 0 (small .sheet) (at 0 3 ∷ []))) (bytesOf (small .bank)) (0x01 ∷ 0x03 ∷ 0x00 ∷ 0x00 ∷ 0x00 ∷ 0x01 ∷ 0x84 ∷ 0x0A ∷ [])
     -- the address from 0 on
     ∷ refused 2 (bytesOf (changed 0 (small .sheet) (at 19 0 ∷ []))) (bytesOf (small .bank)) (0x01 ∷ 0x03 ∷ 0x00 ∷ 0x00 ∷ 0x00 ∷ 0x01 ∷ 0x84 ∷ 0x0A ∷ [])
     -- the address 0..FF, as it was before W2, a read for 0 at a bank at 0
@@ -680,7 +680,7 @@ table =
     -- 100 bytes: a reply
     ∷ into 100 (replies small [] (0x01 ∷ 0x03 ∷ 0x00 ∷ 0x00 ∷ 0x00 ∷ 0x01 ∷ 0x84 ∷ 0x0A ∷ []) 7 1 (0x01 ∷ 0x03 ∷ 0x02 ∷ 0x00 ∷ 0x01 ∷ 0x79 ∷ 0x84 ∷ []) [])
     -- order: 2 with cause for 3, 4, 5 and silence
-    ∷ into 99 (refused 2 (bytesOf (changed 0 (small .sheet) (at 0 2 ∷ []))) (take 5 (bytesOf (changed 0 (small .bank) (at 1 0x0002 ∷ [])))) (0x02 ∷ 0x03 ∷ 0x00 ∷ 0x00 ∷ 0x00 ∷ 0x01 ∷ 0x84 ∷ 0x39 ∷ []))
+    ∷ into 99 (refused 2 (bytesOf (changed 0 (small .sheet) (at 0 3 ∷ []))) (take 5 (bytesOf (changed 0 (small .bank) (at 1 0x0002 ∷ [])))) (0x02 ∷ 0x03 ∷ 0x00 ∷ 0x00 ∷ 0x00 ∷ 0x01 ∷ 0x84 ∷ 0x39 ∷ []))
     -- 3 with cause for 4, 5 and silence
     ∷ into 99 (refused 3 (bytesOf (small .sheet)) (take 5 (bytesOf (changed 0 (small .bank) (at 1 0x0002 ∷ [])))) (0x02 ∷ 0x03 ∷ 0x00 ∷ 0x00 ∷ 0x00 ∷ 0x01 ∷ 0x84 ∷ 0x39 ∷ []))
     -- 4 with cause for 5 and silence

@@ -45,9 +45,9 @@ sheetOf records words = changedSheet records words []
 abbrev three : List ℕ
 three = sheetOf 3 1
 
--- it with version 2, and with two record areas
+-- it with version 3, and with two record areas
 abbrev broken : List ℕ
-broken = changedSheet 3 1 (at 0 2 ∷ [])
+broken = changedSheet 3 1 (at 0 3 ∷ [])
 
 abbrev twoAreas : List ℕ
 twoAreas = changedSheet 3 1 (at 11 2 ∷ [])

@@ -370,13 +370,13 @@ table =
     -- none: a change of the station
     ∷ says full [] (0x01 ∷ 0x06 ∷ 0xFF ∷ 0xF9 ∷ 0x00 ∷ 0x05 ∷ 0xA9 ∷ 0xEC ∷ []) 0 0
     -- 2: a sheet that breaks a rule
-    ∷ refuses 2 (bytesOf (changed 0 (small .sheet) (at 0 2 ∷ []))) (bytesOf (small .bank)) (0x01 ∷ 0x03 ∷ 0x00 ∷ 0x00 ∷ 0x00 ∷ 0x01 ∷ 0x84 ∷ 0x0A ∷ [])
+    ∷ refuses 2 (bytesOf (changed 0 (small .sheet) (at 0 3 ∷ []))) (bytesOf (small .bank)) (0x01 ∷ 0x03 ∷ 0x00 ∷ 0x00 ∷ 0x00 ∷ 0x01 ∷ 0x84 ∷ 0x0A ∷ [])
     -- a sheet whose address may be 0
     ∷ refuses 2 (bytesOf (changed 0 (small .sheet) (at 19 0 ∷ []))) (bytesOf (small .bank)) (0x00 ∷ 0x03 ∷ 0x00 ∷ 0x00 ∷ 0x00 ∷ 0x01 ∷ 0x85 ∷ 0xDB ∷ [])
     -- a sheet whose address may be F8
     ∷ refuses 2 (bytesOf (changed 0 (small .sheet) (at 21 0x00F8 ∷ []))) (bytesOf (small .bank)) (0xF8 ∷ 0x03 ∷ 0x00 ∷ 0x00 ∷ 0x00 ∷ 0x01 ∷ 0x90 ∷ 0x63 ∷ [])
     -- 2 with cause for 3, 4 and a reason
-    ∷ refuses 2 (bytesOf (changed 0 (small .sheet) (at 0 2 ∷ []))) (take 5 (bytesOf (changed 0 (small .bank) (at 1 0x0002 ∷ [])))) (0x02 ∷ 0x03 ∷ 0x00 ∷ 0x00 ∷ 0x00 ∷ 0x01 ∷ 0x84 ∷ 0x39 ∷ [])
+    ∷ refuses 2 (bytesOf (changed 0 (small .sheet) (at 0 3 ∷ []))) (take 5 (bytesOf (changed 0 (small .bank) (at 1 0x0002 ∷ [])))) (0x02 ∷ 0x03 ∷ 0x00 ∷ 0x00 ∷ 0x00 ∷ 0x01 ∷ 0x84 ∷ 0x39 ∷ [])
     -- 3: a bank one byte under
     ∷ refuses 3 (bytesOf (small .sheet)) (take 5 (bytesOf (small .bank))) (0x01 ∷ 0x03 ∷ 0x00 ∷ 0x00 ∷ 0x00 ∷ 0x01 ∷ 0x84 ∷ 0x0A ∷ [])
     -- one byte over

@@ -143,8 +143,8 @@ table =
     ∷ refuses 4 (bytesOf history) (bytesOf (changed 0 freshBank (at 5 2 ∷ []))) [] (0x01 ∷ 0x03 ∷ 0x00 ∷ 0x04 ∷ 0x00 ∷ 0x01 ∷ 0xC5 ∷ 0xCB ∷ [])
     -- a short bank and a bad ring
     ∷ refuses 3 (bytesOf history) (take 11 (bytesOf freshBank)) [] (0x01 ∷ 0x03 ∷ 0x00 ∷ 0x04 ∷ 0x00 ∷ 0x01 ∷ 0xC5 ∷ 0xCB ∷ [])
-    -- a sheet of version 2 and a bad ring
-    ∷ refuses 2 (bytesOf (changed 0 history (at 0 2 ∷ []))) (bytesOf freshBank) [] (0x01 ∷ 0x03 ∷ 0x00 ∷ 0x04 ∷ 0x00 ∷ 0x01 ∷ 0xC5 ∷ 0xCB ∷ [])
+    -- a sheet of version 3 and a bad ring
+    ∷ refuses 2 (bytesOf (changed 0 history (at 0 3 ∷ []))) (bytesOf freshBank) [] (0x01 ∷ 0x03 ∷ 0x00 ∷ 0x04 ∷ 0x00 ∷ 0x01 ∷ 0xC5 ∷ 0xCB ∷ [])
     -- without a record area, and one byte of a ring
     ∷ refuses 8 (bytesOf (small .sheet)) (bytesOf (small .bank)) (0 ∷ []) (0x01 ∷ 0x03 ∷ 0x00 ∷ 0x04 ∷ 0x00 ∷ 0x01 ∷ 0xC5 ∷ 0xCB ∷ [])
     ∷ []
