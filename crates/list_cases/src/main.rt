@@ -32,12 +32,29 @@ fn changed() -> [u8; 256] {
     sheet
 }
 
+// The UX sheet of another version.
+fn of_version(version: u8) -> [u8; 256] {
+    let mut sheet = makers::ux();
+    sheet[1] = version;
+    sheet
+}
+
+// The AS-WE 40 sheet of version 1, which has no access 2.
+fn presets_too_early() -> [u8; 396] {
+    let mut sheet = makers::aswe_40();
+    sheet[1] = 1;
+    sheet
+}
+
 fn main() {
     let ux = makers::ux();
     list(b"UX15/25\n", &ux);
     list(b"AS-WE 40\n", &makers::aswe_40());
     list(b"AS-WE 50\n", &makers::aswe_50());
     list(b"AS-WE 80\n", &makers::aswe_80());
+    list(b"UX15/25, version 2\n", &of_version(2));
+    list(b"UX15/25, version 3\n", &of_version(3));
+    list(b"AS-WE 40, version 1\n", &presets_too_early());
     list(b"UX15/25, word 11 not zero\n", &changed());
     list(b"UX15/25, one byte too many\n", &longer());
     list_front(b"UX15/25, one byte too few\n", &ux, 255);

@@ -11,7 +11,7 @@ use Rattle.sheet_rules.specs.Rows.{areas, items}
 use Rattle.sheet_rules.specs.Lookup.{addressOf}
 use Rattle.sheet_rules.specs.Rules.{sound, headerSound, areasSound, itemsSound, settingsSound, recordsSound, itemPlaces, coveredPlaces, placesFollow, areasAscend, lengthsSum}
 use Rattle.lists.specs.Lists.{each, some, upFrom, samePlaces}
-use Rattle.makers.specs.Maps.{ux, aswe, bore40, bore50, bore80}
+use Rattle.makers.specs.Maps.{ux, aswe, aswe40, bore50, bore80}
 use Rattle.makers.specs.Sheets.{sheetOf}
 use Rattle.listing.specs.Ascii.{ascii}
 use Rattle.listing.specs.Text.{listing, decimal, decimalWithin, signedDecimal, summaryText, itemText, itemTexts}
@@ -38,10 +38,10 @@ uxText =
     ++ ascii "0115 u 0 1\n"
     ++ ascii "0116 u 0 4\n"
 
--- by the high bound of 0109, which goes by the bore
-asweText : String → List ℕ
-asweText bore =
-    ascii "areas 5 items 22 bank 38\n"
+-- by the counts, the high bound of 0109, which goes by the bore, and the lines of the presets
+asweText : List ℕ → String → List ℕ → List ℕ
+asweText counts bore presets =
+    counts
     ++ ascii "00FF u 0 1\n"
     ++ ascii "0100 u 0 1\n"
     ++ ascii "0101 u 0 10000\n"
@@ -62,8 +62,21 @@ asweText bore =
     ++ ascii "0113 u 1 288\n"
     ++ ascii "0115 u 0 5\n"
     ++ ascii "0116 u 1 4\n"
+    ++ presets
     ++ ascii "0123 s -100 600\n"
     ++ ascii "0124 u 0 1000\n"
+
+asweCounts : List ℕ
+asweCounts = ascii "areas 5 items 22 bank 38\n"
+
+aswe40Text : List ℕ
+aswe40Text =
+    asweText (ascii "areas 6 items 27 bank 45\n") "16"
+    (ascii "0118 u 0 9\n"
+    ++ ascii "0119 u 0 9999\n"
+    ++ ascii "011A u 0 9999\n"
+    ++ ascii "011B p 0 4294967295\n"
+    ++ ascii "011D p 0 4294967295\n")
 
 -- a sheet and its listing
 pub record Row : Type 0 where
@@ -79,12 +92,12 @@ right this = samePlaces (listing (this .sheet)) (this .text)
 pub table : List Row
 table =
     row (sheetOf ux) uxText
-    ∷ row (sheetOf (aswe bore40)) (asweText "16")
-    ∷ row (sheetOf (aswe bore50)) (asweText "30")
-    ∷ row (sheetOf (aswe bore80)) (asweText "60")
+    ∷ row (sheetOf aswe40) aswe40Text
+    ∷ row (sheetOf (aswe bore50)) (asweText asweCounts "30" [])
+    ∷ row (sheetOf (aswe bore80)) (asweText asweCounts "60" [])
     ∷ []
 
 -- every row is right
 pub makers-listed : each right table ≡ true
-unfolding table uxText asweText sheetOf listing ascii decimal decimalWithin signedDecimal summaryText itemText itemTexts addressOf sound areas items wordAt bytesOf numberOf notAbove inRange headerSound areasSound itemsSound settingsSound recordsSound each some upFrom samePlaces itemPlaces coveredPlaces placesFollow areasAscend lengthsSum
+unfolding table uxText asweText asweCounts aswe40Text sheetOf listing ascii decimal decimalWithin signedDecimal summaryText itemText itemTexts addressOf sound areas items wordAt bytesOf numberOf notAbove inRange headerSound areasSound itemsSound settingsSound recordsSound each some upFrom samePlaces itemPlaces coveredPlaces placesFollow areasAscend lengthsSum
 makers-listed = refl

@@ -16,7 +16,7 @@ use Rattle.ring_rules.specs.Calls.{ringFits}
 use Rattle.sheet_rules.specs.Rules.{sound, headerSound, areasSound, itemsSound, settingsSound, recordsSound, itemPlaces, coveredPlaces, placesFollow, areasAscend, lengthsSum}
 use Rattle.lists.specs.Lists.{each, some, upFrom, samePlaces}
 use Rattle.sheet_rules.specs.Lookup.{liesIn}
-use Rattle.makers.specs.Maps.{ux, aswe, bore40}
+use Rattle.makers.specs.Maps.{ux, aswe40}
 use Rattle.makers.specs.Sheets.{sheetOf}
 use Rattle.bank_rules.specs.Stores.{stored}
 use Rattle.bank_rules.specs.Bank.{bankSound, goodBy, lowStores, freshStores}
@@ -49,9 +49,9 @@ uxMeter =
 abbrev pub asweMeter : Meter
 asweMeter =
     record {
-      sheet = sheetOf (aswe bore40);
+      sheet = sheetOf aswe40;
       origin = 0x00FF;
-      fresh = 0 ∷ 0 ∷ 0 ∷ 0 ∷ 0 ∷ 0 ∷ 0x0001 ∷ 0x0320 ∷ 0x0001 ∷ 0x0001 ∷ 0 ∷ 0x01F4 ∷ 0 ∷ 0x0001 ∷ 0x0001 ∷ 0 ∷ 0 ∷ 0x0001 ∷ 0 ∷ 0x0001 ∷ 0xFF9C ∷ 0 ∷ 0 ∷ 0 ∷ 0 ∷ 0 ∷ 0 ∷ 0 ∷ 0 ∷ 0 ∷ 0 ∷ 0 ∷ 0 ∷ 0 ∷ 0 ∷ 0 ∷ 0 ∷ 0 ∷ 0 ∷ [];
+      fresh = 0 ∷ 0 ∷ 0 ∷ 0 ∷ 0 ∷ 0 ∷ 0x0001 ∷ 0x0320 ∷ 0x0001 ∷ 0x0001 ∷ 0 ∷ 0x01F4 ∷ 0 ∷ 0x0001 ∷ 0x0001 ∷ 0 ∷ 0 ∷ 0x0001 ∷ 0 ∷ 0x0001 ∷ 0 ∷ 0 ∷ 0 ∷ 0 ∷ 0 ∷ 0 ∷ 0 ∷ 0xFF9C ∷ 0 ∷ 0 ∷ 0 ∷ 0 ∷ 0 ∷ 0 ∷ 0 ∷ 0 ∷ 0 ∷ 0 ∷ 0 ∷ 0 ∷ 0 ∷ 0 ∷ 0 ∷ 0 ∷ 0 ∷ 0 ∷ [];
     }
 
 -- the fresh words are what the call for a fresh bank makes of that many bytes, here of FF
@@ -59,7 +59,7 @@ pub ux-fresh-made : freshOutcome (lent (uxMeter .sheet) (replicate 70 0xFF)) ≡
 unfolding bytesOf freshOutcome freshAnswer freshStores lowStores stored firstCase sound headerSound areasSound itemsSound settingsSound recordsSound each some upFrom samePlaces itemPlaces coveredPlaces placesFollow areasAscend lengthsSum areas items wordAt withWord inRange sheetOf
 ux-fresh-made = refl
 
-pub aswe-fresh-made : freshOutcome (lent (asweMeter .sheet) (replicate 78 0xFF)) ≡ bankOutcome Done (bytesOf (asweMeter .fresh))
+pub aswe-fresh-made : freshOutcome (lent (asweMeter .sheet) (replicate 92 0xFF)) ≡ bankOutcome Done (bytesOf (asweMeter .fresh))
 unfolding bytesOf freshOutcome freshAnswer freshStores lowStores stored firstCase sound headerSound areasSound itemsSound settingsSound recordsSound each some upFrom samePlaces itemPlaces coveredPlaces placesFollow areasAscend lengthsSum areas items wordAt withWord inRange sheetOf
 aswe-fresh-made = refl
 

@@ -93,8 +93,8 @@ fn say_header() {
     );
     say_array(
         b"\n/* AS-WE, bore 40 */\n\
-        #define CEDARSKEIN_ASWE_40_BANK_SIZE 78\n\
-        #define CEDARSKEIN_ASWE_40_SHEET_SIZE 328\n\
+        #define CEDARSKEIN_ASWE_40_BANK_SIZE 92\n\
+        #define CEDARSKEIN_ASWE_40_SHEET_SIZE 396\n\
         static const uint8_t cedarskein_aswe_40_sheet[CEDARSKEIN_ASWE_40_SHEET_SIZE] = {\n",
         &makers::aswe_40(),
     );

@@ -9,7 +9,7 @@ use lib.Dec.{eqb}
 use borrow.Author.Tests.{eq-eqb}
 use Rattle.sheet_rules.specs.declared.Lies.the-variants.{At}
 use Rattle.sheet_rules.specs.Rows.{areas, bankWords}
-use Rattle.sheet_rules.specs.Rules.{isPair, readAndWrite, sound}
+use Rattle.sheet_rules.specs.Rules.{isPair, writable, sound}
 use Rattle.sheet_rules.proofs.Places.{inCovered}
 use Rattle.sheet_rules.specs.Lookup.{liesIn}
 use Rattle.sheet_rules.proofs.Sound.{sound-numbers}
@@ -37,10 +37,11 @@ module _ (given : Lent) (frame : List ℕ) where
       pub stop-small : stopPlace given frame < 65536
       stop-small = omega (arith, stop-below, sound-numbers (given .sheet) keeps)
 
-      -- rule Y21: what lies at the address that is told is the first place of that item
-      pub stop-lies : liesIn (areas (given .sheet)) (firstBadItem given frame) ≡ At (stopPlace given frame) readAndWrite
+      -- rule Y21: what lies at the address that is told is the first place of that item, in an area that can be written
+      pub stop-lies : (access : ℕ) × (liesIn (areas (given .sheet)) (firstBadItem given frame) ≡ At (stopPlace given frame) access) × (writable access ≡ true)
       stop-lies =
-          let found = address-lies (given .sheet) keeps (stopPlace given frame) stop-below in
-          found .1
-          ∙ ap (At (stopPlace given frame))
-          (covered-access (given .sheet) keeps (firstBadItem given frame) (stopPlace given frame) (found .0) (found .1) held)
+          let found = address-lies (given .sheet) keeps (stopPlace given frame) stop-below in (
+            found .0,
+            found .1,
+            covered-access (given .sheet) keeps (firstBadItem given frame) (stopPlace given frame) (found .0) (found .1) held,
+          )
