@@ -27,7 +27,7 @@ use Rattle.plain.specs.Numbers.{Bytes, byte, word}
 use Rattle.plain.specs.Records.{RecordAt, AtRecord}
 use Rattle.plain.specs.Sheet.{LiesAt}
 use Rattle.plain.specs.Frame.{registers, address, Readable, Writable, RightAddress}
-use Rattle.plain.proofs.Rows.{word-same, lies-plain, plain-lies}
+use Rattle.plain.proofs.Rows.{word-same, one-of, of-one, lies-plain, plain-lies}
 use Rattle.plain.proofs.Conditions.{Tells, neither-first, neither-second, neither, where-so, so-where, begins-so, so-begins, begins-not, not-begins}
 use Rattle.plain.proofs.Records.{so-record}
 
@@ -49,19 +49,10 @@ registers-same frame = ap (λ (n : ℕ). cond (eqb (function frame) 0x06) 1 n) (
 -- a write is a 06 or a 10
 module _ (frame : List ℕ) where
   pub writes : (byte frame 1 ≡ 0x06) ⊎ (byte frame 1 ≡ 0x10) → isWrite frame ≡ true
-  writes (inl e) = ap (λ (b : Bool). b || eqb (function frame) 0x10) (eq-eqb (function frame) 0x06 e)
-  writes (inr e) = either (eqb (function frame) 0x06) (eqb (function frame) 0x10) (eq-eqb (function frame) 0x10 e)
-    where
-      either : (a b : Bool) → b ≡ true → (a || b) ≡ true
-      either true b e = refl
-      either false b e = e
+  writes e = of-one e
 
   pub which : isWrite frame ≡ true → (byte frame 1 ≡ 0x06) ⊎ (byte frame 1 ≡ 0x10)
-  which e = go (eqb (function frame) 0x06) refl e
-    where
-      go : (one : Bool) → eqb (function frame) 0x06 ≡ one → (one || eqb (function frame) 0x10) ≡ true → (byte frame 1 ≡ 0x06) ⊎ (byte frame 1 ≡ 0x10)
-      go true o e = inl (eqb-true (function frame) 0x06 o)
-      go false o e = inr (eqb-true (function frame) 0x10 e)
+  which e = one-of (function frame) 0x06 0x10 e
 
 module _ (sheet : List ℕ) (keeps : sound sheet ≡ true) (bytes : Bytes sheet) where
   -- an address that is open to a purpose
@@ -107,30 +98,24 @@ module _ (sheet : List ℕ) (keeps : sound sheet ≡ true) (bytes : Bytes sheet)
 
   pub readable-so : {at : ℕ} → Open Read at → Readable sheet at
   readable-so one =
-      record { small = one .small; place = one .place; access = one .access; lies = one .lies; permitted = go (eqb (one .access) 1) refl (one .permitted) }
-    where
-      go : (is : Bool) → eqb (one .access) 1 ≡ is → (is || eqb (one .access) 3) ≡ true → (one .access ≡ 1) ⊎ (one .access ≡ 3)
-      go true e f = inl (eqb-true (one .access) 1 e)
-      go false e f = inr (eqb-true (one .access) 3 f)
+      record { small = one .small; place = one .place; access = one .access; lies = one .lies; permitted = one-of (one .access) 1 3 (one .permitted) }
 
   pub so-readable : {at : ℕ} → Readable sheet at → Open Read at
   so-readable one =
-      record { small = one .small; place = one .place; access = one .access; lies = one .lies; permitted = go (one .permitted) }
-    where
-      either : (a b : Bool) → b ≡ true → (a || b) ≡ true
-      either true b e = refl
-      either false b e = e
-
-      go : (one .access ≡ 1) ⊎ (one .access ≡ 3) → (eqb (one .access) 1 || eqb (one .access) 3) ≡ true
-      go (inl e) = ap (λ (b : Bool). b || eqb (one .access) 3) (eq-eqb (one .access) 1 e)
-      go (inr e) = either (eqb (one .access) 1) (eqb (one .access) 3) (eq-eqb (one .access) 3 e)
+      record { small = one .small; place = one .place; access = one .access; lies = one .lies; permitted = of-one (one .permitted) }
 
   pub writable-so : {at : ℕ} → Open Write at → Writable sheet at
-  writable-so {at} one =
-      record { small = one .small; place = one .place; lies = subst (LiesAt sheet at (one .place)) (eqb-true (one .access) 3 (one .permitted)) (one .lies) }
+  writable-so one =
+      record {
+        small = one .small;
+        place = one .place;
+        written = record { access = one .access; lies = one .lies; permitted = one-of (one .access) 2 3 (one .permitted) };
+      }
 
   pub so-writable : {at : ℕ} → Writable sheet at → Open Write at
-  so-writable one = record { small = one .small; place = one .place; access = 3; lies = one .lies; permitted = refl }
+  so-writable one =
+      let at = one .written in
+      record { small = one .small; place = one .place; access = at .access; lies = at .lies; permitted = of-one (at .permitted) }
 
 -- ---- the whole of step 6
 

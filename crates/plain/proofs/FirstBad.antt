@@ -46,7 +46,7 @@ use Rattle.plain.specs.Numbers.{Bytes, byte, word}
 use Rattle.plain.specs.Records.{AtRecord}
 use Rattle.plain.specs.Frame.{registers, address, Touches, ValueWouldBe, Within}
 use Rattle.plain.specs.Why.{CheckAgrees, ReadsTooMany, Opens, FirstBadAddress, ofRun, ofRecord, ofClear, Misses, FirstBadItem}
-use Rattle.plain.proofs.Rows.{word-same, lies-plain, plain-lies, item-row, row-item}
+use Rattle.plain.proofs.Rows.{word-same, lies-plain, writable-plain, plain-lies, item-row, row-item}
 use Rattle.plain.proofs.Records.{so-record}
 use Rattle.plain.proofs.Conditions.{Tells, by-test, begins-so, so-begins, begins-not, not-begins}
 use Rattle.plain.proofs.Addresses.{Open, open-at, at-open, readable-so, so-readable, writable-so, so-writable, address-same, registers-same, writes, which}
@@ -318,8 +318,8 @@ module _ (given : Lent) (frame : List ℕ) (passed : Passed given) (write : isWr
         inFront = λ kind other low high value row touch is front.
             let earlier : Item = record { kind = kind; place = other; low = low; high = high } in
             fine-so earlier value (front-fine given frame passed all (row-item (given .sheet) row) (fronted (omega (arith, front, found .atPlace)))) touch is;
-        itsAddress = lies-plain (given .sheet) (passed .right)
-            (stop-lies given frame one (passed .right) ∙ ap (λ (n : ℕ). At n 3) (sym (found .atPlace)));
+        itsAddress = let stop = stop-lies given frame one (passed .right) in
+            writable-plain (given .sheet) (passed .right) (stop .1 ∙ ap (λ (n : ℕ). At n (stop .0)) (sym (found .atPlace))) (stop .2);
       }
     where
       fronted : {place : ℕ} → place < stopPlace given frame → place < stop given frame passed all
@@ -331,8 +331,8 @@ module _ (given : Lent) (frame : List ℕ) (passed : Passed given) (write : isWr
   unfolding someBad sideBy
   so-first-item {at} {side} first = (
     one,
-    ap (addressOf (areas (given .sheet))) (sym same) ∙ place-address (given .sheet) (passed .right) at (first .place) 3
-        (plain-lies (given .sheet) (passed .right) (first .itsAddress)),
+    ap (addressOf (areas (given .sheet))) (sym same) ∙ place-address (given .sheet) (passed .right) at (first .place) (first .itsAddress .access)
+        (plain-lies (given .sheet) (passed .right) (first .itsAddress .lies)),
     ap sideNumber (sym (found .atSide) ∙ ap (sideBy would) stopped-here)
         ∙ ap (λ (value : ℕ). sideNumber (sideOf (first .kind) (first .low) (first .high) value)) (sym (value-so given frame (passed .right) all item (first .value) (first .itsValue)))
         ∙ sym (so-misses (first .kind) (first .low) (first .high) (first .value) (low-ordered (given .sheet) (passed .right) among) (first .missed)),

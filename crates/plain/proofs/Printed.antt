@@ -26,11 +26,11 @@ use Rattle.makers.specs.Maps.{Row}
 use Rattle.makers.specs.Sheets.{sheetOf}
 use Rattle.makers.proofs.Sheets.{Meter, ux15-25, aswe-40, aswe-50, aswe-80, mapOf, countsOf, Said, saidBy, meant, says, rowOf, rowsOf, sheet-sound}
 use Rattle.plain.specs.Numbers.{Bytes, word}
-use Rattle.plain.specs.Sheet.{LiesAt}
+use Rattle.plain.specs.Sheet.{WritableAt}
 use Rattle.plain.specs.Frame as plain
 use Rattle.plain.specs.Frame.{Set, WouldBe}
 use Rattle.plain.specs.Registers.{writeOne, TakenWithin, AsPrinted}
-use Rattle.plain.proofs.Rows.{word-same, lies-plain}
+use Rattle.plain.proofs.Rows.{word-same, plain-lies, writable-plain}
 use Rattle.plain.proofs.Registers.{goes, goes-here, lies-once, sent-same, taken-within}
 
 module _ (given : Lent) (keeps : sound (given .sheet) ≡ true) (bytes : Bytes (given .sheet)) (set06 : Set (word (given .sheet) 12) 4) (item : Item)
@@ -40,15 +40,19 @@ module _ (given : Lent) (keeps : sound (given .sheet) ≡ true) (bytes : Bytes (
 
   -- ---- where an item lies
 
-  item-lies : liesIn (areas (given .sheet)) first ≡ At (item .place) 3
+  item-lies : WritableAt (given .sheet) first (item .place)
   item-lies =
       let found = address-lies (given .sheet) keeps (item .place) (held-below (given .sheet) keeps (item .place) among (holds-first item (item .place) refl)) in
-      found .1 ∙ ap (At (item .place))
+      writable-plain (given .sheet) keeps (found .1)
       (covered-access (given .sheet) keeps first (item .place) (found .0) (found .1)
       (held-covered (given .sheet) keeps (item .place) among (holds-first item (item .place) refl)))
 
+  small-at : {at place : ℕ} → WritableAt (given .sheet) at place → at ≤ 0xFFFF
+  small-at {at} {place} one =
+      omega (arith, lies-word (given .sheet) bytes at place (one .access) (plain-lies (given .sheet) keeps (one .lies)))
+
   small : first ≤ 0xFFFF
-  small = omega (arith, lies-word (given .sheet) bytes first (item .place) 3 item-lies)
+  small = small-at item-lies
 
   pair-rule : pairRule (areas (given .sheet)) item ≡ true
   unfolding itemsSound
@@ -58,7 +62,7 @@ module _ (given : Lent) (keeps : sound (given .sheet) ≡ true) (bytes : Bytes (
       (each (pairRule (areas (given .sheet))) (items (given .sheet))) (sound-parts (given .sheet) keeps .item-rows))
 
   module _ (pair : item .kind ≡ 2) where
-    next-lies : liesIn (areas (given .sheet)) (first + 1) ≡ At (item .place + 1) 3
+    next-lies : WritableAt (given .sheet) (first + 1) (item .place + 1)
     next-lies = go (some-among (λ (area : Area). placeInArea (item .place) area && placeInArea (item .place + 1) area) (areas (given .sheet)) within)
       where
         left : (b c : Bool) → b ≡ true → (not b || c) ≡ true → c ≡ true
@@ -69,7 +73,7 @@ module _ (given : Lent) (keeps : sound (given .sheet) ≡ true) (bytes : Bytes (
         within = left (isPair item) (pairWithin (areas (given .sheet)) (item .place)) (eq-eqb (item .kind) 2 pair) pair-rule
 
         go : (area : Area) × Among area (areas (given .sheet)) × ((placeInArea (item .place) area && placeInArea (item .place + 1) area) ≡ true)
-            → liesIn (areas (given .sheet)) (first + 1) ≡ At (item .place + 1) 3
+            → WritableAt (given .sheet) (first + 1) (item .place + 1)
         go (area, m, both) =
             let rules = sound-areas (given .sheet) keeps in
             let p = item .place in
@@ -82,15 +86,15 @@ module _ (given : Lent) (keeps : sound (given .sheet) ≡ true) (bytes : Bytes (
             let there-now = lies-there (first + 1) m (rules .ascend) (omega (arith, at, low)) (omega (arith, at, low, top)) in
             let place : area .place + (first + 1 - area .first) ≡ p + 1 = omega (arith, at, low) in
             let lies = there-now ∙ ap (λ (n : ℕ). At n (area .access)) place in
-            lies ∙ ap (At (p + 1)) (covered-access (given .sheet) keeps (first + 1) (p + 1) (area .access) lies
+            writable-plain (given .sheet) keeps lies (covered-access (given .sheet) keeps (first + 1) (p + 1) (area .access) lies
             (held-covered (given .sheet) keeps (p + 1) among (holds-second item (p + 1) (eq-eqb (item .kind) 2 pair) refl)))
 
     small-next : first + 1 ≤ 0xFFFF
-    small-next = omega (arith, lies-word (given .sheet) bytes (first + 1) (item .place + 1) 3 next-lies)
+    small-next = small-at next-lies
 
   -- ---- the word that would be at the place written, and at another
 
-  module _ (at v q : ℕ) (at-small : at ≤ 0xFFFF) (v-small : v < 65536) (lies : LiesAt (given .sheet) at q 3) where
+  module _ (at v q : ℕ) (at-small : at ≤ 0xFFFF) (v-small : v < 65536) (lies : WritableAt (given .sheet) at q) where
     sent-there : WouldBe given (writeOne given at v) q v
     sent-there =
         plain.written 0 (goes-here given keeps bytes at v at-small v-small set06 q lies) (sym (sent-same given at v at-small v-small))
@@ -103,27 +107,27 @@ module _ (given : Lent) (keeps : sound (given .sheet) ≡ true) (bytes : Bytes (
 
   pub word-taken : (item .kind ≡ 2 → ⊥) → (v : ℕ) → v < 65536 → TakenWithin given first v (item .kind) (item .low) (item .high) v
   word-taken single v v-small =
-      let lies = lies-plain (given .sheet) keeps item-lies in
+      let lies = item-lies in
       taken-within given keeps bytes first v small v-small set06 (item .place) lies item among
       (0, inl (goes-here given keeps bytes first v small v-small set06 (item .place) lies)) v
       (plain.ofWord single (sent-there first v (item .place) small v-small lies))
 
-  pub upper-taken : item .kind ≡ 2 → (v place : ℕ) → v < 65536 → LiesAt (given .sheet) (first + 1) place 3
+  pub upper-taken : item .kind ≡ 2 → (v place : ℕ) → v < 65536 → WritableAt (given .sheet) (first + 1) place
       → TakenWithin given first v (item .kind) (item .low) (item .high) (65536 * v + word (given .bank) (2 * place))
   upper-taken pair v place v-small next =
-      let lies = lies-plain (given .sheet) keeps item-lies in
-      let same : place ≡ item .place + 1 = lies-once (given .sheet) keeps next (lies-plain (given .sheet) keeps (next-lies pair)) in
+      let lies = item-lies in
+      let same : place ≡ item .place + 1 = lies-once (given .sheet) keeps (next .lies) (next-lies pair .lies) in
       taken-within given keeps bytes first v small v-small set06 (item .place) lies item among
       (0, inl (goes-here given keeps bytes first v small v-small set06 (item .place) lies)) (65536 * v + word (given .bank) (2 * place))
       (plain.ofPair pair v (word (given .bank) (2 * place)) (sent-there first v (item .place) small v-small lies)
       (subst (λ (n : ℕ). WouldBe given (writeOne given first v) n (word (given .bank) (2 * place))) same
       (kept-elsewhere first v (item .place) small v-small lies place (λ e. omega (arith, e, same)))) refl)
 
-  pub lower-taken : item .kind ≡ 2 → (v place : ℕ) → v < 65536 → LiesAt (given .sheet) first place 3
+  pub lower-taken : item .kind ≡ 2 → (v place : ℕ) → v < 65536 → WritableAt (given .sheet) first place
       → TakenWithin given (first + 1) v (item .kind) (item .low) (item .high) (65536 * word (given .bank) (2 * place) + v)
   lower-taken pair v place v-small front =
-      let lies = lies-plain (given .sheet) keeps (next-lies pair) in
-      let same : place ≡ item .place = lies-once (given .sheet) keeps front (lies-plain (given .sheet) keeps item-lies) in
+      let lies = next-lies pair in
+      let same : place ≡ item .place = lies-once (given .sheet) keeps (front .lies) (item-lies .lies) in
       taken-within given keeps bytes (first + 1) v (small-next pair) v-small set06 (item .place + 1) lies item among
       (0, inr (pair, goes-here given keeps bytes (first + 1) v (small-next pair) v-small set06 (item .place + 1) lies))
       (65536 * word (given .bank) (2 * place) + v)

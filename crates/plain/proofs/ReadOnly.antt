@@ -1,5 +1,5 @@
--- What follows from what a call leaves: a word that lies in an access 1 area is as before, and a word that is not as before lies in an access 3
--- area or is the mark. Assumes nothing.
+-- What follows from what a call leaves: a word that lies in an access 1 area is as before, and a word that is not as before lies in an area of access 2 or 3
+-- or is the mark. Assumes nothing.
 use mathlib.Core.Path.{_≡_, sym, ap, _∙_}
 use mathlib.Core.Bool.{true}
 use mathlib.Core.Logic.{_⊎_, inl, inr}
@@ -13,7 +13,7 @@ use Rattle.sheet_rules.specs.Lookup.{liesIn}
 use Rattle.sheet_rules.proofs.Addresses.{place-address, lies-below}
 use Rattle.bank_rules.specs.Calls.{Lent}
 use Rattle.plain.specs.Numbers.{word}
-use Rattle.plain.specs.Sheet.{LiesAt}
+use Rattle.plain.specs.Sheet.{LiesAt, WritableAt}
 use Rattle.plain.specs.Frame.{address}
 use Rattle.plain.specs.Left as left
 use Rattle.plain.specs.Left.{WordLeft}
@@ -34,12 +34,16 @@ module _ (sheet : List ℕ) (keeps : sound sheet ≡ true) where
 
 module _ (given : Lent) (frame : List ℕ) (keeps : sound (given .sheet) ≡ true) {place : ℕ} where
   pub read-only-kept : {a w : ℕ} → LiesAt (given .sheet) a place 1 → WordLeft given frame place w → w ≡ word (given .bank) (2 * place)
-  read-only-kept lies (left.stored k stored is) = absurd (omega (arith, one-access (given .sheet) keeps lies (stored .goes .1)))
+  read-only-kept lies (left.stored k stored is) = absurd (never (stored .goes .1 .permitted))
+    where
+      never : (stored .goes .1 .access ≡ 2) ⊎ (stored .goes .1 .access ≡ 3) → ⊥
+      never (inl e) = omega (arith, one-access (given .sheet) keeps lies (stored .goes .1 .lies), e)
+      never (inr e) = omega (arith, one-access (given .sheet) keeps lies (stored .goes .1 .lies), e)
   read-only-kept lies (left.cleared clears is) = absurd (omega (arith, below (given .sheet) keeps lies, clears .2))
   read-only-kept lies (left.asBefore none unclear is) = is
 
   pub changed-writable : {w : ℕ} → WordLeft given frame place w → (w ≡ word (given .bank) (2 * place) → ⊥)
-      → ((k : ℕ) × LiesAt (given .sheet) (address frame k) place 3) ⊎ (place ≡ word (given .sheet) 10)
+      → ((k : ℕ) × WritableAt (given .sheet) (address frame k) place) ⊎ (place ≡ word (given .sheet) 10)
   changed-writable (left.stored k stored is) other = inl (k, stored .goes .1)
   changed-writable (left.cleared clears is) other = inr (clears .2)
   changed-writable (left.asBefore none unclear is) other = absurd (other is)

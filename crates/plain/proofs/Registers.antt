@@ -23,7 +23,7 @@ use Rattle.frame.specs.Frame.{count, run}
 use Rattle.meter_rules.specs.Write.{firstPlace, wouldBe}
 use Rattle.meter_rules.proofs.Soundness.{open-write}
 use Rattle.plain.specs.Numbers.{byte, word, Bytes}
-use Rattle.plain.specs.Sheet.{LiesAt}
+use Rattle.plain.specs.Sheet.{LiesAt, WritableAt}
 use Rattle.plain.specs.Frame as plain
 use Rattle.plain.specs.Frame.{Gets, error, good, Set, Whole, RightAddress, RightValue, Within, ValueWouldBe, Touches, Writable}
 use Rattle.plain.specs.Registers.{oneBody, writeOne, TakenWithin}
@@ -53,7 +53,7 @@ lies-once sheet keeps {at} {p} {q} {x} {y} one other =
     cc
 
 module _ (given : Lent) (keeps : sound (given .sheet) ≡ true) (bytes : Bytes (given .sheet)) (at v : ℕ) (small : at ≤ 0xFFFF) (word-sent : v < 65536)
-    (set06 : Set (word (given .sheet) 12) 4) (q : ℕ) (lies : LiesAt (given .sheet) at q 3) where
+    (set06 : Set (word (given .sheet) 12) 4) (q : ℕ) (lies : WritableAt (given .sheet) at q) where
   abbrev sent : List ℕ
   sent = writeOne given at v
 
@@ -68,7 +68,7 @@ module _ (given : Lent) (keeps : sound (given .sheet) ≡ true) (bytes : Bytes (
         recorded = λ e. absurd (no-other (λ f. omega (arith, f)) e);
         written = λ is k less. let none : k ≡ 0 = omega (arith, less) in
             let here : word sent 2 + k ≡ at = omega (arith, none, at-same given at v small word-sent) in
-            subst (Writable (given .sheet)) (sym here) record { small = small; place = q; lies = lies };
+            subst (Writable (given .sheet)) (sym here) record { small = small; place = q; written = lies };
         cleared = λ e. absurd (no-other (λ f. omega (arith, f)) e);
       }
 
@@ -76,12 +76,12 @@ module _ (given : Lent) (keeps : sound (given .sheet) ≡ true) (bytes : Bytes (
   goes k place is =
       let none : k ≡ 0 = omega (arith, is .0) in
       let here : word sent 2 + k ≡ at = omega (arith, none, at-same given at v small word-sent) in
-      lies-once (given .sheet) keeps (subst (λ (n : ℕ). LiesAt (given .sheet) n place 3) here (is .1)) lies
+      lies-once (given .sheet) keeps (subst (λ (n : ℕ). WritableAt (given .sheet) n place) here (is .1) .lies) (lies .lies)
 
   pub goes-here : plain.Goes (given .sheet) sent 0 q
   goes-here =
       let here : word sent 2 + 0 ≡ at = omega (arith, at-same given at v small word-sent) in
-      (omega arith, subst (λ (n : ℕ). LiesAt (given .sheet) n q 3) (sym here) lies)
+      (omega arith, subst (λ (n : ℕ). WritableAt (given .sheet) n q) (sym here) lies)
 
   all-open : allOpen Write (given .sheet) (run sent) ≡ true
   all-open = open-write given sent refl (address-tells given keeps bytes sent .wrongly addresses) .all

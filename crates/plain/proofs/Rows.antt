@@ -1,21 +1,24 @@
 -- The rows of a sheet, and what lies at an address: plain numbers say what the definitions say. Assumes nothing.
-use mathlib.Core.Path.{_≡_, sym, ap, ap₂, subst, _∙_}
-use mathlib.Core.Bool.{true}
+use mathlib.Core.Path.{_≡_, refl, sym, ap, ap₂, subst, _∙_}
+use mathlib.Core.Bool.{Bool, true, false, _||_, or-true}
 use mathlib.Core.List.{List}
+use mathlib.Core.Logic.{_⊎_, inl, inr}
 use Prim.Native.Nat.{ℕ, _+_, _-_, _*_}
 use native.Mathlib.Omega.{arith}
+use lib.Dec.{eqb}
+use borrow.Author.Tests.{eqb-true, eq-eqb}
 use Rattle.words.specs.Words.{wordAt}
 use Rattle.sheet_rules.specs.declared.Area.{Area}
 use Rattle.sheet_rules.specs.declared.Item.{Item}
 use Rattle.sheet_rules.specs.declared.Lies.the-variants.{At}
 use Rattle.sheet_rules.specs.Rows.{areaCount, itemCount, areaAt, itemAt, areas, items, itemFrom}
-use Rattle.sheet_rules.specs.Rules.{sound}
+use Rattle.sheet_rules.specs.Rules.{writable, sound}
 use Rattle.sheet_rules.specs.Lookup.{liesIn}
 use Rattle.sheet_rules.proofs.Sound.{sound-areas}
 use Rattle.sheet_rules.proofs.Addresses.{lies-found, lies-there}
 use Rattle.lists.proofs.Among.{Among, row-among, among-row}
 use Rattle.plain.specs.Numbers.{word}
-use Rattle.plain.specs.Sheet.{AreaRow, ItemRow, LiesAt}
+use Rattle.plain.specs.Sheet.{AreaRow, ItemRow, LiesAt, WritableAt}
 
 -- a word is a word
 pub word-same : (bytes : List ℕ) (at : ℕ) → word bytes at ≡ wordAt bytes at
@@ -24,6 +27,18 @@ word-same bytes at = omega arith
 
 word-at : (bytes : List ℕ) {n m : ℕ} → n ≡ m → word bytes n ≡ wordAt bytes m
 word-at bytes {n} e = word-same bytes n ∙ ap (wordAt bytes) e
+
+-- one of two numbers, by tests and as such
+pub one-of : (n a b : ℕ) → (eqb n a || eqb n b) ≡ true → (n ≡ a) ⊎ (n ≡ b)
+one-of n a b = go (eqb n a) refl
+  where
+    go : (one : Bool) → eqb n a ≡ one → (one || eqb n b) ≡ true → (n ≡ a) ⊎ (n ≡ b)
+    go true is e = inl (eqb-true n a is)
+    go false is e = inr (eqb-true n b e)
+
+pub of-one : {n a b : ℕ} → (n ≡ a) ⊎ (n ≡ b) → (eqb n a || eqb n b) ≡ true
+of-one {n} {a} {b} (inl e) = ap (λ (one : Bool). one || eqb n b) (eq-eqb n a e)
+of-one {n} {a} {b} (inr e) = ap (λ (other : Bool). eqb n a || other) (eq-eqb n b e) ∙ or-true (eqb n a)
 
 module _ (sheet : List ℕ) where
   -- ---- area rows
@@ -84,6 +99,14 @@ module _ (sheet : List ℕ) where
     plain-lies at =
         lies-there address (row-area (at .row)) (sound-areas sheet keeps .ascend) (at .notBefore) (at .notBehind)
         ∙ ap (λ (n : ℕ). At n access) (sym (at .there))
+
+    -- .. and can be written
+    pub writable-plain : liesIn (areas sheet) address ≡ At place access → writable access ≡ true → WritableAt sheet address place
+    writable-plain e open? = record { access = access; lies = lies-plain e; permitted = one-of access 2 3 open? }
+
+  pub plain-writable : sound sheet ≡ true → {address place : ℕ} → WritableAt sheet address place
+      → (access : ℕ) × (liesIn (areas sheet) address ≡ At place access) × (writable access ≡ true)
+  plain-writable keeps one = (one .access, plain-lies keeps (one .lies), of-one (one .permitted))
 
   -- ---- item rows
 

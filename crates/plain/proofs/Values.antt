@@ -36,7 +36,7 @@ use Rattle.plain.specs.Numbers.{signedAndMore}
 use Rattle.plain.specs.Sheet.{ItemRow}
 use Rattle.plain.specs.Frame.{sentWord, Goes, WouldBe, written, kept, ValueWouldBe, ofWord, ofPair, Touches, Within, RightValue}
 use Rattle.plain.specs.Why.{Under, Misses, tooLow, tooHigh}
-use Rattle.plain.proofs.Rows.{word-same, lies-plain, plain-lies, item-row, row-item}
+use Rattle.plain.proofs.Rows.{word-same, lies-plain, writable-plain, plain-lies, item-row, row-item}
 use Rattle.plain.proofs.Conditions.{Tells, neither-first, neither-second, neither, where-so, so-where}
 use Rattle.plain.proofs.Addresses.{address-same, registers-same, writes, which}
 
@@ -164,7 +164,7 @@ module _ (given : Lent) (frame : List ℕ) (keeps : sound (given .sheet) ≡ tru
 
   pub goes-at : (k place : ℕ) → Goes (given .sheet) frame k place → place ≡ first + k
   goes-at k place goes =
-      sym (ap placeIn (plain-lies (given .sheet) keeps (goes .1))) ∙ ap (λ (n : ℕ). placeIn (liesIn (areas (given .sheet)) n)) (address-same frame k)
+      sym (ap placeIn (plain-lies (given .sheet) keeps (goes .1 .lies))) ∙ ap (λ (n : ℕ). placeIn (liesIn (areas (given .sheet)) n)) (address-same frame k)
       ∙ run-place Write (given .sheet) keeps (start frame) many all k (omega (arith, goes .0, registers-same frame))
 
   pub goes-in : (k place : ℕ) → Goes (given .sheet) frame k place → inRun first many place ≡ true
@@ -182,8 +182,8 @@ module _ (given : Lent) (frame : List ℕ) (keeps : sound (given .sheet) ≡ tru
       let there : placeIn (liesIn (areas (given .sheet)) (start frame + k)) ≡ place =
       run-place Write (given .sheet) keeps (start frame) many all k less ∙ (let sum : first + k ≡ place = omega arith in sum) in (
         omega (arith, registers-same frame),
-        lies-plain (given .sheet) keeps (ap (liesIn (areas (given .sheet))) (address-same frame k) ∙ one .at
-            ∙ ap₂ At there (eqb-true (one .access) 3 (one .permitted))),
+        writable-plain (given .sheet) keeps (ap (liesIn (areas (given .sheet))) (address-same frame k) ∙ one .at ∙ ap (λ (n : ℕ). At n (one .access)) there)
+            (one .permitted),
       )
 
   -- ---- the word that would be at a place

@@ -10,7 +10,7 @@ use lib.ListN.{length, take}
 use Rattle.check_value.specs.Check.{valueOf}
 use Rattle.bank_rules.specs.Calls.{Lent}
 use Rattle.plain.specs.Numbers.{byte, word, signedAndMore}
-use Rattle.plain.specs.Sheet.{ItemRow, LiesAt}
+use Rattle.plain.specs.Sheet.{ItemRow, LiesAt, WritableAt}
 use Rattle.plain.specs.Records.{RecordAt, AtRecord, howMany}
 
 -- ---- 1, rules J10 and C4 to C6: the length, and the last two bytes hold the check value of those before them, low byte first
@@ -65,7 +65,7 @@ pub record Readable (sheet : List ℕ) (at : ℕ) : Type 0 where
 pub record Writable (sheet : List ℕ) (at : ℕ) : Type 0 where
   pub small : at ≤ 0xFFFF
   pub place : ℕ
-  pub lies : LiesAt sheet at place 3
+  pub written : WritableAt sheet at place
 
 -- a read from no record's address on asks for at most 47 registers, each of which can be read; a record that is read is one of those stored; a write's
 -- registers can be written; a clear is at the clear address
@@ -84,7 +84,7 @@ sentWord frame k = word frame (cond (eqb (byte frame 1) 0x06) 4 7 + 2 * k)
 
 -- the write goes to a place with its k-th word
 abbrev pub Goes : List ℕ → List ℕ → ℕ → ℕ → Type 0
-Goes sheet frame k place = (k < registers frame) × LiesAt sheet (address frame k) place 3
+Goes sheet frame k place = (k < registers frame) × WritableAt sheet (address frame k) place
 
 -- the word that would be at a place: the word sent there, or the bank's where none is
 pub data WouldBe (given : Lent) (frame : List ℕ) (place w : ℕ) : Type 0 where

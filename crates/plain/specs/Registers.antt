@@ -7,7 +7,7 @@ use Rattle.check_value.specs.Check.{valueOf}
 use Rattle.bank_rules.specs.Calls.{Lent}
 use Rattle.makers.specs.Maps.{Row}
 use Rattle.plain.specs.Numbers.{word}
-use Rattle.plain.specs.Sheet.{LiesAt}
+use Rattle.plain.specs.Sheet.{WritableAt}
 use Rattle.plain.specs.Frame.{Within, Gets, error, good}
 
 -- a 06 to the bank's own station: station, 06, address, value, and the check
@@ -27,7 +27,7 @@ pub record TakenWithin (given : Lent) (at sent kind low high value : ℕ) : Type
 -- a row as a map has it: a word is judged by itself, a half of a pair with the other half as the bank has it
 pub record AsPrinted (given : Lent) (row : Row) : Type 0 where
   pub ofWord : (row .kind ≡ 2 → ⊥) → (v : ℕ) → v < 65536 → TakenWithin given (row .first) v (row .kind) (row .low) (row .high) v
-  pub ofUpper : row .kind ≡ 2 → (v place : ℕ) → v < 65536 → LiesAt (given .sheet) (row .first + 1) place 3
+  pub ofUpper : row .kind ≡ 2 → (v place : ℕ) → v < 65536 → WritableAt (given .sheet) (row .first + 1) place
       → TakenWithin given (row .first) v (row .kind) (row .low) (row .high) (65536 * v + word (given .bank) (2 * place))
-  pub ofLower : row .kind ≡ 2 → (v place : ℕ) → v < 65536 → LiesAt (given .sheet) (row .first) place 3
+  pub ofLower : row .kind ≡ 2 → (v place : ℕ) → v < 65536 → WritableAt (given .sheet) (row .first) place
       → TakenWithin given (row .first + 1) v (row .kind) (row .low) (row .high) (65536 * word (given .bank) (2 * place) + v)

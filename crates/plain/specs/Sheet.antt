@@ -2,6 +2,7 @@
 -- the area rows, of four words each, and behind them the item rows, of six. Assumes nothing.
 use mathlib.Core.Path.{_≡_}
 use mathlib.Core.List.{List}
+use mathlib.Core.Logic.{_⊎_}
 use Prim.Native.Nat.{ℕ, _+_, _-_, _*_, _≤_, _<_}
 use Rattle.plain.specs.Numbers.{word}
 
@@ -39,3 +40,9 @@ pub record LiesAt (sheet : List ℕ) (address place access : ℕ) : Type 0 where
   pub notBefore : first ≤ address
   pub notBehind : address ≤ last
   pub there : place ≡ begins + (address - first)
+
+-- an address of a register that can be written has this place in the bank: it lies in an area of access 2 or 3
+pub record WritableAt (sheet : List ℕ) (address place : ℕ) : Type 0 where
+  pub access : ℕ
+  pub lies : LiesAt sheet address place access
+  pub permitted : (access ≡ 2) ⊎ (access ≡ 3)

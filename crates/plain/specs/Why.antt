@@ -8,7 +8,7 @@ use lib.ListN.{length, take}
 use Rattle.check_value.specs.Check.{valueOf}
 use Rattle.bank_rules.specs.Calls.{Lent}
 use Rattle.plain.specs.Numbers.{byte, word, signedAndMore}
-use Rattle.plain.specs.Sheet.{ItemRow, LiesAt}
+use Rattle.plain.specs.Sheet.{ItemRow, WritableAt}
 use Rattle.plain.specs.Records.{RecordAt, AtRecord, howMany}
 use Rattle.plain.specs.Frame.{Whole, OurStation, Allowed, RightLength, RightCount, RightAddress, registers, address, Readable, Writable, Touches, ValueWouldBe, Within, silence, error, good, Gets}
 
@@ -72,7 +72,7 @@ pub record FirstBadItem (given : Lent) (frame : List ℕ) (at side : ℕ) : Type
   pub missed : Misses kind low high value side
   pub inFront : (kind other low high value : ℕ) → ItemRow (given .sheet) kind other low high → Touches (given .sheet) frame kind other
       → ValueWouldBe given frame other value kind → other < place → Within kind low high value
-  pub itsAddress : LiesAt (given .sheet) at place 3
+  pub itsAddress : WritableAt (given .sheet) at place
 
 -- rules Y0, Y1 and Y10 to Y24: the number of the reason, and the address and the side that are told with it
 pub data Why (given : Lent) (frame : List ℕ) : ℕ → ℕ → ℕ → Type 0 where
