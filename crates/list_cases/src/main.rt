@@ -46,15 +46,19 @@ fn presets_too_early() -> [u8; 396] {
     sheet
 }
 
+fn list_versions() {
+    list(b"UX15/25, version 2\n", &of_version(2));
+    list(b"UX15/25, version 3\n", &of_version(3));
+    list(b"AS-WE 40, version 1\n", &presets_too_early());
+}
+
 fn main() {
     let ux = makers::ux();
     list(b"UX15/25\n", &ux);
     list(b"AS-WE 40\n", &makers::aswe_40());
     list(b"AS-WE 50\n", &makers::aswe_50());
     list(b"AS-WE 80\n", &makers::aswe_80());
-    list(b"UX15/25, version 2\n", &of_version(2));
-    list(b"UX15/25, version 3\n", &of_version(3));
-    list(b"AS-WE 40, version 1\n", &presets_too_early());
+    list_versions();
     list(b"UX15/25, word 11 not zero\n", &changed());
     list(b"UX15/25, one byte too many\n", &longer());
     list_front(b"UX15/25, one byte too few\n", &ux, 255);
