@@ -111,7 +111,7 @@ added-answers = refl
 -- ---- demand 1: an input for each refusal of the calls on a ring, for 8 of those with a frame, and one that is not refused
 
 abbrev otherVersion : List ℕ
-otherVersion = withWord sheet 0 2
+otherVersion = withWord sheet 0 3
 
 abbrev ringCalls : List ℕ
 ringCalls =
