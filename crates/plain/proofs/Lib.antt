@@ -16,3 +16,4 @@ pub mod Meets
 pub mod Witness
 pub mod FirstBad
 pub mod Why
+pub mod Alike

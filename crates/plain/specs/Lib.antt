@@ -7,3 +7,4 @@ pub mod Damage
 pub mod Registers
 pub mod Left
 pub mod Why
+pub mod Alike
