@@ -5,3 +5,4 @@ pub mod Records
 pub mod Witness
 pub mod RecordWitness
 pub mod Reasons
+pub mod Presets

@@ -33,7 +33,7 @@ use Rattle.plain.proofs.Conditions.{whole-tells}
 use Rattle.plain.proofs.Fates.{one-fate, unmet}
 use Rattle.plain.proofs.Why as why
 use Rattle.cedarskein.specs.Door.{Handed, Said, said, saidOf}
-use Rattle.demands.specs.Seen.{Accepted, leftBy}
+use Rattle.demands.specs.Seen.{Accepted, leftBy, Replied}
 use Rattle.demands.specs.Reasons.{Errs, Agrees}
 use Rattle.demands.proofs.Calls.{Answers, Explains, answers-bytes, explains-is, explains-bytes}
 use Rattle.demands.proofs.Frames.{frame-leaves}
@@ -92,10 +92,10 @@ module _ (given : Lent) (frame : List ℕ) {told : Said} (call : Explains given 
 -- ---- and it agrees with what is answered
 
 -- what is handed back, by what a frame gets
-abbrev Seen : Fate → Handed → Type 0
+abbrev pub Seen : Fate → Handed → Type 0
 Seen silence left = left .number ≡ 1
 Seen (error code) left = Errs code left
-Seen good left = (left .number ≡ 0) × (6 ≤ left .length)
+Seen good left = Replied left
 
 seen-once : (one other : Fate) (left : Handed) → Seen one left → Seen other left → one ≡ other
 seen-once silence silence left a b = refl
@@ -134,7 +134,7 @@ module _ (given : Lent) (frame buffer : List ℕ) (accepted : Accepted given buf
   seen (plain.echoed is number size rate reply) gets = (number, omega (arith, size))
 
   -- a frame gets what is seen, and what is seen it gets
-  seen-gets : (fate : Fate) → Seen fate left ↔ Gets given frame fate
+  pub seen-gets : (fate : Fate) → Seen fate left ↔ Gets given frame fate
   seen-gets fate =
       let here = seen (leaves .handsBack) (leaves .gets) in (
         λ is. subst (Gets given frame) (seen-once (leaves .fate) fate left here is) (leaves .gets),

@@ -27,8 +27,7 @@ one-access sheet keeps {at} {p} {q} {x} {y} one other =
     let same : At p x ≡ At q y = sym (plain-lies sheet keeps one) ∙ plain-lies sheet keeps other in
     cc
 
-module _ (given : Lent) (keeps : sound (given .sheet) ≡ true) (bank : List ℕ) (agree : AgreeOutside given bank) (frame : List ℕ)
-    (reads : byte frame 1 ≡ 0x03) where
+module _ (given : Lent) (bank : List ℕ) (agree : AgreeOutside given bank) (frame : List ℕ) (reads : byte frame 1 ≡ 0x03) where
   abbrev other : Lent
   other = withBank given bank
 
@@ -72,58 +71,6 @@ module _ (given : Lent) (keeps : sound (given .sheet) ≡ true) (bank : List ℕ
   gets-alike (fates.allRight whole our allowed long counted right inside) =
       fates.allRight whole (ours our) allowed long counted (addressed right) (valued given)
 
-  -- ---- what is handed back
-
-  -- the same handed back, and the bank as it was
-  abbrev pub handedAlike : Left → Left
-  handedAlike left = record { number = left .number; size = left .size; rate = left .rate; bank = given .bank; buffer = left .buffer }
-
-  readable : Gets other frame fates.good → (AtRecord (given .sheet) (word frame 2) → ⊥) → (k : ℕ) → k < registers frame
-      → Readable (given .sheet) (address frame k)
-  readable (fates.allRight whole our allowed long counted right inside) none k less = right .read reads none k less
-
-  words-alike : {before after : List ℕ} → ((k : ℕ) → k < registers frame → Readable (given .sheet) (address frame k)) → ReadReply other frame before after
-      → ReadReply given frame before after
-  words-alike all reply =
-      record {
-        closed = reply .closed;
-        station = reply .station;
-        function = reply .function;
-        bytes = reply .bytes;
-        words = λ k place access less lies. reply .words k place access less lies ∙ agree .elsewhere (address frame k) place access lies (open? k less lies);
-      }
-    where
-      open? : (k : ℕ) → k < registers frame → {place access : ℕ} → LiesAt (given .sheet) (address frame k) place access → access ≡ 2 → ⊥
-      open? k less lies two = go (all k less .permitted)
-        where
-          go : (all k less .access ≡ 1) ⊎ (all k less .access ≡ 3) → ⊥
-          go (inl e) = omega (arith, e, two, one-access (given .sheet) keeps lies (all k less .lies))
-          go (inr e) = omega (arith, e, two, one-access (given .sheet) keeps lies (all k less .lies))
-
-  hands-alike : {before : List ℕ} {left : Left} {fate : Fate} → Gets other frame fate → HandsBack other frame before left fate
-      → HandsBack given frame before (handedAlike left) fate
-  hands-alike gets (plain.quiet is) = plain.quiet (ap handedAlike is)
-  hands-alike gets (plain.erred number size rate reply) = plain.erred number size (rate ∙ agree .rate) reply
-  hands-alike gets (plain.read asks none number size rate reply) =
-      plain.read asks none number size (rate ∙ agree .rate) (words-alike (readable gets none) reply)
-  hands-alike gets (plain.recorded asks k many words at number size rate reply) =
-      plain.recorded asks k many words at number size (rate ∙ agree .rate) reply
-  hands-alike gets (plain.echoed asks number size rate reply) = absurd (asks reads)
-
-  unchanged : (place : ℕ) → WordLeft given frame place (word (given .bank) (2 * place))
-  unchanged place = plain.asBefore (λ k stored. no-write (stored .through .writes)) (λ clears. no-clear (clears .1)) refl
-
-  -- what the one bank leaves to a read is what the other one does, but for the bank itself, which stays
-  pub leaves-alike : {before : List ℕ} {left : Left} → Leaves other frame before left → Leaves given frame before (handedAlike left)
-  leaves-alike leaves =
-      record {
-        fate = leaves .fate;
-        gets = gets-alike (leaves .gets);
-        handsBack = hands-alike (leaves .gets) (leaves .handsBack);
-        bankSize = refl;
-        words = unchanged;
-      }
-
   -- ---- the reason
 
   function-alike : AsFunction other frame → AsFunction given frame
@@ -150,3 +97,56 @@ module _ (given : Lent) (keeps : sound (given .sheet) ≡ true) (bank : List ℕ
   why-alike (why.byAddress so-far first) = why.byAddress (count-alike so-far) (first-alike first)
   why-alike (why.byClearValue so-far right is e) = absurd (no-clear is)
   why-alike (why.byItem so-far right item) = absurd (no-write (item .writes))
+
+  -- ---- what is handed back
+
+  -- the same handed back, and the bank as it was
+  abbrev pub handedAlike : Left → Left
+  handedAlike left = record { number = left .number; size = left .size; rate = left .rate; bank = given .bank; buffer = left .buffer }
+
+  readable : Gets other frame fates.good → (AtRecord (given .sheet) (word frame 2) → ⊥) → (k : ℕ) → k < registers frame
+      → Readable (given .sheet) (address frame k)
+  readable (fates.allRight whole our allowed long counted right inside) none k less = right .read reads none k less
+
+  module _ (keeps : sound (given .sheet) ≡ true) where
+    words-alike : {before after : List ℕ} → ((k : ℕ) → k < registers frame → Readable (given .sheet) (address frame k)) → ReadReply other frame before after
+        → ReadReply given frame before after
+    words-alike all reply =
+        record {
+          closed = reply .closed;
+          station = reply .station;
+          function = reply .function;
+          bytes = reply .bytes;
+          words = λ k place access less lies. reply .words k place access less lies ∙ agree .elsewhere (address frame k) place access lies (open? k less lies);
+        }
+      where
+        open? : (k : ℕ) → k < registers frame → {place access : ℕ} → LiesAt (given .sheet) (address frame k) place access → access ≡ 2 → ⊥
+        open? k less lies two = go (all k less .permitted)
+          where
+            go : (all k less .access ≡ 1) ⊎ (all k less .access ≡ 3) → ⊥
+            go (inl e) = omega (arith, e, two, one-access (given .sheet) keeps lies (all k less .lies))
+            go (inr e) = omega (arith, e, two, one-access (given .sheet) keeps lies (all k less .lies))
+
+    hands-alike : {before : List ℕ} {left : Left} {fate : Fate} → Gets other frame fate → HandsBack other frame before left fate
+        → HandsBack given frame before (handedAlike left) fate
+    hands-alike gets (plain.quiet is) = plain.quiet (ap handedAlike is)
+    hands-alike gets (plain.erred number size rate reply) = plain.erred number size (rate ∙ agree .rate) reply
+    hands-alike gets (plain.read asks none number size rate reply) =
+        plain.read asks none number size (rate ∙ agree .rate) (words-alike (readable gets none) reply)
+    hands-alike gets (plain.recorded asks k many words at number size rate reply) =
+        plain.recorded asks k many words at number size (rate ∙ agree .rate) reply
+    hands-alike gets (plain.echoed asks number size rate reply) = absurd (asks reads)
+
+    unchanged : (place : ℕ) → WordLeft given frame place (word (given .bank) (2 * place))
+    unchanged place = plain.asBefore (λ k stored. no-write (stored .through .writes)) (λ clears. no-clear (clears .1)) refl
+
+    -- what the one bank leaves to a read is what the other one does, but for the bank itself, which stays
+    pub leaves-alike : {before : List ℕ} {left : Left} → Leaves other frame before left → Leaves given frame before (handedAlike left)
+    leaves-alike leaves =
+        record {
+          fate = leaves .fate;
+          gets = gets-alike (leaves .gets);
+          handsBack = hands-alike (leaves .gets) (leaves .handsBack);
+          bankSize = refl;
+          words = unchanged;
+        }

@@ -17,3 +17,4 @@ pub mod Witness
 pub mod FirstBad
 pub mod Why
 pub mod Alike
+pub mod FullPairs

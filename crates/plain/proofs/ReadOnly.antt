@@ -21,7 +21,7 @@ use Rattle.plain.proofs.Rows.{word-same, plain-lies}
 
 module _ (sheet : List ℕ) (keeps : sound sheet ≡ true) where
   -- a place has one access, whatever address leads to it
-  one-access : {a b place x y : ℕ} → LiesAt sheet a place x → LiesAt sheet b place y → x ≡ y
+  pub one-access : {a b place x y : ℕ} → LiesAt sheet a place x → LiesAt sheet b place y → x ≡ y
   one-access {a} {b} {place} {x} {y} one other =
       let here = plain-lies sheet keeps one in
       let there = plain-lies sheet keeps other in
