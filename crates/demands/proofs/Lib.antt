@@ -6,3 +6,4 @@ pub mod Witness
 pub mod RecordWitness
 pub mod Reasons
 pub mod Presets
+pub mod Totals

@@ -16,7 +16,6 @@ use Rattle.plain.specs.Frame as fates
 use Rattle.plain.specs.Frame.{good, Gets, Readable, Writable, registers, address, sentWord}
 use Rattle.plain.specs.Left as plain
 use Rattle.plain.specs.Left.{Left, Stored, WordLeft}
-use Rattle.plain.specs.Why.{Why}
 use Rattle.plain.specs.Alike.{withBank, AgreeOutside}
 use Rattle.plain.proofs.Rows.{plain-lies}
 use Rattle.plain.proofs.Alike.{leaves-alike, why-alike}

@@ -10,9 +10,7 @@ use lib.Dec.{eqb}
 use Rattle.lists.specs.Cases.{firstCase, mapped, InOrder}
 use Rattle.refusals.specs.declared.Answer.{Answer}
 use Rattle.refusals.specs.declared.Answer.the-variants.{Done, Refused}
-use Rattle.refusals.specs.declared.Refusal.{Refusal}
 use Rattle.refusals.proofs.Numbers.{refusal-from-two}
-use Rattle.refusals.specs.Answers.{refusalNumber}
 use Rattle.bank_rules.specs.Calls.{Lent}
 use Rattle.bank_rules.proofs.Changes.{Passed}
 use Rattle.meter_rules.specs.Judgement.{lentAnswer}

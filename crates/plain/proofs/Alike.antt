@@ -15,7 +15,7 @@ use Rattle.plain.specs.Records.{AtRecord}
 use Rattle.plain.specs.Frame as fates
 use Rattle.plain.specs.Frame.{OurStation, RightAddress, RightValue, registers, address, Readable, Fate, Gets}
 use Rattle.plain.specs.Left as plain
-use Rattle.plain.specs.Left.{Left, ReadReply, rateBefore, HandsBack, WordLeft, Leaves}
+use Rattle.plain.specs.Left.{Left, ReadReply, HandsBack, WordLeft, Leaves}
 use Rattle.plain.specs.Why as why
 use Rattle.plain.specs.Why.{AsFunction, AsCount, FirstBadAddress, Why}
 use Rattle.plain.specs.Alike.{withBank, AgreeOutside}

@@ -46,7 +46,7 @@ use Rattle.plain.specs.Numbers.{Bytes, byte, word}
 use Rattle.plain.specs.Records.{AtRecord}
 use Rattle.plain.specs.Frame.{registers, address, Touches, ValueWouldBe, Within}
 use Rattle.plain.specs.Why.{CheckAgrees, ReadsTooMany, Opens, FirstBadAddress, ofRun, ofRecord, ofClear, Misses, FirstBadItem}
-use Rattle.plain.proofs.Rows.{word-same, lies-plain, writable-plain, plain-lies, item-row, row-item}
+use Rattle.plain.proofs.Rows.{word-same, writable-plain, plain-lies, item-row, row-item}
 use Rattle.plain.proofs.Records.{so-record}
 use Rattle.plain.proofs.Conditions.{Tells, by-test, begins-so, so-begins, begins-not, not-begins}
 use Rattle.plain.proofs.Addresses.{Open, open-at, at-open, readable-so, so-readable, writable-so, so-writable, address-same, registers-same, writes, which}

@@ -11,7 +11,7 @@ use Rattle.plain.specs.Frame.{WouldBe, written, kept, ValueWouldBe, ofWo
 use Rattle.plain.specs.Why.{Misses, tooLow, tooHigh, FirstBadItem}
 
 -- a word of bytes has sixteen bits
-word-small : (bytes : List ℕ) → Bytes bytes → (at : ℕ) → word bytes at < 65536
+pub word-small : (bytes : List ℕ) → Bytes bytes → (at : ℕ) → word bytes at < 65536
 word-small bytes small at = omega (arith, small at, small (at + 1))
 
 module _ (given : Lent) (frame : List ℕ) (bank-bytes : Bytes (given .bank)) (frame-bytes : Bytes frame) where

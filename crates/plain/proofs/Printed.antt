@@ -17,7 +17,7 @@ use Rattle.sheet_rules.specs.declared.Item.{Item}
 use Rattle.sheet_rules.specs.declared.Lies.the-variants.{At}
 use Rattle.sheet_rules.specs.Rows.{areas, items, functions}
 use Rattle.sheet_rules.specs.Rules.{sound, isPair, lengthOf, placeInArea, pairWithin, pairRule, kindRule, boundsRule, lowHighRule, coverRule, itemsSound}
-use Rattle.sheet_rules.specs.Lookup.{liesIn, addressOf}
+use Rattle.sheet_rules.specs.Lookup.{addressOf}
 use Rattle.sheet_rules.proofs.Sound.{sound-parts, sound-areas}
 use Rattle.sheet_rules.proofs.Addresses.{address-there, lies-there, address-lies, lies-word}
 use Rattle.bank_rules.specs.Calls.{Lent}

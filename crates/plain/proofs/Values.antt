@@ -36,7 +36,7 @@ use Rattle.plain.specs.Numbers.{signedAndMore}
 use Rattle.plain.specs.Sheet.{ItemRow}
 use Rattle.plain.specs.Frame.{sentWord, Goes, WouldBe, written, kept, ValueWouldBe, ofWord, ofPair, Touches, Within, RightValue}
 use Rattle.plain.specs.Why.{Under, Misses, tooLow, tooHigh}
-use Rattle.plain.proofs.Rows.{word-same, lies-plain, writable-plain, plain-lies, item-row, row-item}
+use Rattle.plain.proofs.Rows.{word-same, writable-plain, plain-lies, item-row, row-item}
 use Rattle.plain.proofs.Conditions.{Tells, neither-first, neither-second, neither, where-so, so-where}
 use Rattle.plain.proofs.Addresses.{address-same, registers-same, writes, which}
 
