@@ -13,15 +13,16 @@ use Rattle.plain.specs.Numbers.{byte, word}
 use Rattle.plain.specs.Sheet.{LiesAt, WritableAt}
 use Rattle.plain.specs.Records.{AtRecord}
 use Rattle.plain.specs.Frame as fates
-use Rattle.plain.specs.Frame.{good, Gets, Readable, Writable, registers, address, sentWord}
+use Rattle.plain.specs.Frame.{good, error, Gets, Whole, OurStation, Allowed, RightLength, RightCount, Readable, Writable, registers, address, sentWord}
 use Rattle.plain.specs.Left as plain
 use Rattle.plain.specs.Left.{Left, Stored, WordLeft}
 use Rattle.plain.specs.Alike.{withBank, AgreeOutside}
 use Rattle.plain.proofs.Rows.{plain-lies}
-use Rattle.plain.proofs.Alike.{leaves-alike, why-alike}
+use Rattle.plain.proofs.Alike.{access-once, leaves-alike, why-alike}
 use Rattle.plain.proofs.ReadOnly.{one-access}
 use Rattle.cedarskein.specs.Door.{Handed, Said, said}
 use Rattle.demands.specs.Seen.{Accepted, leftBy, Replied, HandedAlike}
+use Rattle.demands.specs.Reasons.{Errs}
 use Rattle.demands.proofs.Calls.{Answers, Explains, answers-bytes}
 use Rattle.demands.proofs.Frames.{frame-leaves, leaves-once}
 use Rattle.demands.proofs.Reasons.{seen-gets, why-true, why-once}
@@ -41,6 +42,25 @@ module _ (given : Lent) (frame buffer : List ℕ) (accepted : Accepted given buf
     where
       go : Gets given frame good → Readable (given .sheet) (address frame k)
       go (fates.allRight whole ours allowed long counted right inside) = right .read is none k less
+
+  -- ---- a read that steps 1 to 5 let through and that touches an area of access 2 gets error 02
+
+  pub preset-unread : Whole frame → OurStation given frame → Allowed (given .sheet) frame → RightLength frame → RightCount (given .sheet) frame
+      → byte frame 1 ≡ 0x03 → (AtRecord (given .sheet) (word frame 2) → ⊥) → (k place : ℕ) → k < registers frame
+      → LiesAt (given .sheet) (address frame k) place 2 → Errs 2 left
+  preset-unread whole ours allowed long counted is none k place less lies =
+      seen-gets given frame buffer accepted call (error 2) .1
+      (fates.wrongAddress whole ours allowed long counted (λ right. shut (right .read is none k less)))
+    where
+      shut : Readable (given .sheet) (address frame k) → ⊥
+      shut open-at = go (open-at .permitted)
+        where
+          same : open-at .access ≡ 2
+          same = access-once (given .sheet) keeps (open-at .lies) lies
+
+          go : (open-at .access ≡ 1) ⊎ (open-at .access ≡ 3) → ⊥
+          go (inl e) = omega (arith, e, same)
+          go (inr e) = omega (arith, e, same)
 
   -- ---- and each address of a write in one of access 2 or 3
 

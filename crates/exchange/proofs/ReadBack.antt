@@ -10,7 +10,6 @@ use lib.ListN.{length}
 use Rattle.sheet_rules.specs.declared.Lies.the-variants.{At, Nowhere}
 use Rattle.sheet_rules.specs.Rows.{recordArea}
 use Rattle.sheet_rules.specs.Rules.{sound, inRecords}
-use Rattle.sheet_rules.proofs.Addresses.{place-address}
 use Rattle.sheet_rules.proofs.Records.{record-nowhere}
 use Rattle.bank_rules.specs.Calls.{Lent}
 use Rattle.bank_rules.specs.Bank.{bankBytes, bankSound}
@@ -26,20 +25,20 @@ use Rattle.controller_rules.specs.Query.{query}
 use Rattle.controller_rules.proofs.Framed.{framed, values-fit, count-fits}
 use Rattle.controller_rules.proofs.Queries.{query-station, query-function, query-start, query-second}
 use Rattle.plain.specs.Numbers.{byte, word}
-use Rattle.plain.specs.Sheet.{LiesAt}
+use Rattle.plain.specs.Sheet.{WritableAt}
 use Rattle.plain.specs.Records.{AtRecord}
 use Rattle.plain.specs.Frame as fates
-use Rattle.plain.specs.Frame.{error, good, Gets, Set, Readable, Writable, registers, sentWord}
+use Rattle.plain.specs.Frame.{error, good, Gets, Set, Readable, registers, sentWord}
 use Rattle.plain.specs.Left as plain
-use Rattle.plain.specs.Left.{Stored, WordLeft}
 use Rattle.plain.proofs.Rows.{word-same, plain-lies}
 use Rattle.plain.proofs.Records.{no-record}
 use Rattle.plain.proofs.Addresses.{registers-same, address-same}
 use Rattle.plain.proofs.Fates.{one-fate}
 use Rattle.cedarskein.specs.Door.{Handed, ReplyTold}
-use Rattle.demands.specs.Seen.{Accepted}
+use Rattle.demands.specs.Seen.{Accepted, Replied}
 use Rattle.demands.proofs.Calls.{Answers, answers-is, answers-bytes}
-use Rattle.demands.proofs.Frames.{frame-leaves}
+use Rattle.demands.proofs.Reasons.{seen-gets}
+use Rattle.demands.proofs.Presets.{good-write, written-as-sent}
 use Rattle.exchange.specs.Judged.{suits, writesTo}
 use Rattle.exchange.specs.Sent.{queryIn, bankStation}
 use Rattle.exchange.specs.Heard.{Tells, Heard, erred, values, recorded, done, writtenValue, afterwards}
@@ -70,44 +69,6 @@ done-good (erred code gets least most is) writes none = absurd (omega (arith, le
 done-good (values gets told places words) writes none = absurd (false≢true writes)
 done-good (recorded gets told words) writes none = absurd (false≢true writes)
 done-good (done brings gets is) writes none = gets
-
-module _ (given : Lent) (frame buffer : List ℕ) (accepted : Accepted given buffer) {left : Handed} (call : Answers given frame buffer left)
-    (writing : (byte frame 1 ≡ 0x06) ⊎ (byte frame 1 ≡ 0x10)) where
-  not-clear : byte frame 1 ≡ 0x05 → ⊥
-  not-clear is = go writing
-    where
-      go : (byte frame 1 ≡ 0x06) ⊎ (byte frame 1 ≡ 0x10) → ⊥
-      go (inl one) = omega (arith, one, is)
-      go (inr many) = omega (arith, many, is)
-
-  writable-in : Gets given frame good → (k : ℕ) → k < registers frame → Writable (given .sheet) (fates.address frame k)
-  writable-in (fates.allRight whole ours allowed long counted right inside) k less = right .written writing k less
-
-  stored-in : Gets given frame good → (k place : ℕ) → k < registers frame → LiesAt (given .sheet) (fates.address frame k) place 3 → Stored given frame k place
-  stored-in (fates.allRight whole ours allowed long counted right inside) k place less lies =
-      record {
-        through = record { whole = whole; ours = ours; allowed = allowed; long = long; counted = counted; addressed = right; writes = writing };
-        goes = (less, lies);
-        inFront =
-            λ kind first low high value row touches would bad.
-            absurd (bad (inside .ofItems writing kind first low high value row touches would));
-      }
-
-  -- two addresses of one place are one
-  one-address : {a b place : ℕ} → LiesAt (given .sheet) a place 3 → LiesAt (given .sheet) b place 3 → a ≡ b
-  one-address {a} {b} {place} one other =
-      sym (place-address (given .sheet) (accepted .sheetSound) a place 3 (plain-lies (given .sheet) (accepted .sheetSound) one))
-      ∙ place-address (given .sheet) (accepted .sheetSound) b place 3 (plain-lies (given .sheet) (accepted .sheetSound) other)
-
-  kept-word : Gets given frame good → (k place : ℕ) → k < registers frame → LiesAt (given .sheet) (fates.address frame k) place 3
-      → word (left .bank) (2 * place) ≡ sentWord frame k
-  kept-word gets k place less lies = go (frame-leaves given frame buffer accepted call .words place)
-    where
-      go : {w : ℕ} → WordLeft given frame place w → w ≡ sentWord frame k
-      go (plain.stored other there is) =
-          is ∙ ap (sentWord frame) (let same : other ≡ k = omega (arith, one-address (there .goes .1) lies) in same)
-      go (plain.cleared clears is) = absurd (not-clear (clears .1))
-      go (plain.asBefore none unclear is) = absurd (none k (stored-in gets k place less lies))
 
 -- ---- what is sent is what the order writes
 
@@ -247,6 +208,9 @@ module _ (given : Lent) (asked : Asked) {left : Handed} {heard : ReplyTold} (fir
       subst (λ (f : List ℕ). Gets given f good) is
       (done-good (heard-as-sent given asked first here (suits-write (given .sheet) (asked .order) writes)) writes noError)
 
+  replied : Replied left
+  replied = seen-gets given (query asked) (first .buffer) (first .accepted) answered good .1 gets
+
   writing : (byte (query asked) 1 ≡ 0x06) ⊎ (byte (query asked) 1 ≡ 0x10)
   writing = which-write (asked .station) (asked .values) (asked .order) writes
 
@@ -258,12 +222,12 @@ module _ (given : Lent) (asked : Asked) {left : Handed} {heard : ReplyTold} (fir
 
   -- each value is in the bank
   pub value-kept : (k : ℕ) → k < many
-      → (place : ℕ) × LiesAt (given .sheet) (start + k) place 3 × (word (left .bank) (2 * place) ≡ writtenValue (asked .order) (asked .values) k)
+      → (place : ℕ) × WritableAt (given .sheet) (start + k) place × (word (left .bank) (2 * place) ≡ writtenValue (asked .order) (asked .values) k)
   value-kept k less =
-      let open-at = writable-in given (query asked) (first .buffer) (first .accepted) answered writing gets k (within k less) in (
+      let open-at = good-write given (query asked) (first .buffer) (first .accepted) answered writing replied k (within k less) in (
         open-at .place,
-        subst (λ (a : ℕ). LiesAt (given .sheet) a (open-at .place) 3) (address-is k) (open-at .lies),
-        kept-word given (query asked) (first .buffer) (first .accepted) answered writing gets k (open-at .place) (within k less) (open-at .lies)
+        subst (λ (a : ℕ). WritableAt (given .sheet) a (open-at .place)) (address-is k) (open-at .written),
+        written-as-sent given (query asked) (first .buffer) (first .accepted) answered writing replied k (open-at .place) (within k less) (open-at .written)
             ∙ value-sent (asked .station) (asked .values) (asked .order) has writes k less,
       )
 
@@ -291,7 +255,7 @@ module _ (given : Lent) (asked : Asked) {left : Handed} {heard : ReplyTold} (fir
     from-heard (values fine told places words) =
         record {
           told = told;
-          same = λ k less. let kept = value-kept k less in words k (kept .0) 3 less (kept .1) ∙ kept .2;
+          same = λ k less. let kept = value-kept k less in words k (kept .0) (kept .1 .access) less (kept .1 .lies) ∙ kept .2;
         }
     from-heard (done brings fine told) = absurd (true≢false brings)
 

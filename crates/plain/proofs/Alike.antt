@@ -22,8 +22,8 @@ use Rattle.plain.specs.Alike.{withBank, AgreeOutside}
 use Rattle.plain.proofs.Rows.{plain-lies}
 
 -- what lies at an address has one access
-one-access : (sheet : List ℕ) → sound sheet ≡ true → {at p q x y : ℕ} → LiesAt sheet at p x → LiesAt sheet at q y → x ≡ y
-one-access sheet keeps {at} {p} {q} {x} {y} one other =
+pub access-once : (sheet : List ℕ) → sound sheet ≡ true → {at p q x y : ℕ} → LiesAt sheet at p x → LiesAt sheet at q y → x ≡ y
+access-once sheet keeps {at} {p} {q} {x} {y} one other =
     let same : At p x ≡ At q y = sym (plain-lies sheet keeps one) ∙ plain-lies sheet keeps other in
     cc
 
@@ -124,8 +124,8 @@ module _ (given : Lent) (bank : List ℕ) (agree : AgreeOutside given bank) (fra
         open? k less lies two = go (all k less .permitted)
           where
             go : (all k less .access ≡ 1) ⊎ (all k less .access ≡ 3) → ⊥
-            go (inl e) = omega (arith, e, two, one-access (given .sheet) keeps lies (all k less .lies))
-            go (inr e) = omega (arith, e, two, one-access (given .sheet) keeps lies (all k less .lies))
+            go (inl e) = omega (arith, e, two, access-once (given .sheet) keeps lies (all k less .lies))
+            go (inr e) = omega (arith, e, two, access-once (given .sheet) keeps lies (all k less .lies))
 
     hands-alike : {before : List ℕ} {left : Left} {fate : Fate} → Gets other frame fate → HandsBack other frame before left fate
         → HandsBack given frame before (handedAlike left) fate
