@@ -148,7 +148,7 @@ pub record Row : Type 0 where
 
 -- number 0, a reply: the words of the bank that are others than the meter's, the frame, length and rate, the reply, and the words of the bank
 -- that the frame changes
-abbrev replies : Meter → List Change → List ℕ → ℕ → ℕ → List ℕ → List Change → Row
+abbrev pub replies : Meter → List Change → List ℕ → ℕ → ℕ → List ℕ → List Change → Row
 replies meter before frame length rate reply changes =
     record {
       sheet = bytesOf (meter .sheet);
@@ -163,7 +163,7 @@ replies meter before frame length rate reply changes =
     }
 
 -- numbers 2 to 5: length and rate 0, nothing written
-abbrev refused : ℕ → List ℕ → List ℕ → List ℕ → Row
+abbrev pub refused : ℕ → List ℕ → List ℕ → List ℕ → Row
 refused number sheet bank frame =
     record {
       sheet = sheet;
@@ -178,7 +178,7 @@ refused number sheet bank frame =
     }
 
 -- number 1, silence: length and rate 0, nothing written
-abbrev silent : Meter → List Change → List ℕ → Row
+abbrev pub silent : Meter → List Change → List ℕ → Row
 silent meter before frame = refused 1 (bytesOf (meter .sheet)) (bytesOf (changed 0 (meter .bank) before)) frame
 
 -- a row with a buffer of another length

@@ -15,3 +15,4 @@ pub mod WhichSide
 pub mod AsBefore
 pub mod FrameLimits
 pub mod RecordLimits
+pub mod PresetLimits

@@ -5,3 +5,4 @@ pub mod FirstAddress
 pub mod FirstItem
 pub mod RecordReasons
 pub mod SideReasons
+pub mod PresetReasons

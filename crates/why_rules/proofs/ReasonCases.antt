@@ -52,7 +52,7 @@ pub record Row : Type 0 where
   pub side : ℕ
 
 -- number 0: the words of the bank that are others than the meter's, the frame, the reason, the address and the side
-abbrev tells : Meter → List Change → List ℕ → ℕ → ℕ → ℕ → Row
+abbrev pub tells : Meter → List Change → List ℕ → ℕ → ℕ → ℕ → Row
 tells meter before frame reason address side =
     record {
       sheet = bytesOf (meter .sheet);
@@ -73,7 +73,7 @@ abbrev misses : Meter → List Change → List ℕ → ℕ → ℕ → Row
 misses meter before frame address side = tells meter before frame 10 address side
 
 -- numbers 2 to 4: zeros
-abbrev refuses : ℕ → List ℕ → List ℕ → List ℕ → Row
+abbrev pub refuses : ℕ → List ℕ → List ℕ → List ℕ → Row
 refuses number sheet bank frame = record { sheet = sheet; bank = bank; frame = frame; number = number; reason = 0; address = 0; side = 0 }
 
 -- what is told, by the four numbers that are handed back
