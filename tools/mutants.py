@@ -64,8 +64,8 @@ TABLES = {
     "ring_rules": ["RingLimits"],
     "frame": ["Rooms"],
     "controller_rules": ["QueryCases", "ReplyCases"],
-    "meter_rules": ["CaseSet", "FrameLimits", "RecordLimits"],
-    "why_rules": ["ReasonCases", "RecordReasons", "SideReasons"],
+    "meter_rules": ["CaseSet", "FrameLimits", "RecordLimits", "PresetLimits"],
+    "why_rules": ["ReasonCases", "RecordReasons", "SideReasons", "PresetReasons"],
     "listing": ["Example", "Texts", "Makers"],
 }
 

@@ -13,7 +13,7 @@ use Rattle.sheet_rules.specs.declared.Item.{Item}
 use Rattle.sheet_rules.specs.declared.Lies.the-variants.{At}
 use Rattle.sheet_rules.specs.Rows.{bankWords, addressPlace, ratePlace, areas, items, itemAt, itemCount}
 use Rattle.lists.specs.Lists.{some}
-use Rattle.sheet_rules.specs.Rules.{lengthOf, lengthsSum, isPair, covered, readOnly, placeInArea, settingAt, addressItem, rateItem, lowestStation, highestStation, settingsSound, sound}
+use Rattle.sheet_rules.specs.Rules.{lengthOf, lengthsSum, isPair, coveredByItems, readOnly, placeInArea, settingAt, addressItem, rateItem, lowestStation, highestStation, settingsSound, sound}
 use Rattle.sheet_rules.specs.Lookup.{liesIn, holds}
 use Rattle.lists.proofs.Tests.{first-of, second-of}
 use Rattle.lists.proofs.Among.{Among, some-among, among-row, row-among}
@@ -118,10 +118,10 @@ module _ (sheet : List ℕ) (keeps : sound sheet ≡ true) where
 
   pub covered-below : (place : ℕ) → inCovered (areas sheet) place ≡ true → place < bankWords sheet
   covered-below place e =
-      let found = some-among (λ (area : Area). covered (area .access) && placeInArea place area) (areas sheet) e in
+      let found = some-among (λ (area : Area). coveredByItems (area .access) && placeInArea place area) (areas sheet) e in
       let area = found .0 in
       let rules = sound-areas sheet keeps in
-      let within = second-of (covered (area .access)) (placeInArea place area) (found .2) in
+      let within = second-of (coveredByItems (area .access)) (placeInArea place area) (found .2) in
       omega (
         arith,
         ltb-true place (area .place + lengthOf area) (second-of (leb (area .place) place) (ltb place (area .place + lengthOf area)) within),
@@ -146,12 +146,12 @@ module _ (sheet : List ℕ) (keeps : sound sheet ≡ true) where
 
   -- what lies in an area that items cover has an access that they cover, whatever address leads to it
   pub covered-access : (address place access : ℕ) → liesIn (areas sheet) address ≡ At place access → inCovered (areas sheet) place ≡ true
-      → covered access ≡ true
+      → coveredByItems access ≡ true
   covered-access address place access lies e =
-      let found = some-among (λ (area : Area). covered (area .access) && placeInArea place area) (areas sheet) e in
+      let found = some-among (λ (area : Area). coveredByItems (area .access) && placeInArea place area) (areas sheet) e in
       let area = found .0 in
-      let opened = first-of (covered (area .access)) (placeInArea place area) (found .2) in
-      let within = second-of (covered (area .access)) (placeInArea place area) (found .2) in
+      let opened = first-of (coveredByItems (area .access)) (placeInArea place area) (found .2) in
+      let within = second-of (coveredByItems (area .access)) (placeInArea place area) (found .2) in
       let low = leb-true (area .place) place (first-of (leb (area .place) place) (ltb place (area .place + lengthOf area)) within) in
       let high = ltb-true place (area .place + lengthOf area) (second-of (leb (area .place) place) (ltb place (area .place + lengthOf area)) within) in
       let there-too : ℕ = area .first + (place - area .place) in
@@ -163,7 +163,7 @@ module _ (sheet : List ℕ) (keeps : sound sheet ≡ true) where
       sym (place-address sheet keeps address place access lies) ∙ place-address sheet keeps there-too place (area .access) lies-too in
       let both : At place access ≡ At place (area .access) = sym lies ∙ ap (liesIn (areas sheet)) same ∙ lies-too in
       let equal : access ≡ area .access = cc in
-      ap covered equal ∙ opened
+      ap coveredByItems equal ∙ opened
 
   -- a place that lies in an access 1 area is no item's
   pub read-only-unheld : (address place : ℕ) → liesIn (areas sheet) address ≡ At place readOnly

@@ -1,4 +1,4 @@
--- Where a frame holds its check, a frame that passes, and the sealing of a reply. Assumes nothing.
+-- Where a frame holds its check, a frame that passes, and the sealing of a reply or a query. Assumes nothing.
 use Prim.Native.Nat.{ℕ, _+_, _-_, _*_, _/_, _%_}
 use mathlib.Core.Bool.{Bool, _&&_, cond}
 use mathlib.Core.List.{List}
@@ -36,7 +36,7 @@ checkAgrees frame = eqb (valueOf (covered frame)) (held frame)
 unfoldable pub passes : List ℕ → Bool
 passes frame = lengthPasses frame && checkAgrees frame
 
--- rule R6, a buffer whose first bytes are followed by their check, low byte first; a buffer without room for it stays as it is
+-- rules R6 and Q20, a buffer whose first bytes are followed by their check, low byte first; a buffer without room for it stays as it is
 unfoldable pub sealed : List ℕ → ℕ → List ℕ
 sealed buffer n =
     cond (leb (n + checkBytes) (length buffer))

@@ -1,5 +1,6 @@
 -- What the statements on exchanges suppose is met: for every order that has a frame there is an exchange with every meter that refuses nothing; and at the
--- UX15/25 with a fresh bank, and at a meter with three records, one of each sort. The stations that an order can have are those of meters. Assumes nothing.
+-- UX15/25 and the AS-WE 40 with fresh banks, and at a meter with three records, every order is done once, and every error is heard. The stations that an order
+-- can have are those of meters. Assumes nothing.
 use mathlib.Core.Path.{_≡_, refl, sym, ap, subst}
 use mathlib.Core.Bool.{false}
 use mathlib.Core.List.{List, [], _∷_, _++_, map}
@@ -16,7 +17,7 @@ use Rattle.sheet_rules.specs.Rows.{areas, items, recordArea}
 use Rattle.sheet_rules.specs.Rules.{lowestStation, highestStation, sound, headerSound, areasSound, itemsSound, settingsSound, recordsSound, itemPlaces, coveredPlaces, placesFollow, areasAscend, lengthsSum}
 use Rattle.sheet_rules.specs.Lookup.{liesIn}
 use Rattle.sheet_rules.specs.Runs.{allOpen}
-use Rattle.makers.specs.Maps.{ux}
+use Rattle.makers.specs.Maps.{ux, aswe40}
 use Rattle.makers.specs.Sheets.{sheetOf}
 use Rattle.bank_rules.specs.Stores.{stored}
 use Rattle.bank_rules.specs.Bank.{bankSound, goodBy}
@@ -29,7 +30,7 @@ use Rattle.meter_rules.specs.Steps.{judgedFrame}
 use Rattle.meter_rules.specs.Reply.{replyTo, storesOf}
 use Rattle.meter_rules.specs.Answer.{frameCheck, actedOn, answerOutcome}
 use Rattle.meter_rules.proofs.Bytes.{answer-bytes}
-use Rattle.meter_rules.proofs.CaseSet.{uxMeter}
+use Rattle.meter_rules.proofs.CaseSet.{uxMeter, asweMeter}
 use Rattle.meter_rules.proofs.RecordLimits.{history, freshBank, full}
 use Rattle.controller_rules.specs.Order.{Asked, askedBy, leastStation, mostStation, noFrame}
 use Rattle.controller_rules.specs.Query.{QueryOutcome, query, builtNumber, buildOutcome}
@@ -113,6 +114,22 @@ pub ux-heard : map (hears (lent (sheetOf ux) (bytesOf (uxMeter .fresh)))) uxOrde
     ≡ told 0 (0x00 ∷ 0x01 ∷ []) ∷ told 0 [] ∷ told 0 [] ∷ told 0 [] ∷ told 3 [] ∷ told 2 [] ∷ []
 unfolding query readingOutcome readingOf noFrame allOpen answerOutcome frameCheck ringFits recordArea actedOn judgedFrame replyTo storesOf withCheck runStores stopPlace stopIn badItem someBad stored passes valueOf liesIn bytesOf firstCase bankSound goodBy sound headerSound areasSound itemsSound settingsSound recordsSound each some upFrom samePlaces itemPlaces coveredPlaces placesFollow areasAscend lengthsSum areas items wordAt withWord inRange sheetOf
 ux-heard = refl
+
+-- at the AS-WE 40, fresh, at station 1: all presets written; one of them read, and one that is too high; the settings in front of them; and a clear, which it does
+-- not take
+abbrev asweOrders : List Asked
+asweOrders =
+    askedBy 3 1 0x0118 0 (0x00 ∷ 0x09 ∷ 0x27 ∷ 0x0F ∷ 0x27 ∷ 0x0F ∷ 0xFF ∷ 0xFF ∷ 0xFF ∷ 0xFF ∷ 0xFF ∷ 0xFF ∷ 0xFF ∷ 0xFF ∷ [])
+    ∷ askedBy 0 1 0x0118 1 []
+    ∷ askedBy 2 1 0x0118 0x000A []
+    ∷ askedBy 0 1 0x0115 2 []
+    ∷ askedBy 4 1 0x0300 0 []
+    ∷ []
+
+pub aswe-heard : map (hears (lent (sheetOf aswe40) (bytesOf (asweMeter .fresh)))) asweOrders
+    ≡ told 0 [] ∷ told 2 [] ∷ told 3 [] ∷ told 0 (0x00 ∷ 0x00 ∷ 0x00 ∷ 0x01 ∷ []) ∷ told 1 [] ∷ []
+unfolding query readingOutcome readingOf noFrame allOpen answerOutcome frameCheck ringFits recordArea actedOn judgedFrame replyTo storesOf withCheck runStores stopPlace stopIn badItem someBad stored passes valueOf liesIn bytesOf firstCase bankSound goodBy sound headerSound areasSound itemsSound settingsSound recordsSound each some upFrom samePlaces itemPlaces coveredPlaces placesFollow areasAscend lengthsSum areas items wordAt withWord inRange sheetOf
+aswe-heard = refl
 
 -- at the meter with three records of one word, all stored: records 1 and 3, and what is behind them
 abbrev recordOrders : List Asked

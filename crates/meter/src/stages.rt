@@ -212,7 +212,7 @@ fn many_of(parts: Parts) -> u16
     }
 }
 
-// Steps 6 and 7 for a write: every address in an access 3 area, and no bad item.
+// Steps 6 and 7 for a write: every address in an access 2 or access 3 area, and no bad item.
 fn judged_write(sheet: &[u8], bank: &[u8], ring: &[u8], frame: &[u8], parts: Parts) -> Judged
     requires { ⌜ Known (now sheet) (now frame) parts ⌝ }
     requires { ⌜ isWrite (now frame) ≡ true ⌝ }

@@ -11,7 +11,7 @@ use Rattle.sheet_rules.specs.declared.Item.{Item}
 use Rattle.sheet.specs.declared.item_rows.Cover.{Cover}
 use Rattle.sheet_rules.specs.Rows.{areaCount, areaAt, areas, items}
 use Rattle.lists.specs.Lists.{upFrom, samePlaces, each}
-use Rattle.sheet_rules.specs.Rules.{lengthOf, placesFollow, covered, coveredPlaces, isPair, pairWithin, areasSound, firstLastRule}
+use Rattle.sheet_rules.specs.Rules.{lengthOf, placesFollow, coveredByItems, coveredPlaces, isPair, pairWithin, areasSound, firstLastRule}
 use Rattle.sheet.specs.Cover.{placesLeft, UnderWay, sizeOf}
 use Rattle.lists.proofs.Walks.{rows-on, rows-end}
 use Rattle.sheet_rules.proofs.Rows.{areasFrom, areas-rows}
@@ -51,8 +51,8 @@ size-small item = go (isPair item)
     go true = omega arith
     go false = omega arith
 
-pub wide-small : (area : Area) → cond (covered (area .access)) (lengthOf area) 0 ≤ lengthOf area
-wide-small area = pick-small (covered (area .access))
+pub wide-small : (area : Area) → cond (coveredByItems (area .access)) (lengthOf area) 0 ≤ lengthOf area
+wide-small area = pick-small (coveredByItems (area .access))
 
 pub area-among : (sheet : List ℕ) (k : ℕ) (area : Area) → area ≡ areaAt sheet k → k < areaCount sheet → Among area (areas sheet)
 area-among sheet k area row inside =
@@ -65,14 +65,14 @@ area-among sheet k area row inside =
 module _ (sheet : List ℕ) where
   -- nothing is left of the area at hand: the next area is opened
   module _ (k : ℕ) (area : Area) (size : ℕ) (row : area ≡ areaAt sheet k) (inside : k < areaCount sheet)
-      (size-says : size ≡ cond (covered (area .access)) (lengthOf area) 0) where
+      (size-says : size ≡ cond (coveredByItems (area .access)) (lengthOf area) 0) where
     pub left-open : (next end : ℕ) → end ≤ next
         → placesLeft sheet (cover (area .place) (area .place + size) (k + 1)) ≡ placesLeft sheet (cover next end k)
     unfolding placesLeft coveredPlaces upFrom
     left-open next end done =
         ap (λ (l : List ℕ). l ++ coveredPlaces (areasFrom sheet (k + 1)))
         (ap (λ (n : ℕ). upFrom (area .place) (area .place + n - area .place)) size-says
-        ∙ own-places (covered (area .access)) (area .place) (lengthOf area))
+        ∙ own-places (coveredByItems (area .access)) (area .place) (lengthOf area))
         ∙ sym (ap₂ (λ (n : ℕ) (l : List Area). upFrom next n ++ coveredPlaces l) none
         (rows-on (areaAt sheet) k (areaCount sheet) inside ∙ ap (λ (a : Area). a ∷ areasFrom sheet (k + 1)) (sym row)))
       where
@@ -92,14 +92,14 @@ module _ (sheet : List ℕ) where
         }
       where
         size-small : size ≤ lengthOf area
-        size-small = rw size-says (pick-small (covered (area .access)))
+        size-small = rw size-says (pick-small (coveredByItems (area .access)))
 
         whole : (place : ℕ) → area .place ≤ place → place < area .place + size
             → pairWithin (areas sheet) place ≡ ltb (place + 1) (area .place + size)
         whole place low high =
             let all : size ≡ lengthOf area =
             size-says ∙ ap (λ (b : Bool). cond b (lengthOf area) 0)
-            (own-within (covered (area .access)) (area .place) (lengthOf area) place low (rw size-says at high)) in
+            (own-within (coveredByItems (area .access)) (area .place) (lengthOf area) place low (rw size-says at high)) in
             rw all (pair-within 0 (area-among sheet k area row inside) follow place low (rw all at high))
 
   -- a walk begins, and goes on within the area at hand

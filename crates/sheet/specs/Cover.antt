@@ -1,4 +1,4 @@
--- How far a walk over the items has covered the places of the access 3 areas: what the code's walk keeps. Only private promises cite
+-- How far a walk over the items has covered the places of the access 2 and access 3 areas: what the code's walk keeps. Only private promises cite
 -- this file. Assumes nothing.
 use Prim.Native.Nat.{ℕ, _+_, _-_, _≤_, _<_}
 use mathlib.Core.Path.{_≡_}
@@ -15,7 +15,7 @@ use Rattle.sheet_rules.specs.Rules.{firstLastRule, placesFollow, isPair, covere
 abbrev pub sizeOf : Item → ℕ
 sizeOf item = cond (isPair item) 2 1
 
--- the places that are left to cover: those of the area at hand, and those of the access 3 areas behind it
+-- the places that are left to cover: those of the area at hand, and those of the access 2 and access 3 areas behind it
 unfoldable pub placesLeft : List ℕ → Cover → List ℕ
 placesLeft sheet cover =
     upFrom (cover .next) (cover .end - cover .next)

@@ -4,7 +4,7 @@ ghost use mathlib.Core.Bool.{true, cond, _&&_};
 ghost use Prim.Native.Nat.{_+_, _<_};
 ghost use lib.Dec.{leb, eqb};
 ghost use Rattle.sheet_rules.specs.Rows.{areaCount, headerOf};
-ghost use Rattle.sheet_rules.specs.Rules.{covered, lengthOf, firstLastRule, areasSound, itemsSound, settingsSound};
+ghost use Rattle.sheet_rules.specs.Rules.{coveredByItems, lengthOf, firstLastRule, areasSound, itemsSound, settingsSound};
 ghost use Rattle.sheet.specs.Cover.{UnderWay, Opened, sizeOf};
 use sheet_rules::Area;
 use sheet_rules::Header;
@@ -20,7 +20,7 @@ struct Cover {
 
 // Whether items cover the places of an area of this access: rule S47.
 fn is_covered(access: u16) -> bool
-    ensures { λ r. ⌜ r ≡ covered access ⌝ }
+    ensures { λ r. ⌜ r ≡ coveredByItems access ⌝ }
 {
     access == 2 || access == 3
 }
@@ -29,7 +29,7 @@ fn is_covered(access: u16) -> bool
 // not above its last.
 fn covered_length(area: Area) -> u32
     requires { ⌜ firstLastRule area ≡ true ⌝ }
-    ensures { λ r. ⌜ r ≡ cond (covered (area .access)) (lengthOf area) 0 ⌝ }
+    ensures { λ r. ⌜ r ≡ cond (coveredByItems (area .access)) (lengthOf area) 0 ⌝ }
 {
     if !is_covered(area.access) {
         return 0;

@@ -11,7 +11,7 @@ use Rattle.sheet_rules.specs.declared.Area.{Area}
 use Rattle.sheet_rules.specs.declared.Item.{Item}
 use Rattle.lists.specs.Lists.{rows, some, upFrom, samePlaces}
 use Rattle.sheet_rules.specs.Rows.{areas, items, itemAt, itemCount}
-use Rattle.sheet_rules.specs.Rules.{placesFollow, lengthOf, covered, coveredPlaces, placesOf, itemPlaces, isPair, placeInArea, sound}
+use Rattle.sheet_rules.specs.Rules.{placesFollow, lengthOf, coveredByItems, coveredPlaces, placesOf, itemPlaces, isPair, placeInArea, sound}
 use Rattle.sheet_rules.specs.Lookup.{holds}
 use Rattle.lists.proofs.Tests.{first-of, second-of}
 use Rattle.lists.proofs.Among.{Among, here, there, among-nil, among-cons, among-left, among-right, among-append, some-among, up-among, among-up}
@@ -59,7 +59,7 @@ rise-covered : (before : ℕ) (l : List Area) → placesFollow before l ≡ true
 unfolding coveredPlaces
 rise-covered before [] follow = tt
 rise-covered before (area ∷ behind) follow =
-    go (covered (area .access)) (rise-covered (before + lengthOf area) behind (follow-behind before area behind follow))
+    go (coveredByItems (area .access)) (rise-covered (before + lengthOf area) behind (follow-behind before area behind follow))
   where
     at : area .place ≡ before
     at = follow-here before area behind follow
@@ -142,9 +142,9 @@ module _ (row : ℕ → Item) where
 
 -- a place lies in an area that items cover, of access 2 or 3
 abbrev pub inCovered : List Area → ℕ → Bool
-inCovered all place = some (λ area. covered (area .access) && placeInArea place area) all
+inCovered all place = some (λ area. coveredByItems (area .access) && placeInArea place area) all
 
-own-among : {area : Area} {all : List Area} (place : ℕ) → Among area all → covered (area .access) ≡ true
+own-among : {area : Area} {all : List Area} (place : ℕ) → Among area all → coveredByItems (area .access) ≡ true
     → area .place ≤ place → place < area .place + lengthOf area → Among place (coveredPlaces all)
 unfolding coveredPlaces
 own-among {area} place (here {l = behind}) open? low high =
@@ -156,14 +156,14 @@ own-among {area} place (here {l = behind}) open? low high =
     back : area .place + (place - area .place) ≡ place
     back = omega arith
 own-among place (there {b = other} m) open? low high =
-    among-right (cond (covered (other .access)) (upFrom (other .place) (lengthOf other)) []) (own-among place m open? low high)
+    among-right (cond (coveredByItems (other .access)) (upFrom (other .place) (lengthOf other)) []) (own-among place m open? low high)
 
 covered-among : (all : List Area) (place : ℕ) → inCovered all place ≡ true → Among place (coveredPlaces all)
 covered-among all place e =
-    let found = some-among (λ (area : Area). covered (area .access) && placeInArea place area) all e in
+    let found = some-among (λ (area : Area). coveredByItems (area .access) && placeInArea place area) all e in
     let area = found .0 in
-    let within = second-of (covered (area .access)) (placeInArea place area) (found .2) in
-    own-among place (found .1) (first-of (covered (area .access)) (placeInArea place area) (found .2))
+    let within = second-of (coveredByItems (area .access)) (placeInArea place area) (found .2) in
+    own-among place (found .1) (first-of (coveredByItems (area .access)) (placeInArea place area) (found .2))
     (leb-true (area .place) place (first-of (leb (area .place) place) (ltb place (area .place + lengthOf area)) within))
     (ltb-true place (area .place + lengthOf area) (second-of (leb (area .place) place) (ltb place (area .place + lengthOf area)) within))
 
@@ -171,7 +171,7 @@ among-covered : (all : List Area) (place : ℕ) → Among place (coveredPlaces a
 unfolding coveredPlaces some
 among-covered [] place m = absurd (among-nil m)
 among-covered (area ∷ behind) place m =
-    go (covered (area .access)) (among-append (cond (covered (area .access)) (upFrom (area .place) (lengthOf area)) []) (coveredPlaces behind) m)
+    go (coveredByItems (area .access)) (among-append (cond (coveredByItems (area .access)) (upFrom (area .place) (lengthOf area)) []) (coveredPlaces behind) m)
     (λ r. among-covered behind place r)
   where
     go : (open? : Bool) → Among place (cond open? (upFrom (area .place) (lengthOf area)) []) ⊎ Among place (coveredPlaces behind)

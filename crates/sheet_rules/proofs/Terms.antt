@@ -10,7 +10,7 @@ use Rattle.sheet_rules.specs.declared.Item.{Item}
 use Rattle.sheet_rules.specs.declared.Purpose.{Purpose}
 use Rattle.sheet_rules.specs.declared.Purpose.the-variants.{Read, Write}
 use Rattle.sheet_rules.specs.Rows.{itemEnd}
-use Rattle.sheet_rules.specs.Rules.{accessRule, writeOnlyRule, readable, writable, covered}
+use Rattle.sheet_rules.specs.Rules.{accessRule, writeOnlyRule, readable, writable, coveredByItems}
 use Rattle.sheet_rules.specs.Lookup.{holds}
 use Rattle.sheet_rules.specs.Runs.{reach}
 use Rattle.lists.specs.Lists.{each}
@@ -57,10 +57,10 @@ abbrev known : ℕ → ℕ → Bool
 known version access = accessRule (area 0 0 0 access) && writeOnlyRule version (area 0 0 0 access)
 
 abbrev pub fitting : Access → Bool
-fitting (closed access) = not (readable access) && not (writable access) && not (covered access) && not (known 1 access) && not (known 2 access)
-fitting (read-only access) = readable access && not (writable access) && not (covered access) && known 1 access && known 2 access
-fitting (write-only access) = not (readable access) && writable access && covered access && not (known 1 access) && known 2 access
-fitting (read-and-write access) = readable access && writable access && covered access && known 1 access && known 2 access
+fitting (closed access) = not (readable access) && not (writable access) && not (coveredByItems access) && not (known 1 access) && not (known 2 access)
+fitting (read-only access) = readable access && not (writable access) && not (coveredByItems access) && known 1 access && known 2 access
+fitting (write-only access) = not (readable access) && writable access && coveredByItems access && not (known 1 access) && known 2 access
+fitting (read-and-write access) = readable access && writable access && coveredByItems access && known 1 access && known 2 access
 
 pub accesses : List Access
 accesses = closed 0 ∷ read-only 1 ∷ write-only 2 ∷ read-and-write 3 ∷ closed 4 ∷ []

@@ -115,8 +115,8 @@ abbrev pub writable : ℕ → Bool
 writable access = eqb access writeOnly || eqb access readAndWrite
 
 -- rule S47: the access of an area whose places are covered by items
-abbrev pub covered : ℕ → Bool
-covered access = eqb access writeOnly || eqb access readAndWrite
+abbrev pub coveredByItems : ℕ → Bool
+coveredByItems access = eqb access writeOnly || eqb access readAndWrite
 
 -- rule S22
 abbrev pub firstLastRule : Area → Bool
@@ -188,7 +188,7 @@ unfoldable pub coveredPlaces : List Area → List ℕ
 unfolding upFrom
 coveredPlaces [] = []
 coveredPlaces (area ∷ behind) =
-    cond (covered (area .access)) (upFrom (area .place) (lengthOf area)) [] ++ coveredPlaces behind
+    cond (coveredByItems (area .access)) (upFrom (area .place) (lengthOf area)) [] ++ coveredPlaces behind
 
 -- rules S46 and S47: the places of the items, row after row, are the places of the access 2 and access 3 areas, row after row
 abbrev pub coverRule : List ℕ → Bool
