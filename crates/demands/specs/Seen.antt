@@ -25,11 +25,11 @@ pub record Accepted (given : Lent) (buffer : List ℕ) : Type 0 where
 abbrev pub leftBy : Handed → Left
 leftBy left = record { number = left .number; size = left .length; rate = left .rate; bank = left .bank; buffer = left .buffer }
 
--- a reply without error went out: an error has five bytes
+-- rule D28, a reply without error went out: an error has five bytes
 abbrev pub Replied : Handed → Type 0
 Replied left = (left .number ≡ 0) × (6 ≤ left .length)
 
--- two calls handed back the same number, length and rate, and the same reply
+-- rule D29: two calls handed back the same number, length and rate, and the same reply
 pub record HandedAlike (one other : Handed) : Type 0 where
   pub number : one .number ≡ other .number
   pub size : one .length ≡ other .length

@@ -10,7 +10,7 @@ use Rattle.plain.specs.Sheet.{LiesAt}
 abbrev pub withBank : Lent → List ℕ → Lent
 withBank given bank = lentWith (given .sheet) bank (given .ring)
 
--- the station and the rate are the same, and so is the word of each place that lies in an area of another access than 2. Station and rate may themselves
+-- rule D29: the station and the rate are the same, and so is the word of each place that lies in an area of another access than 2. Station and rate may themselves
 -- lie in one of access 2, so they are named. Of the mark, which lies in no area, nothing is asked
 pub record AgreeOutside (given : Lent) (bank : List ℕ) : Type 0 where
   pub station : word bank (2 * word (given .sheet) 16) ≡ word (given .bank) (2 * word (given .sheet) 16)

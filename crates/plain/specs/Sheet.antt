@@ -41,7 +41,7 @@ pub record LiesAt (sheet : List ℕ) (address place access : ℕ) : Type 0 where
   pub notBehind : address ≤ last
   pub there : place ≡ begins + (address - first)
 
--- an address of a register that can be written has this place in the bank: it lies in an area of access 2 or 3
+-- rule J61: an address of a register that can be written has this place in the bank, in an area of access 2 or 3
 pub record WritableAt (sheet : List ℕ) (address place : ℕ) : Type 0 where
   pub access : ℕ
   pub lies : LiesAt sheet address place access
