@@ -15,8 +15,8 @@ use Rattle.sheet_rules.specs.Rows.{version, areaCount, itemCount, bankWords, fu
 use Rattle.sheet_rules.specs.Rules.{sound, headerSound, areasSound, itemsSound, settingsSound, recordsSound, itemPlaces, coveredPlaces, placesFollow, areasAscend, lengthsSum}
 use Rattle.lists.specs.Lists.{each, some, upFrom, samePlaces}
 use Rattle.sheet_rules.specs.Lookup.{addressOf, liesIn}
-use Rattle.makers.specs.Maps.{Row, Map, ux, aswe, aswe40, bore50, bore80}
-use Rattle.makers.specs.Sheets.{areasOf, itemsOf, itemWords, sheetOf}
+use Rattle.makers.specs.Maps.{Row, Map, plain, pair, preset, ux, aswe, aswe40, bore50, bore80}
+use Rattle.makers.specs.Sheets.{Run, runsOf, areasOf, itemsOf, itemWords, sheetOf}
 
 -- the meters that have a map
 pub data Meter : Type 0 where
@@ -157,6 +157,15 @@ pub lengths-printed : (length (sheetOf ux) ∷ length (sheetOf aswe40) ∷ lengt
     ≡ 256 ∷ 396 ∷ 328 ∷ 328 ∷ []
 unfolding sheetOf
 lengths-printed = refl
+
+-- runs of addresses: cut where an address is left out, and where the access is another
+abbrev runFrom : ℕ → ℕ → ℕ → Run
+runFrom first last access = record { first = first; last = last; access = access }
+
+pub runs-cut : runsOf (plain 0x10 0 1 ∷ pair 0x11 0 1 ∷ preset (plain 0x13 0 1) ∷ preset (plain 0x14 0 1) ∷ plain 0x15 0 1 ∷ plain 0x17 0 1 ∷ [])
+    ≡ runFrom 0x10 0x12 3 ∷ runFrom 0x13 0x14 2 ∷ runFrom 0x15 0x15 3 ∷ runFrom 0x17 0x17 3 ∷ []
+unfolding runsOf
+runs-cut = refl
 
 -- the words of an item's row, each bound upper word first: the makers' bounds are low, these are not
 abbrev bounded : ℕ → ℕ → Item
