@@ -64,7 +64,7 @@ static inline int header_sound(const uint8_t *sheet, size_t n)
     if (n < SHEET_HEADER)
         return 0;
     uint32_t areas = word(sheet + 2), items = word(sheet + 6), length = word(sheet + 14), record_areas = word(sheet + 22);
-    return word(sheet) == 1 && areas - 1 < 8 && word(sheet + 4) == 12 && items - 2 < 63
+    return word(sheet) - 1 < 2 && areas - 1 < 8 && word(sheet + 4) == 12 && items - 2 < 63
         && word(sheet + 8) == 12 + 4 * areas && word(sheet + 10) - 2 < 255 && word(sheet + 12) < 16
         && record_areas < 2 && length == 12 + 4 * areas + 6 * items + 3 * record_areas && n == 2 * (size_t)length;
 }
@@ -104,6 +104,16 @@ static inline int records_sound(const struct records *records)
         || (records->count - 1 < MOST_RECORDS && records->words - 1 < MOST_READ && records->first + records->count <= 0x10000);
 }
 
+/* The access of an area as two bits: 1 where it can be read, 2 where it can be written. */
+enum { READABLE = 1, WRITABLE = 2 };
+
+/* Write only, 2, is open to version 2 alone, so that the version itself is an access that may be; the others take one
+ * comparison. */
+static inline int access_sound(uint32_t access, uint32_t version)
+{
+    return (access | WRITABLE) == (READABLE | WRITABLE) || access == version;
+}
+
 static inline int areas_sound(const uint8_t *sheet)
 {
     const uint8_t *end = area_rows_end(sheet);
@@ -113,7 +123,7 @@ static inline int areas_sound(const uint8_t *sheet)
         return 0;
     for (const uint8_t *row = sheet + SHEET_HEADER; row < end; row += AREA_ROW) {
         uint32_t first = word(row), last = word(row + 2);
-        if (first < lowest || last < first || word(row + 4) != places || (word(row + 6) | 2) != 3)
+        if (first < lowest || last < first || word(row + 4) != places || !access_sound(word(row + 6), sheet[1]))
             return 0;
         if (clears && clear - first <= last - first)
             return 0;
@@ -154,18 +164,18 @@ static inline uint32_t side_missed(struct range range, uint32_t value)
     return moved < range.low ? CEDARSKEIN_TOO_LOW : CEDARSKEIN_TOO_HIGH;
 }
 
-/* The places of the access 3 areas, as the items cover them: those from next to end are still to be covered in the area
- * in front of row. */
+/* The places that can be written, as the items cover them: those from next to end are still to be covered in the area in
+ * front of row. */
 struct cover {
     const uint8_t *row, *rows_end;
     uint32_t next, end;
 };
 
-/* Goes on to the next access 3 area; an area is never empty. */
+/* Goes on to the next area that can be written; an area is never empty. */
 static inline int opened(struct cover *cover)
 {
     for (; cover->row < cover->rows_end; cover->row += AREA_ROW) {
-        if (cover->row[7] != 3)
+        if (!(cover->row[7] & WRITABLE))
             continue;
         cover->next = word(cover->row + 4);
         cover->end = cover->next + word(cover->row + 2) - word(cover->row) + 1;
@@ -338,11 +348,20 @@ uint32_t fast_bank_fresh(const uint8_t *sheet, size_t sheet_n, uint8_t *bank, si
     return CEDARSKEIN_DONE;
 }
 
-enum { NOWHERE = 0xFFFF, ANY_ACCESS = 0 };
+enum { NOWHERE = 0xFFFF };
 
-/* The place of a run's first address, or NOWHERE where one of its addresses lies in no area of the access. Areas ascend,
- * so one pass over them takes the run from each to the next; the places of neighbours follow each other. */
-static inline uint32_t place_of_run(const uint8_t *sheet, uint32_t first, size_t count, uint32_t access)
+/* Which areas a run may lie in: those with one bit of the access, whatever the other is; for posting, those that are not
+ * written over the line. */
+enum open_to { READS, WRITES, POSTS };
+
+static inline int is_open(uint32_t access, enum open_to run)
+{
+    return run == READS ? access & READABLE : run == WRITES ? access & WRITABLE : !(access & WRITABLE);
+}
+
+/* The place of a run's first address, or NOWHERE where one of its addresses lies in no area that is open to it. Areas
+ * ascend, so one pass over them takes the run from each to the next; the places of neighbours follow each other. */
+static inline uint32_t place_of_run(const uint8_t *sheet, uint32_t first, size_t count, enum open_to run)
 {
     const uint8_t *end = area_rows_end(sheet);
     if (count > MOST_WORDS || first > 0xFFFF)
@@ -352,7 +371,7 @@ static inline uint32_t place_of_run(const uint8_t *sheet, uint32_t first, size_t
         uint32_t area_first = word(row), area_last = word(row + 2);
         if (from > area_last)
             continue;
-        if (from < area_first || (access != ANY_ACCESS && row[7] != access))
+        if (from < area_first || !is_open(row[7], run))
             return NOWHERE;
         if (from == first)
             place = word(row + 4) + first - area_first;
@@ -371,7 +390,7 @@ uint32_t fast_post(const uint8_t *sheet, size_t sheet_n, uint8_t *bank, size_t b
         return number;
     if (words_n == 0 || words_n % 2 != 0)
         return CEDARSKEIN_BAD_INPUT;
-    uint32_t place = place_of_run(sheet, address, words_n / 2, 1);
+    uint32_t place = place_of_run(sheet, address, words_n / 2, POSTS);
     if (place == NOWHERE)
         return CEDARSKEIN_NOT_READ_ONLY;
     for (size_t k = 0; k < words_n; k++)
@@ -466,7 +485,7 @@ static inline uint32_t answer_read(const struct call *call)
         return error_reply(call, 3);
     if (count > MOST_READ)
         return error_reply(call, 2);
-    uint32_t place = place_of_run(call->sheet, first, count, ANY_ACCESS);
+    uint32_t place = place_of_run(call->sheet, first, count, READS);
     return place == NOWHERE ? error_reply(call, 2) : read_reply(call, call->bank + 2 * place, count);
 }
 
@@ -532,7 +551,7 @@ static inline uint32_t stored_word(const uint8_t *row, uint8_t *bank, const uint
 /* Judges and stores item by item, as rule K5 has it. */
 static inline uint32_t answer_write(const struct call *call, const uint8_t *values, uint32_t count)
 {
-    uint32_t place = place_of_run(call->sheet, word(call->frame + 2), count, 3), end = place + count, size;
+    uint32_t place = place_of_run(call->sheet, word(call->frame + 2), count, WRITES), end = place + count, size;
     if (place == NOWHERE)
         return error_reply(call, 2);
     const uint8_t *row = item_of(call->sheet, place);
@@ -624,9 +643,9 @@ struct asked {
     struct records records;
 };
 
-/* The first address of a run that lies in no area of the access, or the one behind the run. Where all lie in areas, the
- * place of the first is put down. One pass over the areas, as in place_of_run. */
-static inline uint32_t first_closed(const uint8_t *sheet, uint32_t first, uint32_t count, uint32_t access, uint32_t *place)
+/* The first address of a run that lies in no area which is open to it, or the one behind the run. Where all lie in such
+ * areas, the place of the first is put down. One pass over the areas, as in place_of_run. */
+static inline uint32_t first_closed(const uint8_t *sheet, uint32_t first, uint32_t count, enum open_to run, uint32_t *place)
 {
     const uint8_t *end = area_rows_end(sheet);
     uint32_t last = first + count - 1, from = first;
@@ -634,7 +653,7 @@ static inline uint32_t first_closed(const uint8_t *sheet, uint32_t first, uint32
         uint32_t area_first = word(row), area_last = word(row + 2);
         if (from > area_last)
             continue;
-        if (from < area_first || (access != ANY_ACCESS && row[7] != access))
+        if (from < area_first || !is_open(row[7], run))
             return from;
         if (from == first)
             *place = word(row + 4) + first - area_first;
@@ -664,7 +683,7 @@ static inline uint32_t why_read(const struct asked *asked)
         return why_record(asked, first, count);
     if (count - 1 >= MOST_READ)
         return CEDARSKEIN_COUNT;
-    uint32_t closed = first_closed(asked->sheet, first, count, ANY_ACCESS, &place);
+    uint32_t closed = first_closed(asked->sheet, first, count, READS, &place);
     if (closed == first + count)
         return CEDARSKEIN_NO_REASON;
     *asked->address = closed;
@@ -697,7 +716,7 @@ static inline uint32_t item_misses(const uint8_t *row, const uint8_t *bank, cons
 static inline uint32_t why_write(const struct asked *asked, const uint8_t *values, uint32_t count)
 {
     uint32_t first = word(asked->frame + 2), start = 0, size, side;
-    uint32_t closed = first_closed(asked->sheet, first, count, 3, &start), end = start + count;
+    uint32_t closed = first_closed(asked->sheet, first, count, WRITES, &start), end = start + count;
     if (closed != first + count) {
         *asked->address = closed;
         return CEDARSKEIN_ADDRESS;

@@ -99,14 +99,25 @@ static void two_areas(struct lent *lent, size_t n)
     lent->sheet_n = n + 12;
 }
 
+/* One with 05, one of version 2, and one without either. */
+static void use_makers_sheet(struct lent *lent, uint32_t which)
+{
+    static const struct { const uint8_t *bytes; size_t n, bank_n; } makers[3] = {
+        { cedarskein_ux_sheet, sizeof cedarskein_ux_sheet, CEDARSKEIN_UX_BANK_SIZE },
+        { cedarskein_aswe_40_sheet, sizeof cedarskein_aswe_40_sheet, CEDARSKEIN_ASWE_40_BANK_SIZE },
+        { cedarskein_aswe_80_sheet, sizeof cedarskein_aswe_80_sheet, CEDARSKEIN_ASWE_80_BANK_SIZE },
+    };
+    lent->sheet_n = makers[which].n;
+    lent->bank_n = makers[which].bank_n;
+    memcpy(lent->sheet, makers[which].bytes, lent->sheet_n);
+    fast_bank_fresh(lent->sheet, lent->sheet_n, lent->bank, lent->bank_n);
+}
+
 static void make_sheet(struct lent *lent, const struct records *records)
 {
-    int ux = chance(70);
-    size_t n = ux ? sizeof cedarskein_ux_sheet : sizeof cedarskein_aswe_80_sheet;
-    memcpy(lent->sheet, ux ? cedarskein_ux_sheet : cedarskein_aswe_80_sheet, n);
-    lent->bank_n = ux ? CEDARSKEIN_UX_BANK_SIZE : CEDARSKEIN_ASWE_80_BANK_SIZE;
-    fast_bank_fresh(lent->sheet, n, lent->bank, lent->bank_n);
-    lent->sheet_n = n;
+    size_t n;
+    use_makers_sheet(lent, chance(70) ? 0 : 1 + below(2));
+    n = lent->sheet_n;
     if (chance(8))
         return;
     put(lent->sheet, n / 2, records->first);

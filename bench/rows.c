@@ -27,6 +27,12 @@ static uint32_t empty_check(const uint8_t *sheet, size_t n)
     return 0;
 }
 
+static uint32_t empty_fresh(const uint8_t *sheet, size_t sheet_n, uint8_t *bank, size_t bank_n)
+{
+    (void)sheet, (void)sheet_n, (void)bank, (void)bank_n;
+    return 0;
+}
+
 static uint32_t empty_answer(const uint8_t *sheet, size_t sheet_n, uint8_t *bank, size_t bank_n, const uint8_t *ring,
                              size_t ring_n, const uint8_t *frame, size_t frame_n, uint8_t *out, size_t out_n,
                              uint32_t *length, uint32_t *rate)
@@ -75,11 +81,12 @@ static uint32_t empty_reply(uint32_t order, uint32_t station, uint32_t address, 
 }
 
 static const struct side sides[] = {
-    { "archive", cedarskein_check_take, cedarskein_check_value, cedarskein_sheet_check, cedarskein_answer, cedarskein_why,
-      cedarskein_ring_check, cedarskein_add_record, cedarskein_query, cedarskein_reply },
-    { "fast", fast_check_take, fast_check_value, fast_sheet_check, fast_answer, fast_why, fast_ring_check, fast_add_record, fast_query,
-      fast_reply },
-    { "empty", empty_take, empty_value, empty_check, empty_answer, empty_why, empty_ring_check, empty_add, empty_query, empty_reply },
+    { "archive", cedarskein_check_take, cedarskein_check_value, cedarskein_sheet_check, cedarskein_bank_fresh, cedarskein_answer,
+      cedarskein_why, cedarskein_ring_check, cedarskein_add_record, cedarskein_query, cedarskein_reply },
+    { "fast", fast_check_take, fast_check_value, fast_sheet_check, fast_bank_fresh, fast_answer, fast_why, fast_ring_check,
+      fast_add_record, fast_query, fast_reply },
+    { "empty", empty_take, empty_value, empty_check, empty_fresh, empty_answer, empty_why, empty_ring_check, empty_add, empty_query,
+      empty_reply },
 };
 
 const struct side *side_named(const char *name)
@@ -99,6 +106,7 @@ static uint32_t called(const struct side *side, struct row *row)
     case WHY:
         return side->why(row->sheet, row->sheet_n, row->bank, row->bank_n, row->ring, row->ring_n, row->frame, row->frame_n,
                          &row->reason, &row->address, &row->missed_side);
+    case BANK_FRESH: return side->bank_fresh(row->sheet, row->sheet_n, row->bank, row->bank_n);
     case RING_CHECK: return side->ring_check(row->sheet, row->sheet_n, row->ring, row->ring_n);
     case ADD_RECORD: return side->add_record(row->sheet, row->sheet_n, row->ring, row->ring_n, row->record, row->record_n);
     case QUERY:
@@ -232,11 +240,22 @@ static void use_sheet(struct row *row, void (*make)(struct made *, uint32_t), ui
     row->bank_n = 2 * (size_t)made.places + 2;
 }
 
+static void use_made(struct row *row, const uint8_t *sheet, size_t sheet_n, size_t bank_n)
+{
+    memcpy(row->sheet, sheet, sheet_n);
+    row->sheet_n = sheet_n;
+    row->bank_n = bank_n;
+}
+
 static void use_ux(struct row *row)
 {
-    row->sheet_n = sizeof cedarskein_ux_sheet;
-    row->bank_n = CEDARSKEIN_UX_BANK_SIZE;
-    memcpy(row->sheet, cedarskein_ux_sheet, row->sheet_n);
+    use_made(row, cedarskein_ux_sheet, sizeof cedarskein_ux_sheet, CEDARSKEIN_UX_BANK_SIZE);
+}
+
+/* The sheet of version 2, whose presets from 0118 on are only written. */
+static void use_presets(struct row *row)
+{
+    use_made(row, cedarskein_aswe_40_sheet, sizeof cedarskein_aswe_40_sheet, CEDARSKEIN_ASWE_40_BANK_SIZE);
 }
 
 /* The UX sheet with records at 0400, and its ring, full: the newest record lies in the middle. */
@@ -322,6 +341,7 @@ const char *const row_names[] = {
     "why_ux_bad_check_8", "why_ux_other_station", "why_ux_read_2", "why_ux_read_24", "why_ux_write_2",
     "why_ux_too_low", "why_ux_too_high",
     "why_largest_read_47", "why_largest_write_45", "why_largest_last_bad",
+    "presets_write_7", "presets_write_half", "presets_read", "presets_sheet_check", "presets_fresh", "why_presets_read",
     "records_1_check", "records_6600_check", "records_1_read", "records_6600_read", "records_1_add", "records_6600_add",
     "why_records_1_read", "why_records_6600_read", "record_words_1_read", "record_words_22_read", "record_words_47_read",
     "record_words_1_add", "record_words_22_add", "record_words_47_add",
@@ -360,6 +380,19 @@ static void make_largest_frame(struct row *row, const char *what)
         write_frame(row, LARGEST_WRITE, 45, 1);
     else if (strcmp(what, "last_bad") == 0)
         write_frame(row, LARGEST_WRITE, 45, 0x3D);
+}
+
+/* All five presets, the upper half of the first pair, and a read, which is refused. */
+static void make_presets_frame(struct row *row, const char *what)
+{
+    if (strcmp(what, "write_7") == 0)
+        write_frame(row, 0x0118, 7, 1);
+    else if (strcmp(what, "write_half") == 0)
+        short_frame(row, 1, 6, 0x011B, 1);
+    else if (strcmp(what, "read") == 0)
+        short_frame(row, 1, 3, 0x0118, 7);
+    else if (strcmp(what, "fresh") == 0)
+        row->called = BANK_FRESH;
 }
 
 /* A growth row: a sheet of a size, with its check alone or a read of all 8 words of the areas, or of 2. */
@@ -475,6 +508,9 @@ static int make_named(struct row *row, const char *name)
     } else if (strncmp(name, "largest_", 8) == 0) {
         use_sheet(row, NULL, 0);
         make_largest_frame(row, name + 8);
+    } else if (strncmp(name, "presets_", 8) == 0) {
+        use_presets(row);
+        make_presets_frame(row, name + 8);
     } else {
         return make_check(row, name) || make_records(row, name) || make_growth(row, name) || make_asking(row, name);
     }

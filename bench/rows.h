@@ -15,6 +15,7 @@ struct side {
     uint16_t (*check_take)(uint16_t, uint8_t);
     uint16_t (*check_value)(const uint8_t *, size_t);
     uint32_t (*sheet_check)(const uint8_t *, size_t);
+    uint32_t (*bank_fresh)(const uint8_t *, size_t, uint8_t *, size_t);
     uint32_t (*answer)(const uint8_t *, size_t, uint8_t *, size_t, const uint8_t *, size_t, const uint8_t *, size_t, uint8_t *,
                        size_t, uint32_t *, uint32_t *);
     uint32_t (*why)(const uint8_t *, size_t, const uint8_t *, size_t, const uint8_t *, size_t, const uint8_t *, size_t, uint32_t *,
@@ -34,7 +35,7 @@ struct order {
 /* No side, and no error: one that a call does not write is seen by it. */
 enum { UNTOLD_SIDE = 99, UNTOLD_ERROR = 99 };
 
-enum called { SHEET_CHECK, ANSWER, WHY, RING_CHECK, ADD_RECORD, CHECK_TAKE, CHECK_VALUE, QUERY, REPLY };
+enum called { SHEET_CHECK, BANK_FRESH, ANSWER, WHY, RING_CHECK, ADD_RECORD, CHECK_TAKE, CHECK_VALUE, QUERY, REPLY };
 
 struct row {
     uint8_t sheet[SHEET_ROOM], bank[BANK_ROOM], ring[RING_ROOM], frame[FRAME_ROOM], out[OUT_ROOM], record[RECORD_ROOM],

@@ -26,6 +26,10 @@ WHY = [("why_ux_bad_check_8", "why, UX, a bad check, 8 bytes"), ("why_ux_other_s
        ("why_ux_too_high", "why, UX, 06 at 0100, the item too high"), ("why_largest_read_47", "why, largest sheet, 03 of 47 words"),
        ("why_largest_write_45", "why, largest sheet, 10 of 45 words"),
        ("why_largest_last_bad", "why, largest sheet, 10 of 45 words, the last item bad")]
+PRESETS = [("presets_write_7", "AS-WE 40, 10 of 7 words at 0118, all its presets"),
+           ("presets_write_half", "AS-WE 40, 06 at 011B, the upper half of a preset"),
+           ("presets_read", "AS-WE 40, 03 of 7 words at 0118, which is refused"), ("presets_sheet_check", "AS-WE 40, the sheet check alone"),
+           ("presets_fresh", "AS-WE 40, a fresh bank"), ("why_presets_read", "why, AS-WE 40, 03 of 7 words at 0118")]
 RECORDS = [("records_1_read", "03 of a record of 22 words, ring of 1 record"),
            ("records_6600_read", "03 of a record of 22 words, ring of 6,600 records"),
            ("records_1_add", "a record of 22 words added, ring of 1 record"),
@@ -37,7 +41,7 @@ CHECK = [("check_value_8", "the check value of 8 bytes"), ("check_value_100", "t
          ("check_take_1", "one byte into a running state")]
 ASKING = [("query_read", "the query of a read"), ("query_values_45", "the query of 45 values"),
           ("reply_words_47", "a reply of 47 words read"), ("reply_echo", "the echo of a write read"), ("reply_error", "an error read")]
-CALLS = UX + LARGEST + WHY + RECORDS + ASKING + CHECK
+CALLS = UX + LARGEST + WHY + PRESETS + RECORDS + ASKING + CHECK
 GROWTH = [("items", "sheet check, 1 area, items: {}", "items_{}_check", (2, 8, 32, 64)),
           ("items", "03 of 2 words, 1 area, items: {}", "items_{}_read", (2, 8, 32, 64)),
           ("areas", "sheet check, 8 items, areas: {}", "areas_{}_check", (1, 2, 4, 8)),
