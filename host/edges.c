@@ -125,6 +125,26 @@ static void whole_area(uint16_t first, uint16_t count, uint32_t posted)
     expect_number(CEDARSKEIN_DONE, cedarskein_set_mark(sheet.bytes, sheet.n, bank.bytes, bank.n, 1), "the mark");
 }
 
+/* An area that is only written: a read of it tells its first address, and zeros are written to all of it. */
+static void written_area(uint16_t first, uint16_t count)
+{
+    uint8_t bytes[CEDARSKEIN_LONGEST_FRAME] = { 0, 0x10 };
+    uint32_t reason, address;
+    at_case("%u words from %04X on, which are only written, at the %s", count, first, edge_name());
+    read_of(first, count);
+    told_why(&reason, &address);
+    expect_number(CEDARSKEIN_ADDRESS, reason, "the reason for a read");
+    expect_number(first, address, "the address of a read");
+    bytes[0] = station_of(sheet.bytes, bank.bytes);
+    set_word(bytes, 1, first);
+    set_word(bytes, 2, count);
+    bytes[6] = (uint8_t)(2 * count);
+    seal(bytes, 9 + 2 * (size_t)count);
+    edge_copy(&frame, bytes, 9 + 2 * (size_t)count);
+    told_why(&reason, &address);
+    expect_number(CEDARSKEIN_NO_REASON, reason, "the reason for a write of zeros");
+}
+
 static void start(const char *meter, const uint8_t *bytes, size_t n)
 {
     at_case("a fresh bank of %s, at the %s", meter, edge_name());
@@ -314,6 +334,10 @@ static void run(int end)
     start("UX15/25", cedarskein_ux_sheet, CEDARSKEIN_UX_SHEET_SIZE);
     whole_area(0x0100, 23, 6);
     whole_area(0x0200, 11, 0);
+    frames();
+    start("AS-WE 40", cedarskein_aswe_40_sheet, CEDARSKEIN_ASWE_40_SHEET_SIZE);
+    written_area(0x0118, 7);
+    whole_area(0x01FF, 16, 0);
     frames();
     start("AS-WE 80", cedarskein_aswe_80_sheet, CEDARSKEIN_ASWE_80_SHEET_SIZE);
     whole_area(0x00FF, 11, 6);

@@ -13,7 +13,7 @@
 
 enum { READ = CEDARSKEIN_READ, RECORD = CEDARSKEIN_RECORD, WRITE = CEDARSKEIN_WRITE, WRITES = CEDARSKEIN_WRITES,
        CLEAR = CEDARSKEIN_CLEAR, ORDERS = 5 };
-enum { MOST_READ = 47 };
+enum { MOST_READ = 47, READ_ONLY = 1, WRITE_ONLY = 2 };
 
 static struct box box;
 
@@ -77,7 +77,7 @@ static void start(const struct sheet *sheet)
     for (k = 0; k < sheet_word(1); k++) {
         struct area area = area_of(k);
         lend(&meter.words, 2 * (size_t)(area.last - area.first + 1), k);
-        expect_number(area.access == 1 ? 0 : 6, call_post(&meter, area.first), "post");
+        expect_number(area.access == READ_ONLY ? 0 : 6, call_post(&meter, area.first), "post");
     }
     expect_number(CEDARSKEIN_DONE, call_set_mark(&meter, 1), "set_mark");
 }
@@ -140,14 +140,18 @@ static void expect_bank_words(uint16_t place, uint16_t count)
            "the values are the bank's words");
 }
 
-/* Every run inside an area; one that begins in front of it and one that ends behind it, where no sheet here has a register. */
+/* Every run inside an area, which brings the bank's words where it can be read; one that begins in front of it and one that ends behind it,
+ * where no sheet here has a register. */
 static void reads_of_area(struct area area)
 {
     uint16_t first, count;
     for (first = area.first; first <= area.last; first++)
         for (count = 1; count <= area.last - first + 1 && count <= MOST_READ; count++) {
             ask(READ, first, count);
-            expect_bank_words((uint16_t)(area.place + first - area.first), count);
+            if (area.access == WRITE_ONLY)
+                expect_error(2);
+            else
+                expect_bank_words((uint16_t)(area.place + first - area.first), count);
         }
     ask(READ, area.first - 1u, 2);
     expect_error(2);
@@ -201,13 +205,13 @@ static void writes_of_area(struct area area)
     uint16_t words = (uint16_t)(area.last - area.first + 1);
     uint8_t *bank = meter.bank.bytes + 2 * (size_t)area.place;
     ask(WRITE, area.first, word_at(bank, 0));
-    expect_error(area.access == 3 ? 0 : 2);
+    expect_error(area.access == READ_ONLY ? 2 : 0);
     ask(WRITES, area.first, 0);
     lend_copy(&box.values, bank, 2 * (size_t)words, 5);
-    expect_error(area.access == 3 ? 0 : 2);
+    expect_error(area.access == READ_ONLY ? 2 : 0);
     ask(WRITES, area.last, 0);
     lend_copy(&box.values, bank + 2 * (size_t)(words - 1), 2, 5);
-    expect_error(area.access == 3 ? 0 : 2);
+    expect_error(area.access == READ_ONLY ? 2 : 0);
     lent_resize(&box.values, 4);
     expect_error(2);
 }

@@ -1,5 +1,5 @@
 /* The headers, as C and as C++: the named sizes, the sheets, the registers' addresses, every function of the door, where a bank holds
- * rate and station, where a ring holds a record, and the box that asks. */
+ * rate, station and presets, how one without presets is carried over, where a ring holds a record, and the box that asks. */
 #include "cedarskein.h"
 #include "cedarskein_registers.h"
 #include "cedarskein_sheets.h"
@@ -67,6 +67,68 @@ static void posted_and_marked(void)
     expect(bank[68] == 0 && bank[69] == 1, "the mark is the last word");
 }
 
+/* A 06 for station 1. */
+static void write_of(uint8_t *frame, uint16_t address, uint16_t word)
+{
+    uint16_t value;
+    frame[0] = 0x01;
+    frame[1] = 0x06;
+    frame[2] = (uint8_t)(address >> 8);
+    frame[3] = (uint8_t)(address & 0xFF);
+    frame[4] = (uint8_t)(word >> 8);
+    frame[5] = (uint8_t)(word & 0xFF);
+    value = cedarskein_check_value(frame, 6);
+    frame[6] = (uint8_t)(value & 0xFF);
+    frame[7] = (uint8_t)(value >> 8);
+}
+
+/* A 06 at the AS-WE 40: the bytes of its reply, 5 of an error. */
+static uint32_t written(uint8_t *bank, uint16_t address, uint16_t word)
+{
+    static uint8_t out[CEDARSKEIN_LEAST_OUT];
+    uint8_t frame[8];
+    uint32_t length = 99, rate = 99;
+    write_of(frame, address, word);
+    expect(cedarskein_answer(cedarskein_aswe_40_sheet, CEDARSKEIN_ASWE_40_SHEET_SIZE, bank, CEDARSKEIN_ASWE_40_BANK_SIZE, NULL, 0, frame,
+                             sizeof frame, out, sizeof out, &length, &rate) == CEDARSKEIN_DONE, "an answer to a write");
+    return length;
+}
+
+/* The presets by their names: the firmware finds them at their places, from byte 40 of the bank on. */
+static void presets(void)
+{
+    static const uint8_t as_written[14] = { 0x00, 0x09, 0x27, 0x0F, 0x00, 0x00, 0x12, 0x34, 0x00, 0x00, 0x00, 0x00, 0xFF, 0xFF };
+    static uint8_t bank[CEDARSKEIN_ASWE_40_BANK_SIZE];
+    cedarskein_bank_fresh(cedarskein_aswe_40_sheet, CEDARSKEIN_ASWE_40_SHEET_SIZE, bank, sizeof bank);
+    expect(written(bank, CEDARSKEIN_ASWE_PRESET_VOLUME_UPPER_DIGIT, 9) == 8, "9 as the upper digit");
+    expect(written(bank, CEDARSKEIN_ASWE_PRESET_VOLUME_UPPER_DIGIT, 10) == 5, "10 as the upper digit");
+    expect(written(bank, CEDARSKEIN_ASWE_PRESET_VOLUME_MIDDLE_DIGITS, 9999) == 8, "9999 as the middle digits");
+    expect(written(bank, CEDARSKEIN_ASWE_PRESET_VOLUME_LOWER_DIGITS, 10000) == 5, "10000 as the lower digits");
+    expect(written(bank, CEDARSKEIN_ASWE_PRESET_SECOND_VOLUME, 0x1234) == 8, "the upper half of the second volume");
+    expect(written(bank, CEDARSKEIN_ASWE_PRESET_REVERSE_VOLUME + 1, 0xFFFF) == 8, "the lower half of the reverse volume");
+    expect(memcmp(bank + 40, as_written, sizeof as_written) == 0, "where the presets lie");
+}
+
+/* The header's own lines on a bank from before 3.2. A fresh one was then what that of bore 50 is still. */
+static void carried_over(void)
+{
+    static const uint8_t *sheet = cedarskein_aswe_40_sheet, *old_sheet = cedarskein_aswe_50_sheet;
+    static const uint8_t readings[4] = { 0x12, 0x34, 0x56, 0x78 };
+    static uint8_t old[CEDARSKEIN_ASWE_50_BANK_SIZE], bank[92];
+    const size_t sheet_n = CEDARSKEIN_ASWE_40_SHEET_SIZE, old_n = CEDARSKEIN_ASWE_50_SHEET_SIZE;
+    uint32_t number;
+    cedarskein_bank_fresh(old_sheet, old_n, old, sizeof old);
+    cedarskein_post(old_sheet, old_n, old, sizeof old, CEDARSKEIN_ASWE_ACTUAL_FLOW, readings, sizeof readings);
+    expect(cedarskein_bank_check(sheet, sheet_n, old, sizeof old) == CEDARSKEIN_BANK_MISFITS, "the old bank with the new sheet");
+    number = cedarskein_bank_fresh(sheet, sheet_n, bank, 92);
+    expect(number == CEDARSKEIN_DONE, "a bank to carry over to");
+    memcpy(bank, old, 40);
+    memcpy(bank + 54, old + 40, 38);
+    number = cedarskein_bank_check(sheet, sheet_n, bank, 92);
+    expect(number == CEDARSKEIN_DONE, "a bank that was carried over");
+    expect(bank[54] == 0xFF && bank[55] == 0x9C && memcmp(bank + 58, readings, sizeof readings) == 0, "where 0123 and the readings lie then");
+}
+
 /* A read of one register too many: the address behind the area, and the reasons' numbers. */
 static void reasons(void)
 {
@@ -92,14 +154,9 @@ static void reasons(void)
 static void told_side(uint16_t word, uint32_t expected)
 {
     static uint8_t bank[CEDARSKEIN_UX_BANK_SIZE];
-    uint8_t frame[8] = { 0x01, 0x06, CEDARSKEIN_UX_REFERENCE_TEMPERATURE >> 8, CEDARSKEIN_UX_REFERENCE_TEMPERATURE & 0xFF };
+    uint8_t frame[8];
     uint32_t reason = 99, address = 99, side = 99;
-    uint16_t value;
-    frame[4] = (uint8_t)(word >> 8);
-    frame[5] = (uint8_t)(word & 0xFF);
-    value = cedarskein_check_value(frame, 6);
-    frame[6] = (uint8_t)(value & 0xFF);
-    frame[7] = (uint8_t)(value >> 8);
+    write_of(frame, CEDARSKEIN_UX_REFERENCE_TEMPERATURE, word);
     cedarskein_bank_fresh(cedarskein_ux_sheet, CEDARSKEIN_UX_SHEET_SIZE, bank, sizeof bank);
     expect(cedarskein_why(cedarskein_ux_sheet, CEDARSKEIN_UX_SHEET_SIZE, bank, sizeof bank, NULL, 0, frame, sizeof frame, &reason, &address,
                           &side) == CEDARSKEIN_DONE, "why, of an item");
@@ -191,8 +248,8 @@ static void versions(void)
     char version[30];
     sprintf(version, "%d.%d.%d", CEDARSKEIN_VERSION_MAJOR, CEDARSKEIN_VERSION_MINOR, CEDARSKEIN_VERSION_PATCH);
     expect(strcmp(version, CEDARSKEIN_VERSION) == 0, "the version is said alike");
-    expect(CEDARSKEIN_VERSION_MAJOR > 3 || (CEDARSKEIN_VERSION_MAJOR == 3 && CEDARSKEIN_VERSION_MINOR >= 1),
-           "why tells a side from version 3 on, and the box asks from 3.1 on");
+    expect(CEDARSKEIN_VERSION_MAJOR > 3 || (CEDARSKEIN_VERSION_MAJOR == 3 && CEDARSKEIN_VERSION_MINOR >= 2),
+           "why tells a side from version 3 on, the box asks from 3.1 on, and the AS-WE 40 has presets from 3.2 on");
     expect(cedarskein_check_take(cedarskein_check_start(), 0x01) == 0x807E, "check_take");
 }
 
@@ -201,6 +258,8 @@ int main(void)
     sheets();
     next_rate_and_station();
     posted_and_marked();
+    presets();
+    carried_over();
     reasons();
     item_sides();
     records();

@@ -12,11 +12,13 @@
 #define BANK CEDARSKEIN_UX_BANK_SIZE
 #define COPY (BANK + CHECK_SIZE)
 #define WHOLE (2 * COPY)
+#define PRESETS_SHEET cedarskein_aswe_40_sheet, CEDARSKEIN_ASWE_40_SHEET_SIZE
+#define PRESETS_BANK CEDARSKEIN_ASWE_40_BANK_SIZE
 #define NO_CUT 0xFFFFFFFFu
 
-/* Memory that outlasts a cut, and how often each copy was begun. */
+/* Memory that outlasts a cut, with room for the larger of two banks, and how often each copy was begun. */
 static struct {
-    uint8_t bytes[WHOLE];
+    uint8_t bytes[2 * (PRESETS_BANK + CHECK_SIZE)];
     unsigned bytes_left; /* that are still written before the power goes */
     unsigned first_written, second_written;
 } chip;
@@ -42,14 +44,19 @@ static int store(void *memory, size_t at, const uint8_t *bytes, size_t n)
 static uint8_t bank[BANK];
 static const struct kept_bank kept = { SHEET, bank, BANK, { load, store, NULL } };
 
-static void send(uint8_t *frame, size_t n)
+static void send_to(const struct kept_bank *meter, uint8_t *frame, size_t n)
 {
     uint8_t out[CEDARSKEIN_LEAST_OUT];
     uint32_t length, rate;
     seal(frame, n);
-    expect_number(CEDARSKEIN_DONE, cedarskein_answer(SHEET, bank, BANK, NULL, 0, frame, n, out, sizeof out, &length, &rate),
-                  "the frame");
-    keep_settings(&kept);
+    expect_number(CEDARSKEIN_DONE, cedarskein_answer(meter->sheet, meter->sheet_n, meter->bank, meter->bank_n, NULL, 0, frame, n, out,
+                                                     sizeof out, &length, &rate), "the frame");
+    keep_settings(meter);
+}
+
+static void send(uint8_t *frame, size_t n)
+{
+    send_to(&kept, frame, n);
 }
 
 /* The bank before and after a frame that changes both words of the pair at 0103, from 0000 FFFF to 0001 0000. */
@@ -203,6 +210,29 @@ static void writes_of_an_hour(void)
     expect_written(0, "a start-up with two good copies");
 }
 
+/* What can only be written must last as what can be read too: no master can tell that it is gone. */
+static void presets_are_kept(void)
+{
+    static uint8_t presets[PRESETS_BANK];
+    static const struct kept_bank meter = { PRESETS_SHEET, presets, PRESETS_BANK, { load, store, NULL } };
+    uint8_t upper_digit[8] = { 0x01, 0x06, 0x01, 0x18, 0x00, 0x09 };
+    uint8_t reverse_volume[13] = { 0x01, 0x10, 0x01, 0x1D, 0x00, 0x02, 0x04, 0xFF, 0xFF, 0xFF, 0xFE };
+    at_case("the presets of the AS-WE 40");
+    cedarskein_bank_fresh(PRESETS_SHEET, presets, PRESETS_BANK);
+    chip.bytes_left = NO_CUT;
+    keep_readings(&meter);
+    expect_written(1, "a fresh bank");
+    send_to(&meter, upper_digit, sizeof upper_digit);
+    expect_written(1, "the first preset");
+    send_to(&meter, reverse_volume, sizeof reverse_volume);
+    expect_written(1, "the last preset");
+    send_to(&meter, reverse_volume, sizeof reverse_volume);
+    expect_written(0, "the same preset again");
+    memset(presets, 0xFF, sizeof presets);
+    expect_number(FROM_FIRST_COPY, restore_bank(&meter), "start-up");
+    expect(word_at(presets, 20) == 9 && word_at(presets, 25) == 0xFFFF && word_at(presets, 26) == 0xFFFE, "the presets are kept");
+}
+
 int main(void)
 {
     make_banks();
@@ -212,5 +242,6 @@ int main(void)
     copies_end_as_frames_do();
     failed_stores();
     writes_of_an_hour();
+    presets_are_kept();
     return told("a power cut at every byte of the copies and another at start-up, and the writes of an hour");
 }

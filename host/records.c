@@ -373,7 +373,9 @@ static void words_of_the_header(void)
     word_is(2, 7, UX_N / 2 + 4, n + 2, "word 11 is 1, with four words");
     word_is(2, 7, UX_N / 2 + 3, n + 1, "a byte more");
     word_is(0, 6, 14, n, "03 is not allowed");
-    word_is(2, 0, 2, n, "version 2");
+    word_is(2, 0, 0, n, "version 0");
+    word_is(0, 0, 2, n, "version 2");
+    word_is(2, 0, 3, n, "version 3");
 }
 
 /* One record area, or none: a second one is not taken, though word 7 counts it. */

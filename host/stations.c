@@ -1,6 +1,7 @@
 /* The stations: which frames are answered at all, and a board from before 1.3, whose sheet had stations 0 to 255. */
 #include "calls.h"
 
+#include "../demo/carried.h"
 #include "cedarskein.h"
 #include "cedarskein_registers.h"
 #include "cedarskein_sheets.h"
@@ -91,6 +92,13 @@ static const struct sheet old_sheets[3] = {
     { "AS-WE 80", old_aswe_80_sheet, OLD_ASWE_SHEET_SIZE }
 };
 
+/* What came in their place with 1.3; bore 40 has another one since 3.2. */
+static const struct sheet sheets_of_1_3[3] = {
+    { "AS-WE 40", aswe_40_sheet_of_3_1, OLD_ASWE_SHEET_SIZE },
+    { "AS-WE 50", cedarskein_aswe_50_sheet, CEDARSKEIN_ASWE_50_SHEET_SIZE },
+    { "AS-WE 80", cedarskein_aswe_80_sheet, CEDARSKEIN_ASWE_80_SHEET_SIZE }
+};
+
 /* The board's bank: every setting at its high bound, but the station; readings that are noise, and the mark 1. */
 static void old_bank(const struct sheet *sheet, uint8_t station)
 {
@@ -115,8 +123,21 @@ static void all_calls(uint32_t number, uint8_t station)
     expect_number(number, call_answer(&meter), "answer");
 }
 
+/* The AS-WE 40's bank has another size since 3.2: 3 from every call, until it is carried over, whatever its station is. */
+static void carried_to_presets(const struct sheet *new, uint8_t station, uint32_t number)
+{
+    static const uint8_t presets[CEDARSKEIN_ASWE_40_BANK_SIZE - OLD_ASWE_BANK_SIZE];
+    uint8_t old[OLD_ASWE_BANK_SIZE];
+    all_calls(CEDARSKEIN_BANK_MISFITS, station);
+    memcpy(old, meter.bank.bytes, sizeof old);
+    lend(&meter.bank, CEDARSKEIN_ASWE_40_BANK_SIZE, station % LENT_SHIFTS);
+    expect_number(number, carry_over(new->bytes, new->n, old, meter.bank.bytes, meter.bank.n), "carried over to the presets");
+    expect(memcmp(meter.bank.bytes, old, 40) == 0 && memcmp(meter.bank.bytes + 54, old + 40, 38) == 0, "all is where the header says");
+    expect(memcmp(meter.bank.bytes + 40, presets, sizeof presets) == 0, "the presets are 0");
+}
+
 /* What include/cedarskein.h says to do: the bank gets a station, and is checked. */
-static uint32_t carry_over(const uint8_t *sheet, size_t sheet_n, uint8_t *bank, size_t bank_n, uint8_t station)
+static uint32_t give_station(const uint8_t *sheet, size_t sheet_n, uint8_t *bank, size_t bank_n, uint8_t station)
 {
     size_t place = 256 * (size_t)sheet[16] + sheet[17];
     bank[2 * place] = 0;
@@ -134,7 +155,7 @@ static int settings_kept(const uint8_t *before)
     return 1;
 }
 
-/* An old sheet, and the new one in its place, which has another range of stations and nothing else. */
+/* An old sheet, and the one that came in its place, which has another range of stations and nothing else. */
 static void old_and_new(const struct sheet *old, const struct sheet *new)
 {
     size_t i, differing = 0;
@@ -147,22 +168,25 @@ static void old_and_new(const struct sheet *old, const struct sheet *new)
     expect_number(CEDARSKEIN_SHEET_BREAKS_RULE, call_bank_fresh(&meter), "bank_fresh");
 }
 
-/* The board after the update: 2 with the old sheet; with the new one 4 where the station is kept back, until the bank gets another. */
+/* The board after the update: 2 with the old sheet; with the new one 3 where the bank has another size, until it is carried over; then 4
+ * where the station is kept back, until the bank gets another. */
 static void board_updated(const struct sheet *old, const struct sheet *new, uint8_t station, uint8_t given)
 {
-    uint8_t before[OLD_ASWE_BANK_SIZE];
-    int kept_back = station < LOWEST || HIGHEST < station;
+    uint8_t before[CEDARSKEIN_ASWE_40_BANK_SIZE];
+    uint32_t number = station < LOWEST || HIGHEST < station ? CEDARSKEIN_BANK_NOT_SOUND : CEDARSKEIN_DONE;
     at_case("%s from station %u to %u", old->name, station, given);
     old_bank(old, station);
-    memcpy(before, meter.bank.bytes, sizeof before);
     all_calls(CEDARSKEIN_SHEET_BREAKS_RULE, station);
     lend_copy(&meter.sheet, new->bytes, new->n, 0);
-    if (kept_back)
-        all_calls(CEDARSKEIN_BANK_NOT_SOUND, station);
+    if (new->bytes == cedarskein_aswe_40_sheet)
+        carried_to_presets(new, station, number);
+    memcpy(before, meter.bank.bytes, meter.bank.n);
+    if (number == CEDARSKEIN_BANK_NOT_SOUND)
+        all_calls(number, station);
     else
-        expect_number(CEDARSKEIN_DONE, call_bank_check(&meter), "a bank at another station is good as it is");
-    expect(memcmp(before, meter.bank.bytes, sizeof before) == 0, "the bank is as it was");
-    expect_number(CEDARSKEIN_DONE, carry_over(new->bytes, new->n, meter.bank.bytes, meter.bank.n, given), "carried over");
+        expect_number(number, call_bank_check(&meter), "a bank at another station is good as it is");
+    expect(memcmp(before, meter.bank.bytes, meter.bank.n) == 0, "the bank is as it was");
+    expect_number(CEDARSKEIN_DONE, give_station(new->bytes, new->n, meter.bank.bytes, meter.bank.n, given), "the bank gets a station");
     expect(settings_kept(before), "all but the station is kept");
     expect_number(given, word_at(meter.bank.bytes, station_place()), "the station");
     meter_frame(&meter, frames[0].bytes, frames[0].n, 0);
@@ -185,7 +209,7 @@ int main(void)
         station_set(&sheets[s], 0xFFFF);
     }
     for (s = 0; s < 3; s++) {
-        old_and_new(&old_sheets[s], &sheets[s + 1]);
+        old_and_new(&old_sheets[s], &sheets_of_1_3[s]);
         for (station = 0; station < 256; station++)
             for (k = 0; k < sizeof tried; k++)
                 board_updated(&old_sheets[s], &sheets[s + 1], (uint8_t)station, tried[k]);
