@@ -67,6 +67,29 @@ void meter_frame(struct meter *meter, const uint8_t *bytes, size_t n, size_t shi
     seal(meter->frame.bytes, n);
 }
 
+void meter_short_frame(struct meter *meter, uint8_t function, uint16_t address, uint16_t second)
+{
+    uint8_t frame[8];
+    frame[0] = station_of(meter->sheet.bytes, meter->bank.bytes);
+    frame[1] = function;
+    set_word(frame, 1, address);
+    set_word(frame, 2, second);
+    meter_frame(meter, frame, sizeof frame, address % LENT_SHIFTS);
+}
+
+void meter_write_many(struct meter *meter, uint16_t address, const uint16_t *words, uint16_t count)
+{
+    uint8_t frame[CEDARSKEIN_LONGEST_FRAME] = { 0, 0x10 };
+    size_t k;
+    frame[0] = station_of(meter->sheet.bytes, meter->bank.bytes);
+    set_word(frame, 1, address);
+    set_word(frame, 2, count);
+    frame[6] = (uint8_t)(2 * count);
+    for (k = 0; k < count; k++)
+        set_word(frame + 7, k, words[k]);
+    meter_frame(meter, frame, 9 + 2 * (size_t)count, address % LENT_SHIFTS);
+}
+
 struct records records_of(const uint8_t *sheet, size_t n)
 {
     static const struct records none = { 0, 0, 0 };

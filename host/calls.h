@@ -33,6 +33,10 @@ size_t put_records(uint8_t *into, const uint8_t *sheet, size_t n, struct records
 void meter_frame(struct meter *meter, const uint8_t *bytes, size_t n, size_t shift);
 void seal(uint8_t *frame, size_t n);
 
+/* Frames for the station that the bank holds: one with two words behind its function, as a read or a 06, and a 10. */
+void meter_short_frame(struct meter *meter, uint8_t function, uint16_t address, uint16_t second);
+void meter_write_many(struct meter *meter, uint16_t address, const uint16_t *words, uint16_t count);
+
 /* The check value, by the host's own reckoning. */
 uint16_t check_with(uint16_t value, uint8_t byte);
 uint16_t check_of(const uint8_t *bytes, size_t n);

@@ -74,11 +74,7 @@ static void board(size_t k, enum stand stand, enum stand others, uint32_t mark)
 
 static void read_of(uint16_t first, uint16_t count)
 {
-    uint8_t frame[8] = { 0, 0x03 };
-    frame[0] = station_of(meter.sheet.bytes, meter.bank.bytes);
-    set_word(frame, 1, first);
-    set_word(frame, 2, count);
-    meter_frame(&meter, frame, sizeof frame, first % LENT_SHIFTS);
+    meter_short_frame(&meter, 0x03, first, count);
 }
 
 /* Each register alone and each area whole, by 03: what the replies are, one behind another, with the rate that each goes out at. */
@@ -143,17 +139,15 @@ static uint32_t carried(size_t bank_n)
 /* A preset is taken now, at its place, and a read of it is not. */
 static void preset_written(uint16_t k, uint16_t word)
 {
-    uint8_t frame[8] = { 0, 0x06 }, before[NEW_BANK];
-    frame[0] = station_of(meter.sheet.bytes, meter.bank.bytes);
-    set_word(frame, 1, (uint16_t)(CEDARSKEIN_ASWE_PRESET_VOLUME_UPPER_DIGIT + k));
-    set_word(frame, 2, word);
+    uint16_t address = (uint16_t)(CEDARSKEIN_ASWE_PRESET_VOLUME_UPPER_DIGIT + k);
+    uint8_t before[NEW_BANK];
     memcpy(before, meter.bank.bytes, sizeof before);
     set_word(before, FIRST_PRESET + k, word);
-    meter_frame(&meter, frame, sizeof frame, k);
+    meter_short_frame(&meter, 0x06, address, word);
     expect_number(CEDARSKEIN_DONE, call_answer(&meter), "a write of a preset");
     expect_number(8, meter.length, "the bytes of its echo");
     expect(memcmp(before, meter.bank.bytes, sizeof before) == 0, "the preset is stored, and nothing else");
-    read_of((uint16_t)(CEDARSKEIN_ASWE_PRESET_VOLUME_UPPER_DIGIT + k), 1);
+    read_of(address, 1);
     expect_number(CEDARSKEIN_DONE, call_answer(&meter), "a read of a preset");
     expect(meter.length == 5 && meter.out.bytes[2] == 2, "error 02");
 }

@@ -89,22 +89,12 @@ static void start(const struct sheet *sheet)
 
 static void write_one(uint16_t address, uint16_t word)
 {
-    uint8_t frame[8] = { 1, 0x06 };
-    set_word(frame, 1, address);
-    set_word(frame, 2, word);
-    meter_frame(&meter, frame, sizeof frame, 0);
+    meter_short_frame(&meter, 0x06, address, word);
 }
 
 static void write_many(uint16_t address, const uint16_t *words, uint16_t count)
 {
-    uint8_t frame[CEDARSKEIN_LONGEST_FRAME] = { 1, 0x10 };
-    size_t k;
-    set_word(frame, 1, address);
-    set_word(frame, 2, count);
-    frame[6] = (uint8_t)(2 * count);
-    for (k = 0; k < count; k++)
-        set_word(frame + 7, k, words[k]);
-    meter_frame(&meter, frame, 9 + 2 * (size_t)count, 0);
+    meter_write_many(&meter, address, words, count);
 }
 
 static void expect_told(uint32_t reason, uint32_t address, uint32_t side)
