@@ -65,6 +65,19 @@ static uint32_t word_of(const uint8_t *bytes)
     return (uint32_t)(256 * bytes[0] + bytes[1]);
 }
 
+static void put_word(uint8_t *bytes, uint32_t word)
+{
+    bytes[0] = (uint8_t)(word >> 8);
+    bytes[1] = (uint8_t)word;
+}
+
+static void seal(uint8_t *frame, size_t n)
+{
+    uint16_t value = __real_cedarskein_check_value(frame, n - 2);
+    frame[n - 2] = (uint8_t)(value & 0xFF);
+    frame[n - 1] = (uint8_t)(value >> 8);
+}
+
 /* ---- The record area, as the sheet's row has it ---- */
 
 struct records {
@@ -184,12 +197,165 @@ static int takes_records(const uint8_t *sheet, size_t sheet_n)
     return takes_records_there(sheet, sheet_n, &told);
 }
 
+/* ---- Versions and accesses ---- */
+
+/* The row of the area that an address lies in, and NULL where it lies in none; and the access there, which is then 0. */
+static const uint8_t *area_with(const uint8_t *sheet, uint32_t address)
+{
+    uint32_t k;
+    for (k = 0; k < word_of(sheet + 2); k++)
+        if (word_of(sheet + 24 + 8 * k) <= address && address <= word_of(sheet + 26 + 8 * k))
+            return sheet + 24 + 8 * k;
+    return NULL;
+}
+
+static uint32_t access_at(const uint8_t *sheet, uint32_t address)
+{
+    const uint8_t *area = area_with(sheet, address);
+    return area == NULL ? 0 : word_of(area + 6);
+}
+
+static uint32_t place_of(const uint8_t *sheet, uint32_t address)
+{
+    const uint8_t *area = area_with(sheet, address);
+    return word_of(area + 4) + address - word_of(area);
+}
+
+static uint32_t access_of_place(const uint8_t *sheet, uint32_t place)
+{
+    const uint8_t *area = sheet + 24;
+    while (place - word_of(area + 4) > word_of(area + 2) - word_of(area))
+        area += 8;
+    return word_of(area + 6);
+}
+
+static int has_access(const uint8_t *sheet, uint32_t access)
+{
+    uint32_t k;
+    for (k = 0; k < word_of(sheet + 2); k++)
+        if (word_of(sheet + 30 + 8 * k) == access)
+            return 1;
+    return 0;
+}
+
+/* The sheet with another version, or with another access in each area of one: as a door sees it that takes the one for the other. The
+ * copy is good until the next is made. */
+static uint8_t other_sheet[CEDARSKEIN_LONGEST_SHEET];
+
+static const uint8_t *with_version(const uint8_t *sheet, size_t sheet_n, uint32_t version)
+{
+    memcpy(other_sheet, sheet, sheet_n);
+    put_word(other_sheet, version);
+    return other_sheet;
+}
+
+static const uint8_t *with_access(const uint8_t *sheet, size_t sheet_n, uint32_t access, uint32_t other)
+{
+    uint32_t k;
+    memcpy(other_sheet, sheet, sheet_n);
+    for (k = 0; k < word_of(sheet + 2); k++)
+        if (word_of(sheet + 30 + 8 * k) == access)
+            put_word(other_sheet + 30 + 8 * k, other);
+    return other_sheet;
+}
+
+static int is_taken(const uint8_t *sheet, size_t sheet_n)
+{
+    return __real_cedarskein_sheet_check(sheet, sheet_n) == 0;
+}
+
+/* Whether the sheet would be sound with one more item, of a kind, at some place that is only written. */
+static int lacks_item(const uint8_t *sheet, size_t sheet_n, uint8_t kind)
+{
+    static const uint8_t highest[4] = { 0xFF, 0xFF, 0xFF, 0xFF };
+    size_t rows = 2 * word_of(sheet + 8), at;
+    uint8_t *row;
+    for (at = rows; at <= rows + 12 * word_of(sheet + 6); at += 12) {
+        memcpy(other_sheet, sheet, at);
+        memset(row = other_sheet + at, 0, 12);
+        row[1] = kind;
+        put_word(row + 2, at == rows ? 0 : word_of(row - 10) + (row[-11] == 2 ? 2 : 1));
+        memcpy(row + (kind == 2 ? 8 : 10), highest, kind == 2 ? 4 : 2);
+        memcpy(row + 12, sheet + at, sheet_n - at);
+        put_word(other_sheet + 6, word_of(sheet + 6) + 1);
+        put_word(other_sheet + 14, word_of(sheet + 14) + 6);
+        if (is_taken(other_sheet, sheet_n + 12) && access_of_place(other_sheet, word_of(row + 2)) == 2)
+            return 1;
+    }
+    return 0;
+}
+
+/* Whether it would be sound with two neighbouring areas that are written as one. */
+static int has_two_for_one(const uint8_t *sheet, size_t sheet_n)
+{
+    size_t k, rest;
+    for (k = 0; k + 1 < word_of(sheet + 2); k++) {
+        uint8_t *row = other_sheet + 24 + 8 * k;
+        rest = 24 + 8 * (k + 2);
+        memcpy(other_sheet, sheet, sheet_n);
+        if (word_of(row + 6) - 2 > 1 || word_of(row + 14) - 2 > 1 || word_of(row + 2) + 1 != word_of(row + 8))
+            continue;
+        memcpy(row + 2, row + 10, 2);
+        memmove(row + 8, row + 16, sheet_n - rest);
+        put_word(other_sheet + 2, word_of(sheet + 2) - 1);
+        put_word(other_sheet + 8, word_of(sheet + 8) - 4);
+        put_word(other_sheet + 14, word_of(sheet + 14) - 4);
+        if (is_taken(other_sheet, sheet_n - 8))
+            return 1;
+    }
+    return 0;
+}
+
+/* A sheet that is refused for its version, an access or what its items cover, and for nothing else, and that a broken door takes. */
+static int takes_version(const uint8_t *sheet, size_t sheet_n)
+{
+    uint32_t version = sheet_n < 24 ? 0 : word_of(sheet);
+    if (sheet_n < 24 || sheet_n + 12 > sizeof other_sheet || sheet_n < record_row(sheet) || word_of(sheet + 8) != 12 + 4 * word_of(sheet + 2))
+        return 0;
+    if (breach_is("version_0_is_taken") && version == 0)
+        return is_taken(with_version(sheet, sheet_n, 2), sheet_n);
+    if (breach_is("version_3_is_taken") && version == 3)
+        return is_taken(with_version(sheet, sheet_n, 2), sheet_n);
+    if (breach_is("version_is_cut"))
+        return is_taken(with_version(sheet, sheet_n, version & 0xFF), sheet_n);
+    if (breach_is("access_2_in_version_1_is_taken") && version == 1)
+        return is_taken(with_version(sheet, sheet_n, 2), sheet_n);
+    if (breach_is("access_0_is_taken"))
+        return is_taken(with_access(sheet, sheet_n, 0, 1), sheet_n);
+    if (breach_is("access_4_is_taken"))
+        return is_taken(with_access(sheet, sheet_n, 4, 3), sheet_n);
+    if (breach_is("access_is_cut"))
+        return is_taken(with_access(sheet, sheet_n, 0x0102, 2), sheet_n);
+    if (breach_is("uncovered_write_only_is_taken"))
+        return lacks_item(sheet, sheet_n, 0) || lacks_item(sheet, sheet_n, 2);
+    return breach_is("pair_over_two_written_areas_is_taken") && version == 2 && has_two_for_one(sheet, sheet_n);
+}
+
+/* The other way round: a sound sheet that a broken door refuses. */
+static int refuses_version(const uint8_t *sheet)
+{
+    uint32_t version = word_of(sheet);
+    if (breach_is("version_1_is_refused"))
+        return version == 1;
+    if (breach_is("version_2_is_refused"))
+        return version == 2;
+    if (breach_is("version_2_without_write_only_is_refused"))
+        return version == 2 && !has_access(sheet, 2);
+    if (breach_is("version_2_with_records_is_refused"))
+        return version == 2 && sheet[23] == 1;
+    if (breach_is("station_in_write_only_is_refused"))
+        return access_of_place(sheet, word_of(sheet + 16)) == 2;
+    return breach_is("rate_in_write_only_is_refused") && access_of_place(sheet, word_of(sheet + 18)) == 2;
+}
+
 uint32_t __wrap_cedarskein_sheet_check(const uint8_t *sheet, size_t sheet_n)
 {
     uint32_t number = __real_cedarskein_sheet_check(sheet, sheet_n);
     volatile uint8_t read = 0;
-    if (number == 2 && takes_records(sheet, sheet_n))
+    if (number == 2 && (takes_records(sheet, sheet_n) || takes_version(sheet, sheet_n)))
         return 0;
+    if (number == 0 && refuses_version(sheet))
+        return 2;
     if (breach_is("old_sheet_is_taken") && number == 2 && sheet_n == 328)
         return check_with_new_stations(sheet, sheet_n);
     if (breach_is("sheet_cut_is_taken") && sheet_n == 255)
@@ -200,9 +366,37 @@ uint32_t __wrap_cedarskein_sheet_check(const uint8_t *sheet, size_t sheet_n)
     return number;
 }
 
+/* Puts words of a fresh bank where a bank is only written. */
+static void make_fresh_there(const uint8_t *sheet, size_t sheet_n, uint8_t *bank, size_t bank_n)
+{
+    uint8_t fresh[CEDARSKEIN_LONGEST_BANK];
+    uint32_t place;
+    __real_cedarskein_bank_fresh(sheet, sheet_n, fresh, bank_n);
+    for (place = 0; place < word_of(sheet + 10); place++)
+        if (access_of_place(sheet, place) == 2)
+            memcpy(bank + 2 * place, fresh + 2 * place, 2);
+}
+
+/* Whether a bank is unsound for what is only written, and for nothing else. */
+static int bad_where_only_written(const uint8_t *sheet, size_t sheet_n, const uint8_t *bank, size_t bank_n, uint32_t number)
+{
+    uint8_t mended[CEDARSKEIN_LONGEST_BANK];
+    if (number != 4)
+        return 0;
+    memcpy(mended, bank, bank_n);
+    make_fresh_there(sheet, sheet_n, mended, bank_n);
+    return __real_cedarskein_bank_check(sheet, sheet_n, mended, bank_n) == 0;
+}
+
 uint32_t __wrap_cedarskein_bank_check(const uint8_t *sheet, size_t sheet_n, const uint8_t *bank, size_t bank_n)
 {
     uint32_t number = __real_cedarskein_bank_check(sheet, sheet_n, bank, bank_n);
+    if (breach_is("bank_bad_where_only_written_is_sound") && bad_where_only_written(sheet, sheet_n, bank, bank_n, number))
+        return 0;
+    if (breach_is("bank_of_78_is_sound_with_presets") && number == 3 && bank_n == 78 && sheet_n == 396)
+        return 0;
+    if (breach_is("bank_check_takes_access_2_in_version_1") && number == 2 && sheet_n == 396 && word_of(sheet) == 1)
+        return __real_cedarskein_bank_check(with_version(sheet, sheet_n, 2), sheet_n, bank, bank_n);
     if (breach_is("bank_check_is_done"))
         return 0;
     if (breach_is("bank_at_station_0_is_sound") && number == 4 && word_of(bank + 2 * word_of(sheet + 16)) == 0)
@@ -212,12 +406,39 @@ uint32_t __wrap_cedarskein_bank_check(const uint8_t *sheet, size_t sheet_n, cons
     return number;
 }
 
+/* A fresh bank, right but for what is only written. */
+static void spoil_fresh(const uint8_t *sheet, uint8_t *bank, const uint8_t *before)
+{
+    const uint8_t *row = sheet + 2 * word_of(sheet + 8), *end = row + 12 * word_of(sheet + 6);
+    for (; row < end; row += 12) {
+        uint8_t *at = bank + 2 * word_of(row + 2);
+        size_t n = row[1] == 2 ? 4 : 2;
+        if (access_of_place(sheet, word_of(row + 2)) != 2)
+            continue;
+        if (breach_is("fresh_leaves_what_is_only_written"))
+            memcpy(at, before + 2 * word_of(row + 2), n);
+        if (breach_is("fresh_is_0_where_only_written"))
+            memset(at, 0, n);
+        if (breach_is("fresh_is_high_where_only_written"))
+            memcpy(at, row + 12 - n, n);
+    }
+}
+
 uint32_t __wrap_cedarskein_bank_fresh(const uint8_t *sheet, size_t sheet_n, uint8_t *bank, size_t bank_n)
 {
+    uint8_t before[CEDARSKEIN_LONGEST_BANK];
     uint32_t number;
     if (breach_is("fresh_tests_soundness") && __real_cedarskein_bank_check(sheet, sheet_n, bank, bank_n) == 4)
         return 4;
+    if (bank_n <= sizeof before && bank_n > 0)
+        memcpy(before, bank, bank_n);
     number = __real_cedarskein_bank_fresh(sheet, sheet_n, bank, bank_n);
+    if (number == 0)
+        spoil_fresh(sheet, bank, before);
+    if (breach_is("fresh_takes_version_3") && number == 2 && sheet_n > 23 && sheet_n <= sizeof other_sheet && word_of(sheet) == 3)
+        return __real_cedarskein_bank_fresh(with_version(sheet, sheet_n, 2), sheet_n, bank, bank_n);
+    if (breach_is("fresh_of_78_with_presets") && number == 3 && bank_n == 78 && sheet_n == 396)
+        return 0;
     if (breach_is("fresh_writes_when_refused") && number != 0 && bank_n > 0)
         bank[bank_n - 1] ^= 1;
     if (breach_is("fresh_writes_in_front") && number == 0)
@@ -227,11 +448,58 @@ uint32_t __wrap_cedarskein_bank_fresh(const uint8_t *sheet, size_t sheet_n, uint
     return number;
 }
 
+/* The first address of a run in an area of this access, or the one behind the run; with 0, the first in no area. Of a sound sheet. */
+static uint32_t first_with(const uint8_t *sheet, uint32_t first, uint32_t end, uint32_t access)
+{
+    while (first < end && access_at(sheet, first) != access)
+        first++;
+    return first;
+}
+
+/* How many places lie in front of an address and are only written: by so many each place was less before there were such areas. */
+static uint32_t places_more(const uint8_t *sheet, uint32_t address)
+{
+    uint32_t place, many = 0;
+    for (place = 0; place < place_of(sheet, address); place++)
+        many += access_of_place(sheet, place) == 2;
+    return many;
+}
+
+/* Words that were stored, from an address on, where they would lie without the places that are only written. */
+static void store_as_before(const uint8_t *sheet, uint8_t *bank, const uint8_t *before, uint32_t address, size_t n)
+{
+    uint8_t *at = bank + 2 * place_of(sheet, address);
+    size_t less = 2 * places_more(sheet, address);
+    if (less == 0 || n > CEDARSKEIN_LONGEST_BANK)
+        return;
+    memmove(at - less, at, n);
+    memcpy(at + (n < less ? 0 : n - less), before + (at - bank) + (n < less ? 0 : n - less), n < less ? n : less);
+}
+
+/* What a posting comes to at a broken door where it gets to what is only written. */
+static uint32_t post_otherwise(const uint8_t *sheet, size_t sheet_n, uint8_t *bank, size_t bank_n, uint32_t address, size_t words_n,
+                               uint32_t number, const uint8_t *before)
+{
+    uint32_t end = address + (uint32_t)(words_n / 2);
+    if (breach_is("post_to_a_bank_bad_where_only_written") && bad_where_only_written(sheet, sheet_n, bank, bank_n, number))
+        return 0;
+    if (breach_is("post_by_the_places_of_before") && number == 0)
+        store_as_before(sheet, bank, before, address, words_n);
+    if (number != 6 || address > 0xFFFF || end > 0x10000 || first_with(sheet, address, end, 0) != end)
+        return number;
+    if (breach_is("post_where_only_written_is_taken") && first_with(sheet, address, end, 3) == end)
+        return 0;
+    return number;
+}
+
 uint32_t __wrap_cedarskein_post(const uint8_t *sheet, size_t sheet_n, uint8_t *bank, size_t bank_n, uint32_t address,
                                 const uint8_t *words, size_t words_n)
 {
     struct records records = records_of(sheet, sheet_n);
+    uint8_t before[CEDARSKEIN_LONGEST_BANK];
     uint32_t number;
+    if (bank_n > 0 && bank_n <= sizeof before)
+        memcpy(before, bank, bank_n);
     if (breach_is("post_cuts_the_address"))
         address &= 0xFFFF;
     if (breach_is("post_leaves_the_last") && words_n > 2)
@@ -240,7 +508,11 @@ uint32_t __wrap_cedarskein_post(const uint8_t *sheet, size_t sheet_n, uint8_t *b
         words_n -= 1;
     if (breach_is("post_stops_at_the_records") && words_n % 2 == 0 && runs_into(&records, address, words_n / 2))
         words_n = 2 * (size_t)(records.first - address);
+    if (breach_is("post_stops_where_only_written") && words_n % 2 == 0 && words_n < 1000 && is_taken(sheet, sheet_n)
+        && access_at(sheet, address) == 1)
+        words_n = 2 * (size_t)(first_with(sheet, address, address + (uint32_t)(words_n / 2), 2) - address);
     number = __real_cedarskein_post(sheet, sheet_n, bank, bank_n, address, words, words_n);
+    number = post_otherwise(sheet, sheet_n, bank, bank_n, address, words_n, number, before);
     if (breach_is("post_at_a_record_is_taken") && number == 6 && is_record(&records, address))
         return 0;
     return number;
@@ -248,9 +520,13 @@ uint32_t __wrap_cedarskein_post(const uint8_t *sheet, size_t sheet_n, uint8_t *b
 
 uint32_t __wrap_cedarskein_set_mark(const uint8_t *sheet, size_t sheet_n, uint8_t *bank, size_t bank_n, uint32_t mark)
 {
+    uint32_t number;
     if (breach_is("mark_is_cut"))
         mark &= 0xFFFF;
-    return __real_cedarskein_set_mark(sheet, sheet_n, bank, bank_n, mark);
+    number = __real_cedarskein_set_mark(sheet, sheet_n, bank, bank_n, mark);
+    if (breach_is("mark_in_a_bank_bad_where_only_written") && bad_where_only_written(sheet, sheet_n, bank, bank_n, number))
+        return 0;
+    return number;
 }
 
 static void spoil_refusal(uint8_t *bank, size_t bank_n, uint8_t *out, size_t out_n, uint32_t *length, uint32_t *rate)
@@ -311,6 +587,15 @@ static const uint8_t *as_own(const uint8_t *sheet, size_t sheet_n, const uint8_t
     own[frame_n - 2] = (uint8_t)(value & 0xFF);
     own[frame_n - 1] = (uint8_t)(value >> 8);
     return own;
+}
+
+/* The same of any other station, where the bank's own is only written. */
+static const uint8_t *as_own_where_only_written(const uint8_t *sheet, size_t sheet_n, const uint8_t *bank, size_t bank_n,
+                                                const uint8_t *frame, size_t frame_n)
+{
+    if (frame_n == 0 || !is_taken(sheet, sheet_n) || access_of_place(sheet, word_of(sheet + 16)) != 2)
+        return frame;
+    return as_own(sheet, sheet_n, bank, bank_n, frame, frame_n, frame[0]);
 }
 
 /* A frame for station 0 stores what it would at the bank's own station. */
@@ -477,6 +762,214 @@ static uint32_t other_refusal(uint32_t number, size_t ring_n, size_t out_n)
     return number;
 }
 
+/* ---- Reads and writes of what is only written ---- */
+
+/* What the two calls on a frame are lent. */
+struct asked {
+    const uint8_t *sheet;
+    size_t sheet_n;
+    const uint8_t *bank;
+    size_t bank_n;
+    const uint8_t *ring;
+    size_t ring_n;
+    const uint8_t *frame;
+    size_t frame_n;
+};
+
+static struct asked asked_of(const uint8_t *sheet, size_t sheet_n, const uint8_t *bank, size_t bank_n, const uint8_t *ring, size_t ring_n,
+                             const uint8_t *frame, size_t frame_n)
+{
+    struct asked asked = { 0, 0, 0, 0, 0, 0, 0, 0 };
+    asked.sheet = sheet;
+    asked.sheet_n = sheet_n;
+    asked.bank = bank;
+    asked.bank_n = bank_n;
+    asked.ring = ring;
+    asked.ring_n = ring_n;
+    asked.frame = frame;
+    asked.frame_n = frame_n;
+    return asked;
+}
+
+/* The run of a read or a write that gets as far as its addresses, and its first address that is only written, or the one behind it. A read
+ * is closed there where each address in front of it can be read. */
+struct run {
+    uint32_t first, end, at;
+    int reads, writes, touches, is_closed_there;
+};
+
+static struct run run_of(const struct asked *a)
+{
+    struct run run = { 0, 0, 0, 0, 0, 0, 0 };
+    uint32_t reason, address, side;
+    if (__real_cedarskein_why(a->sheet, a->sheet_n, a->bank, a->bank_n, a->ring, a->ring_n, a->frame, a->frame_n, &reason, &address,
+                              &side) != 0)
+        return run;
+    if ((reason != CEDARSKEIN_NO_REASON && reason != CEDARSKEIN_ADDRESS && reason != CEDARSKEIN_ITEM) || a->frame[1] == 0x05)
+        return run;
+    run.first = word_of(a->frame + 2);
+    run.end = run.first + (a->frame[1] == 0x06 ? 1 : word_of(a->frame + 4));
+    run.at = first_with(a->sheet, run.first, run.end, 2);
+    run.reads = a->frame[1] == 0x03;
+    run.writes = !run.reads;
+    run.touches = run.at < run.end;
+    run.is_closed_there = run.reads && run.touches && address == run.at;
+    return run;
+}
+
+/* The sheet with other bounds for the items that are only written: any word, or for pairs of all 32 bits another end. */
+static const uint8_t *with_bounds(const uint8_t *sheet, size_t sheet_n, int any_word, uint32_t pair_end)
+{
+    uint8_t *row = other_sheet + 2 * word_of(sheet + 8), *end = row + 12 * word_of(sheet + 6);
+    memcpy(other_sheet, sheet, sheet_n);
+    for (; row < end; row += 12) {
+        uint32_t place = word_of(row + 2);
+        if (access_of_place(sheet, place) != 2 || place == word_of(sheet + 16) || place == word_of(sheet + 18))
+            continue;
+        if (any_word && row[1] != 2) {
+            put_word(row + 6, row[1] == 1 ? 0x8000 : 0);
+            put_word(row + 10, row[1] == 1 ? 0x7FFF : 0xFFFF);
+        }
+        if (!any_word && row[1] == 2 && word_of(row + 8) == 0xFFFF) {
+            put_word(row + 8, pair_end >> 16);
+            put_word(row + 10, pair_end & 0xFFFF);
+        }
+    }
+    return other_sheet;
+}
+
+/* The same frame for addresses at which no sheet here has any, so that it is refused by 02; or a read with another count. */
+static const uint8_t *other_frame(const uint8_t *frame, size_t frame_n, uint32_t start, uint32_t second)
+{
+    static uint8_t other[CEDARSKEIN_LONGEST_FRAME];
+    memcpy(other, frame, frame_n);
+    put_word(other + 2, start);
+    put_word(other + 4, second);
+    seal(other, frame_n);
+    return other;
+}
+
+/* A write that a broken door refuses. */
+static int refuses_write(const struct asked *a, const struct run *run)
+{
+    int in_both = first_with(a->sheet, run->first, run->end, 3) != run->end;
+    if (breach_is("write_where_only_written_is_refused"))
+        return 1;
+    if (breach_is("long_write_where_only_written_is_refused"))
+        return a->frame[1] == 0x10;
+    if (breach_is("write_over_written_neighbours_is_refused"))
+        return in_both;
+    return breach_is("half_where_only_written_is_refused") && a->frame[1] == 0x06 && run->first == 0x011B;
+}
+
+/* The sheet and the frame as a broken door sees them. */
+static void see_otherwise(struct asked *a, const struct run *run)
+{
+    if (run->is_closed_there && breach_is("read_where_only_written_is_answered"))
+        a->sheet = with_access(a->sheet, a->sheet_n, 2, 3);
+    if (run->is_closed_there && run->first < run->at && breach_is("read_stops_where_only_written"))
+        a->frame = other_frame(a->frame, a->frame_n, run->first, run->at - run->first);
+    if (run->writes && refuses_write(a, run))
+        a->frame = other_frame(a->frame, a->frame_n, 0xFFFF, word_of(a->frame + 4));
+    if (run->writes && breach_is("item_that_is_only_written_is_not_judged"))
+        a->sheet = with_bounds(a->sheet, a->sheet_n, 1, 0);
+    if (run->writes && breach_is("full_pair_is_judged_with_sign"))
+        a->sheet = with_bounds(a->sheet, a->sheet_n, 0, 0x7FFFFFFF);
+    if (run->writes && breach_is("full_pair_lacks_its_last"))
+        a->sheet = with_bounds(a->sheet, a->sheet_n, 0, 0xFFFFFFFE);
+}
+
+/* A read of what is only written: another code than 02, one that tells of what was written, or zeros. */
+static void spoil_closed_read(const struct asked *a, const struct run *run, uint8_t *out, uint32_t *length)
+{
+    uint32_t held = word_of(a->bank + 2 * place_of(a->sheet, run->at)), words = run->end - run->first;
+    if (out[1] != 0x83)
+        return;
+    if (breach_is("read_where_only_written_is_error_03"))
+        spoil_code(out, 3);
+    if (breach_is("read_where_only_written_is_error_01"))
+        spoil_code(out, 1);
+    if (breach_is("read_tells_whether_one_was_written") && held != 0)
+        spoil_code(out, 3);
+    if (!breach_is("read_where_only_written_brings_zeros") || first_with(a->sheet, run->first, run->end, 0) != run->end)
+        return;
+    out[1] = 0x03;
+    out[2] = (uint8_t)(2 * words);
+    memset(out + 3, 0, 2 * words);
+    *length = 5 + 2 * words;
+    seal(out, *length);
+}
+
+/* A write of what is only written, stored otherwise, or done though a part of it is only read. */
+static void spoil_written(const struct asked *a, const struct run *run, uint8_t *bank, const uint8_t *before, uint8_t *out, uint32_t *length)
+{
+    uint8_t *at = bank + 2 * place_of(a->sheet, run->at), upper[2];
+    size_t n = 2 * (size_t)(first_with(a->sheet, run->at, run->end, 3) - run->at);
+    int is_error = (out[1] & 0x80) != 0;
+    if (breach_is("what_is_only_written_is_not_stored") && !is_error)
+        memcpy(at, before + (at - bank), n);
+    if (breach_is("in_front_of_a_bad_item_is_not_stored_where_only_written") && is_error && out[2] == 3)
+        memcpy(at, before + (at - bank), n);
+    if (breach_is("written_one_place_on_where_only_written") && !is_error) {
+        memmove(at + 2, at, n);
+        memcpy(at, before + (at - bank), 2);
+    }
+    if (breach_is("halves_are_swapped_where_only_written") && !is_error && run->first == 0x011B && run->end == 0x011D) {
+        memcpy(upper, at, 2);
+        memcpy(at, at + 2, 2);
+        memcpy(at + 2, upper, 2);
+    }
+    if (!breach_is("write_from_write_only_to_read_only_is_done") || !is_error || out[2] != 2
+        || first_with(a->sheet, run->first, run->end, 0) != run->end || first_with(a->sheet, run->first, run->end, 1) == run->end)
+        return;
+    memcpy(out, a->frame, 6);
+    *length = 8;
+    seal(out, 8);
+}
+
+/* Registers behind those that are only written, at the places that they had before there were any. */
+static void spoil_places(const struct asked *a, const struct run *run, uint8_t *bank, const uint8_t *before, uint8_t *out, uint32_t length)
+{
+    if (run->touches || (out[1] & 0x80) != 0 || area_with(a->sheet, run->first) == NULL)
+        return;
+    if (run->writes && breach_is("write_by_the_places_of_before"))
+        store_as_before(a->sheet, bank, before, run->first, 2 * (size_t)(run->end - run->first));
+    if (run->writes || !breach_is("read_by_the_places_of_before"))
+        return;
+    memcpy(out + 3, bank + 2 * (place_of(a->sheet, run->first) - places_more(a->sheet, run->first)), length - 5);
+    seal(out, length);
+}
+
+/* The answer of the archive, right but where a run has to do with what is only written. */
+static uint32_t answer_otherwise(struct asked a, uint8_t *bank, uint8_t *out, size_t out_n, uint32_t *length, uint32_t *rate)
+{
+    struct asked seen = a;
+    struct run run = run_of(&a);
+    uint8_t before[CEDARSKEIN_LONGEST_BANK];
+    uint32_t number;
+    if (a.bank_n > 0 && a.bank_n <= sizeof before)
+        memcpy(before, bank, a.bank_n);
+    if (run.touches)
+        see_otherwise(&seen, &run);
+    number = __real_cedarskein_answer(seen.sheet, seen.sheet_n, bank, seen.bank_n, seen.ring, seen.ring_n, seen.frame, seen.frame_n, out,
+                                      out_n, length, rate);
+    if (number == 0 && run.is_closed_there)
+        spoil_closed_read(&a, &run, out, length);
+    if (number == 0 && run.touches && run.writes)
+        spoil_written(&a, &run, bank, before, out, length);
+    if (number == 0 && (run.reads || run.writes))
+        spoil_places(&a, &run, bank, before, out, *length);
+    if (breach_is("rate_where_only_written_is_the_next") && number == 0 && access_of_place(a.sheet, word_of(a.sheet + 18)) == 2)
+        *rate = bank[2 * word_of(a.sheet + 18) + 1];
+    if (breach_is("answer_takes_version_3") && number == 2 && a.sheet_n > 23 && a.sheet_n <= sizeof other_sheet && word_of(a.sheet) == 3)
+        return is_taken(with_version(a.sheet, a.sheet_n, 2), a.sheet_n) ? 1 : 2;
+    if (breach_is("answer_at_a_bank_of_78_with_presets") && number == 3 && a.bank_n == 78 && a.sheet_n == 396)
+        return 1;
+    if (breach_is("answer_at_a_bank_bad_where_only_written") && bad_where_only_written(a.sheet, a.sheet_n, bank, a.bank_n, number))
+        return 1;
+    return number;
+}
+
 uint32_t __wrap_cedarskein_answer(const uint8_t *sheet, size_t sheet_n, uint8_t *bank, size_t bank_n, const uint8_t *ring,
                                   size_t ring_n, const uint8_t *frame, size_t frame_n, uint8_t *out, size_t out_n, uint32_t *length,
                                   uint32_t *rate)
@@ -492,6 +985,8 @@ uint32_t __wrap_cedarskein_answer(const uint8_t *sheet, size_t sheet_n, uint8_t 
         frame = as_own(sheet, sheet_n, bank, bank_n, frame, frame_n, 0);
     if (breach_is("station_255_is_answered"))
         frame = as_own(sheet, sheet_n, bank, bank_n, frame, frame_n, 255);
+    if (breach_is("station_where_only_written_is_not_compared"))
+        frame = as_own_where_only_written(sheet, sheet_n, bank, bank_n, frame, frame_n);
     if (breach_is("broadcast_is_stored"))
         store_broadcast(sheet, sheet_n, bank, bank_n, ring, ring_n, frame, frame_n);
     if (breach_is("frame_is_written") && frame_n > 0)
@@ -501,8 +996,8 @@ uint32_t __wrap_cedarskein_answer(const uint8_t *sheet, size_t sheet_n, uint8_t 
     frame = as_run_outside(&records, frame, &frame_n);
     if (bank_n > 0 && bank_n <= sizeof bank_before)
         memcpy(bank_before, bank, bank_n);
-    number = __real_cedarskein_answer(sheet, sheet_n, bank, bank_n, ring_seen(sheet, sheet_n, ring, ring_n, &records), ring_n, frame,
-                                      frame_n, out, out_n, length, rate);
+    number = answer_otherwise(asked_of(sheet, sheet_n, bank, bank_n, ring_seen(sheet, sheet_n, ring, ring_n, &records), ring_n, frame,
+                                       frame_n), bank, out, out_n, length, rate);
     if (breach_is("nothing_is_stored") && number == 0)
         memcpy(bank, bank_before, bank_n);
     if (number == 0) {
@@ -755,14 +1250,6 @@ static uint32_t pair_of(const uint8_t *bytes)
     return word_of(bytes) << 16 | word_of(bytes + 2);
 }
 
-static uint32_t place_of(const uint8_t *sheet, uint32_t address)
-{
-    const uint8_t *area = sheet + 24;
-    while (address < word_of(area) || word_of(area + 2) < address)
-        area += 8;
-    return word_of(area + 4) + address - word_of(area);
-}
-
 /* The row of the item whose first address was told. */
 static const uint8_t *item_row(const uint8_t *sheet, uint32_t address)
 {
@@ -875,10 +1362,41 @@ static void spoil_side(uint32_t reason, uint32_t side_before, uint32_t *side)
         side[1] = 0;
 }
 
+/* What is told of a run that touches what is only written. */
+static void spoil_touching_reason(const struct asked *a, uint32_t *reason, uint32_t *address)
+{
+    struct run run = run_of(a);
+    if (!run.touches)
+        return;
+    if (breach_is("why_write_where_only_written_is_an_address") && run.writes && *reason == CEDARSKEIN_NO_REASON) {
+        *reason = CEDARSKEIN_ADDRESS;
+        *address = run.at;
+    }
+    if (!run.is_closed_there)
+        return;
+    if (breach_is("why_read_where_only_written_tells_its_end"))
+        *address = word_of(area_with(a->sheet, run.at) + 2);
+    if (breach_is("why_read_where_only_written_tells_its_area"))
+        *address = word_of(area_with(a->sheet, run.at));
+    if (breach_is("why_read_where_only_written_tells_the_start"))
+        *address = run.first;
+    if (breach_is("why_tells_whether_one_was_written") && word_of(a->bank + 2 * place_of(a->sheet, run.at)) != 0)
+        *address += 1;
+    if (breach_is("why_read_where_only_written_has_no_reason")) {
+        *reason = CEDARSKEIN_NO_REASON;
+        *address = 0;
+    }
+    if (breach_is("why_read_where_only_written_is_a_count")) {
+        *reason = CEDARSKEIN_COUNT;
+        *address = 0;
+    }
+}
+
 uint32_t __wrap_cedarskein_why(const uint8_t *sheet, size_t sheet_n, const uint8_t *bank, size_t bank_n, const uint8_t *ring,
                                size_t ring_n, const uint8_t *frame, size_t frame_n, uint32_t *reason, uint32_t *address,
                                uint32_t *side)
 {
+    struct asked asked = asked_of(sheet, sheet_n, bank, bank_n, ring, ring_n, frame, frame_n);
     struct records records = records_of(sheet, sheet_n);
     uint32_t reason_before = *reason, address_before = *address, side_before = *side;
     uint32_t number = __real_cedarskein_why(sheet, sheet_n, bank, bank_n, ring, ring_n, frame, frame_n, reason, address, side);
@@ -893,6 +1411,8 @@ uint32_t __wrap_cedarskein_why(const uint8_t *sheet, size_t sheet_n, const uint8
         return 0;
     if (breach_is("why_of_a_bad_ring") && number == 8)
         return 0;
+    if (breach_is("why_of_a_bank_bad_where_only_written") && bad_where_only_written(sheet, sheet_n, bank, bank_n, number))
+        return 0;
     if (breach_is("why_item_before_address") && *reason == CEDARSKEIN_ADDRESS && frame[1] == 0x10)
         spoil_long_write(sheet, sheet_n, bank, bank_n, ring, ring_n, frame, reason, address, side);
     if (breach_is("why_side_of_a_later_item") && *reason == CEDARSKEIN_ITEM)
@@ -904,6 +1424,7 @@ uint32_t __wrap_cedarskein_why(const uint8_t *sheet, size_t sheet_n, const uint8
         spoil_reason(frame, frame_n, reason, address, side);
         spoil_record_reason(&records, frame, frame_n, reason, address);
         spoil_outside_reason(&records, frame, reason, address);
+        spoil_touching_reason(&asked, reason, address);
         spoil_address(frame, reason, address);
     } else {
         spoil_refused_why(reason_before, side_before, reason, address, side);
@@ -912,13 +1433,6 @@ uint32_t __wrap_cedarskein_why(const uint8_t *sheet, size_t sheet_n, const uint8
 }
 
 /* ---- The box that asks ---- */
-
-static void seal(uint8_t *frame, size_t n)
-{
-    uint16_t value = __real_cedarskein_check_value(frame, n - 2);
-    frame[n - 2] = (uint8_t)(value & 0xFF);
-    frame[n - 1] = (uint8_t)(value >> 8);
-}
 
 static int orders_read(uint32_t order)
 {

@@ -22,7 +22,7 @@ try() {
 # The tests in the order in which they are tried: a door of the box that asks is mostly seen by the box's own.
 tests() {
     case $door in query_* | reply_*) echo asking exchanges ;; esac
-    echo refusals buffers check_values edges power_cut stations records ring_power_cut sides set_p reasons cases
+    echo refusals buffers check_values edges power_cut stations carried_over presets records ring_power_cut sides set_p reasons cases
     case $door in query_* | reply_*) ;; *) echo asking exchanges ;; esac
 }
 

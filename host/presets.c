@@ -104,6 +104,7 @@ static void word_is(uint16_t address, uint16_t word, uint16_t highest)
 static void words(void)
 {
     uint32_t word;
+    at_case("the AS-WE 40, fresh");
     start();
     for (word = 0; word <= 0xFFFF; word += word < 0x2720 ? 1 : 0x0101) {
         word_is(0x0118, (uint16_t)word, 9);
@@ -321,6 +322,7 @@ static void history(void)
     uint8_t bytes[ASWE_N + RECORD_ROW], after[ASWE_BANK];
     at_case("a record in front of the presets");
     meter_fresh(&meter, bytes, put_records(bytes, ASWE, ASWE_N, in_front), 0);
+    expect_number(CEDARSKEIN_DONE, call_sheet_check(&meter), "sheet_check");
     memcpy(after, meter.bank.bytes, sizeof after);
     expect_number(CEDARSKEIN_DONE, call_add_record(&meter), "add_record");
     meter_short_frame(&meter, 0x03, 0x0117, 2);
@@ -696,6 +698,7 @@ static void station_and_rate(uint16_t second_access)
     made.items_n = second_access == 1 ? 3 : 5;
     at_case("station and rate are only written, beside access %u", second_access);
     start_made(&made, 2);
+    expect_sheet(CEDARSKEIN_DONE);
     meter_is_at(1, 1, 7);
     frame_for(1, 0x06, 0x0020, 7);
     expect_number(CEDARSKEIN_DONE, call_answer(&meter), "the station is written");
