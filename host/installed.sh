@@ -44,6 +44,7 @@ if command -v man >/dev/null; then
     grep -A1 -F "CEDARSKEIN_ITEM (10)" "$folder/page.txt" | grep -q "out of its range" || fail "the man page tells the item otherwise than the header"
     grep -A1 -F "CEDARSKEIN_TOO_LOW (1)" "$folder/page.txt" | grep -q "below the item's low bound" || fail "the man page tells too low otherwise than the header"
     grep -A1 -F "CEDARSKEIN_WRITES (3)" "$folder/page.txt" | grep -q "registers, by 10" || fail "the man page tells writes otherwise than the header"
+    grep -q "^ \{25,\}20 to 26  *the presets" "$folder/page.txt" || fail "the man page has the places of the presets in another column than the header"
     grep -A1 -F "CEDARSKEIN_NO_FRAME (9)" "$folder/page.txt" | grep -q "has no frame in 100 bytes" || fail "the man page tells 9 otherwise than the header"
 fi
 

@@ -34,20 +34,22 @@ def indent_of(line):
 
 
 def body(lines):
-    """Text as roff: paragraphs, the entries of lists, and lines of code, told apart by how far they stand in."""
+    """Text as roff: paragraphs, the entries of lists, and lines of code or of a table, told apart by how far they stand in. A line of a table whose
+    first column is empty stands in further than the one that the table begins with, and so it does on the page."""
     base = min((indent_of(line) for line in lines if line), default=0)
-    out, entry, fresh = [], None, True
+    out, entry, fresh, code = [], None, True, None
     for line in lines:
         inside = indent_of(line) - base
         text = line.strip()
         if not text:
             out.append(".PP")
-            entry, fresh = None, True
+            entry, fresh, code = None, True, None
         elif ENTRY.match(text):
             out += [".IP \\(bu 3" if text.startswith("- ") else ".IP", roff(text[2:] if text.startswith("- ") else text)]
             entry, fresh = inside, False
         elif inside > 0 and entry is None and fresh:
-            out += [".EX", "    " + roff(text), ".EE"]
+            code = inside if code is None else code
+            out += [".EX", "    " + " " * (inside - code) + roff(text), ".EE"]
         else:
             if entry is not None and inside <= entry:
                 out.append(".PP")
