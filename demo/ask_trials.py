@@ -76,8 +76,11 @@ def refused(query, reply, refusal, hint=""):
     return "status 1: " + thrice(sealed(query), reply, refusal, f"Refused: what came in 3 tries is no reply to this order{hint}")
 
 
-def no_answer(query, station=1, rate=9600, other=4800, write=False):
-    behind = ". It may be done all the same, and its replies lost: read it back" if write else ""
+READ_BACK = ". It may be done all the same, and its replies lost: read it back"
+SEND_AGAIN = ". It may be done all the same, and its replies lost. It cannot be read back: send it again"
+
+
+def no_answer(query, station=1, rate=9600, other=4800, behind=""):
     return "status 1: " + thrice(sealed(query), None, None,
                                  f"No answer from station {station} at {rate} in 3 tries; look at the station (STATION=), the rate (RATE={other}?), "
                                  f"the wires (A to A, B to B) and the meter's power{behind}")
@@ -235,6 +238,42 @@ AT_METER = [
 ]
 
 
+def preset(address, name):
+    return f"by sheets/aswe_40.sheet {address}, {name}, can be written but not read"
+
+
+def written(address, name):
+    return f"it cannot be read back: {preset(address, name)}"
+
+
+UPPER_DIGIT, SECOND = "Preset volume upper digit", "Preset second volume"
+PRESETS = [
+    ("a preset", asked("write 0118 0002", sheet="aswe_40"),
+     done("01 06 01 18 00 02", "01 06 01 18 00 02", "0118 Preset volume upper digit: 20000000 m3", written("0118", UPPER_DIGIT), names="aswe_40")),
+    ("three presets", asked("writes 0118 0001 04D2 162E", sheet="aswe_40"),
+     done("01 10 01 18 00 03 06 00 01 04 D2 16 2E", "01 10 01 18 00 03", "0118 Preset volume upper digit: 10000000 m3",
+          "0119 Preset volume middle digits: 1234000 m3", "011A Preset volume lower digits: 567.8 m3", written("0118", UPPER_DIGIT), names="aswe_40")),
+    ("half of a preset", asked("write 011C 0002", sheet="aswe_40"),
+     done("01 06 01 1C 00 02", "01 06 01 1C 00 02", f"011C: 0002, a word of 011B {SECOND}", written("011C", SECOND), names="aswe_40")),
+    ("a read of a preset", asked("write 0118 0002", "read 0118 1", sheet="aswe_40"),
+     error("01 03 01 18 00 01", "01 83 02", f"Error 02: {preset('0118', UPPER_DIGIT)}", "aswe_40")),
+    ("a read that ends in the presets", asked("read 011B 5", sheet="aswe_40"),
+     error("01 03 01 1B 00 05", "01 83 02", f"Error 02: {preset('011B', SECOND)}", "aswe_40")),
+    ("a read that comes to the presets over a gap", asked("read 0116 3", sheet="aswe_40"),
+     error("01 03 01 16 00 03", "01 83 02", f"{BAD_ADDRESS} 03", "aswe_40")),
+    ("a write that comes to the presets over a gap", asked("writes 0116 0001 0001 0001", sheet="aswe_40"),
+     error("01 10 01 16 00 03 06 00 01 00 01 00 01", "01 90 02", f"{BAD_ADDRESS} 10", "aswe_40")),
+    ("a preset that is too high", asked("write 0118 000A", sheet="aswe_40"), error("01 06 01 18 00 0A", "01 86 03", BAD_VALUE, "aswe_40")),
+    ("presets, the second is too high", asked("writes 0118 0001 2710", sheet="aswe_40"),
+     error("01 10 01 18 00 02 04 00 01 27 10", "01 90 03", f"{BAD_VALUE}; those ahead of it may be stored, and cannot be read back: send them again",
+           "aswe_40")),
+    ("a setting is read back as ever", asked("write 0116 0004", sheet="aswe_40"),
+     done("01 06 01 16 00 04", "01 06 01 16 00 04", "0116 Pressure readings averaged: 4", names="aswe_40")),
+    ("a preset at a meter that has none", asked_with("read 0118 1", "aswe_40"),
+     error("01 03 01 18 00 01", "01 83 02", f"Error 02: {preset('0118', UPPER_DIGIT)}", "aswe_40")),
+]
+
+
 # ---- at meters that answer otherwise
 
 def reply_of(text):
@@ -341,7 +380,14 @@ AT_PLAYED = [
      f"status 0: {tried(1, sealed(READ))} / {tried(2, sealed(READ), sealed('01 03 02 11 11'))} / Done: / 0101: 1111; "
      + done("01 03 01 02 00 01", "01 03 02 22 22", "0102: 2222", names=None) + "; 3 heard"),
     ("bytes from before", stale, done(READ, "01 03 02 22 22", "0101: 2222", names=None)),
-    ("no answer to a write", played("write 0101 0004"), no_answer(WRITE, write=True) + HEARD),
+    ("no answer to a write", played("write 0101 0004"), no_answer(WRITE, behind=READ_BACK) + HEARD),
+    ("no answer to a clear", played("clear 0300"), no_answer("01 05 03 00 00 00", behind=SEND_AGAIN) + HEARD),
+    ("no answer to a preset", played("write 0118 0002", sheet="aswe_40"), no_answer("01 06 01 18 00 02", behind=SEND_AGAIN) + HEARD),
+    ("no answer to writes of presets", played("writes 011D 0000 0002", sheet="aswe_40"),
+     no_answer("01 10 01 1D 00 02 04 00 00 00 02", behind=SEND_AGAIN) + HEARD),
+    ("no answer to a read of a preset", played("read 0118 1", sheet="aswe_40"), no_answer("01 03 01 18 00 01") + HEARD),
+    ("a meter that reads a preset out", played("read 0118 1", [sent(reply_of("01 03 02 00 02"))], sheet="aswe_40"),
+     done("01 03 01 18 00 01", "01 03 02 00 02", "0118 Preset volume upper digit: 20000000 m3", names="aswe_40") + HEARD_ONCE),
     refused_reply("a bad check", "write 0101 0004", WRITE, "01 06 01 01 00 04 D8 36",
                   disagrees("01 06 01 01 00 04 D8 36"), DAMAGED),
     refused_reply("noise", "read 0101 1", READ, NOISE, disagrees(NOISE), DAMAGED),
@@ -591,4 +637,4 @@ MAKE = [
     ("what the README shows of make ask", shown_in_readme, "7 shown, otherwise: []"),
 ]
 
-TRIALS = [*AT_METER, *AT_PLAYED, *LINES, *ORDERS, *MAKE]
+TRIALS = [*AT_METER, *PRESETS, *AT_PLAYED, *LINES, *ORDERS, *MAKE]

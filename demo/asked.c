@@ -5,6 +5,7 @@
 #include <string.h>
 
 #include "frame.h"
+#include "reasons.h"
 #include "registers.h"
 #include "telling.h"
 
@@ -107,6 +108,30 @@ static void tell_record(const struct asked *asked)
     tell_record_words(asked->values, asked->values_n / 2);
 }
 
+enum { NOT_WRITTEN_ONLY = 0x10000 };
+
+/* The first address of an order's registers that by its sheet can be written but not read. A read must have registers in front of it: else the meter's
+   error has another reason. */
+static unsigned written_only(const struct asked *asked)
+{
+    const struct order *order = asked->order;
+    unsigned last = order->address + addresses_behind(order);
+    for (unsigned address = order->address; order->kind != CEDARSKEIN_CLEAR && address <= last; address++) {
+        unsigned access = access_at(asked->meter, address);
+        if (access == WRITE_ONLY_AREA)
+            return address;
+        if (access == NO_AREA && order->kind == CEDARSKEIN_READ)
+            break;
+    }
+    return NOT_WRITTEN_ONLY;
+}
+
+static void tell_written_only(const struct asked *asked)
+{
+    printf("by %s ", asked->sheet);
+    print_written_only(asked->meter, written_only(asked));
+}
+
 /* A record has no names, and a clear no registers. */
 static int has_names(const struct asked *asked)
 {
@@ -129,6 +154,11 @@ static void tell_done(const struct asked *asked)
     case CEDARSKEIN_WRITE: tell_words(asked->meter, order->address, value, 1); break;
     case CEDARSKEIN_WRITES: tell_words(asked->meter, order->address, order->values, (unsigned)order->values_n / 2); break;
     default: break;
+    }
+    if (is_write(order) && written_only(asked) != NOT_WRITTEN_ONLY) {
+        printf("            it cannot be read back: ");
+        tell_written_only(asked);
+        printf("\n");
     }
 }
 
@@ -162,6 +192,12 @@ static void tell_clear_address(const struct asked *asked)
         printf("that is word 10 of its own sheet, and %s is another's", asked->sheet);
 }
 
+/* Whether a read can show how much of a write was done. None shows the alarm mark. */
+static int can_be_read_back(const struct asked *asked)
+{
+    return asked->order->kind != CEDARSKEIN_CLEAR && written_only(asked) == NOT_WRITTEN_ONLY;
+}
+
 static void tell_error(const struct asked *asked)
 {
     const struct order *order = asked->order;
@@ -176,10 +212,13 @@ static void tell_error(const struct asked *asked)
         printf("the meter has no record at %04X, or none is stored there yet", (unsigned)order->address);
     else if (order->kind == CEDARSKEIN_CLEAR)
         tell_clear_address(asked);
+    else if (order->kind == CEDARSKEIN_READ && written_only(asked) != NOT_WRITTEN_ONLY)
+        tell_written_only(asked);
     else
         printf("the meter has no register at an address of this order, or it is not open to function %02X", asked->query[FUNCTION_BYTE]);
     if (asked->error == BAD_VALUE && order->kind == CEDARSKEIN_WRITES)
-        printf("; those ahead of it may be stored: read them back");
+        printf(can_be_read_back(asked) ? "; those ahead of it may be stored: read them back"
+                                       : "; those ahead of it may be stored, and cannot be read back: send them again");
     printf("\n");
     tell_way_to_reason(asked);
 }
@@ -231,7 +270,8 @@ static void tell_no_answer(const struct asked *asked)
     printf("No answer from station %u at %s in %d tries; look at the station (STATION=), the rate (RATE=%s?), the wires (A to A, B to B) and the meter's "
            "power", (unsigned)asked->order->station, bit_rate(asked->rate), TRIES, bit_rate(!asked->rate));
     if (is_write(asked->order))
-        printf(". It may be done all the same, and its replies lost: read it back");
+        printf(". It may be done all the same, and its replies lost%s",
+               can_be_read_back(asked) ? ": read it back" : ". It cannot be read back: send it again");
     printf("\n");
 }
 

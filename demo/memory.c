@@ -10,10 +10,13 @@
 
 /* Words of the sheet's header, and the words of the header, of an area row and of an item row, by document 01; those of a record area and in front of a
    ring's records, by request W3 of document 02. */
-enum { AREAS = 1, ITEMS = 3, ITEM_ROWS = 4, BANK_WORDS = 5, FUNCTIONS = 6, SHEET_WORDS = 7, PLACE_OF_STATION = 8, PLACE_OF_RATE = 9, CLEAR_ADDRESS = 10,
-       HAS_RECORDS = 11 };
+enum { VERSION = 0, AREAS = 1, ITEMS = 3, ITEM_ROWS = 4, BANK_WORDS = 5, FUNCTIONS = 6, SHEET_WORDS = 7, PLACE_OF_STATION = 8, PLACE_OF_RATE = 9,
+       CLEAR_ADDRESS = 10, HAS_RECORDS = 11 };
 enum { HEADER = 12, AREA_ROW = 4, ITEM_ROW = 6, RECORD_AREA = 3 };
 enum { NEWEST = 0, STORED = 1, IN_FRONT_OF_RECORDS = 2, MOST_RECORDS = 6600 };
+
+/* The versions of a sheet: with the second, by request W7 of document 02, an area can be written only. */
+enum { FIRST_VERSION = 1, LAST_VERSION = 2 };
 
 unsigned word_at(const uint8_t *bytes, size_t number)
 {
@@ -104,29 +107,63 @@ static int number_of_histories_is_bad(const struct meter *meter)
     return word_at(meter->sheet, HAS_RECORDS) > 1 || cedarskein_sheet_check(mended.sheet, mended.sheet_n) == CEDARSKEIN_DONE;
 }
 
-/* AS-WE sheets from before version 1.3 have stations 0 to 255 and no other fault, which is worth its own words; so is a record area, which is not of
-   document 01. */
-static int refuse_sheet(const struct meter *meter, const char *path)
+/* Whether a sheet would be good with the version that allows most. */
+static int only_version_is_bad(const struct meter *meter)
+{
+    struct meter mended = *meter;
+    if (meter->sheet_n < 2 * HEADER)
+        return 0;
+    store_word(mended.sheet, VERSION, LAST_VERSION);
+    return cedarskein_sheet_check(mended.sheet, mended.sheet_n) == CEDARSKEIN_DONE;
+}
+
+/* The first address that can only be written. There is one in a sheet whose version, the first, is its only fault. */
+static unsigned first_written_only(const struct meter *meter)
+{
+    unsigned number = 0;
+    while (area_at(meter, number).access != WRITE_ONLY_AREA)
+        number++;
+    return area_at(meter, number).first;
+}
+
+static void tell_version(const struct meter *meter, char *why, size_t n)
+{
+    unsigned version = word_at(meter->sheet, VERSION);
+    if (version == FIRST_VERSION)
+        snprintf(why, n, "its version is %u, and its registers from %04X on can only be written (access %d), which by request W7 of document 02 takes "
+                 "version %d", version, first_written_only(meter), WRITE_ONLY_AREA, LAST_VERSION);
+    else
+        snprintf(why, n, "its version is %u; there are versions %d and %d", version, FIRST_VERSION, LAST_VERSION);
+}
+
+/* AS-WE sheets from before version 1.3 have stations 0 to 255 and no other fault, which is worth its own words; so is what is not of document 01: a
+   record area, and a version for registers that are only written. */
+static void tell_fault(const struct meter *meter, char *why, size_t n)
 {
     struct item stations;
-    char why[240];
     if (only_stations_are_bad(meter, &stations)) {
-        snprintf(why, sizeof why, "no sheet: its stations are %lu to %lu; they must lie within %d to %d, as those of the files in sheets/ do",
-                 (unsigned long)stations.low, (unsigned long)stations.high, FIRST_STATION, LAST_STATION);
-        return refuse(path, why);
-    }
-    if (only_records_are_bad(meter)) {
+        snprintf(why, n, "its stations are %lu to %lu; they must lie within %d to %d, as those of the files in sheets/ do", (unsigned long)stations.low,
+                 (unsigned long)stations.high, FIRST_STATION, LAST_STATION);
+    } else if (only_records_are_bad(meter)) {
         struct record_area area = history_of(meter);
-        snprintf(why, sizeof why, "no sheet: its history is %u records of %u words from %04X on; it must be 1 to %d records of 1 to %d words, at "
-                 "addresses up to FFFF that nothing else has", area.records, area.words, area.first, MOST_RECORDS, LONGEST_RECORD);
-        return refuse(path, why);
+        snprintf(why, n, "its history is %u records of %u words from %04X on; it must be 1 to %d records of 1 to %d words, at addresses up to FFFF that "
+                 "nothing else has", area.records, area.words, area.first, MOST_RECORDS, LONGEST_RECORD);
+    } else if (number_of_histories_is_bad(meter)) {
+        snprintf(why, n, "its word %d is %u; by request W3 of document 02 it is the number of record areas at the sheet's end, 0 or 1", HAS_RECORDS,
+                 word_at(meter->sheet, HAS_RECORDS));
+    } else if (only_version_is_bad(meter)) {
+        tell_version(meter, why, n);
+    } else {
+        snprintf(why, n, "it breaks a rule of document 01");
     }
-    if (number_of_histories_is_bad(meter)) {
-        snprintf(why, sizeof why, "no sheet: its word %d is %u; by request W3 of document 02 it is the number of record areas at the sheet's end, 0 or 1",
-                 HAS_RECORDS, word_at(meter->sheet, HAS_RECORDS));
-        return refuse(path, why);
-    }
-    return refuse(path, "no sheet: it breaks a rule of document 01");
+}
+
+static int refuse_sheet(const struct meter *meter, const char *path)
+{
+    char why[240];
+    tell_fault(meter, why, sizeof why);
+    fprintf(stderr, "%s: no sheet: %s\n", path, why);
+    return -1;
 }
 
 /* An empty ring: zeros. A meter lasts as long as its program, so the memory is never given back. */
@@ -169,12 +206,12 @@ struct area area_at(const struct meter *meter, unsigned number)
     return area;
 }
 
-int lies_in_area(const struct meter *meter, unsigned address)
+unsigned access_at(const struct meter *meter, unsigned address)
 {
     for (unsigned number = 0; number < area_count(meter); number++)
         if (area_at(meter, number).first <= address && address <= area_at(meter, number).last)
-            return 1;
-    return 0;
+            return area_at(meter, number).access;
+    return NO_AREA;
 }
 
 unsigned place_of(const struct meter *meter, unsigned address)

@@ -21,8 +21,8 @@ struct area {
     unsigned first, last, place, access;
 };
 
-/* The accesses of document 01. */
-enum { READ_ONLY_AREA = 1, READ_AND_WRITE_AREA = 3 };
+/* The accesses of document 01, and by request W7 of document 02 that of registers which are only written. */
+enum { NO_AREA = 0, READ_ONLY_AREA = 1, WRITE_ONLY_AREA = 2, READ_AND_WRITE_AREA = 3 };
 
 /* The record area, by request W3 of document 02: its first address, and how many records of how many words it has. */
 struct record_area {
@@ -55,8 +55,8 @@ void store_word(uint8_t *bytes, size_t number, unsigned word);
 unsigned area_count(const struct meter *meter);
 struct area area_at(const struct meter *meter, unsigned number);
 
-/* Whether an address lies in an area, and its place if it does. */
-int lies_in_area(const struct meter *meter, unsigned address);
+/* The access of the area that an address lies in, NO_AREA where it lies in none; and its place if it lies in one. */
+unsigned access_at(const struct meter *meter, unsigned address);
 unsigned place_of(const struct meter *meter, unsigned address);
 
 /* Whether the sheet has a record area, which it is, and whether an address lies in it: no address does where there is none. */

@@ -153,8 +153,7 @@ int take_order(struct order *order, const char *text)
     return refuse_form(order);
 }
 
-/* The addresses behind the first that an order is for. */
-static uint32_t addresses_behind(const struct order *order)
+uint32_t addresses_behind(const struct order *order)
 {
     switch (order->kind) {
     case CEDARSKEIN_READ: return order->number - 1;

@@ -25,6 +25,9 @@ int take_order(struct order *order, const char *text);
    back -1 where the text is no such number. */
 int take_number(const char *text, size_t n, int base, uint32_t *number);
 
+/* How many addresses behind the first an order is for. */
+uint32_t addresses_behind(const struct order *order);
+
 /* The order's query, and its bytes; 0 of them, and words that say why, where the library has no frame for the order. */
 uint32_t build_query(const struct order *order, uint8_t query[CEDARSKEIN_LEAST_OUT]);
 

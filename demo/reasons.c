@@ -37,6 +37,12 @@ static void begin_with_address(const struct meter *meter, unsigned address)
     printf(register_at(meter, address).name ? ", " : " ");
 }
 
+void print_written_only(const struct meter *meter, unsigned address)
+{
+    begin_with_address(meter, address);
+    printf("can be written but not read");
+}
+
 static void print_bytes(size_t n)
 {
     printf("the frame has %zu byte%s", n, n == 1 ? "" : "s");
@@ -159,7 +165,9 @@ static void tell_closed(const struct reason *reason)
     unsigned address = reason->address;
     if (lies_in_history(meter, address)) {
         tell_closed_history(reason);
-    } else if (lies_in_area(meter, address)) {
+    } else if (access_at(meter, address) == WRITE_ONLY_AREA) {
+        print_written_only(meter, address);
+    } else if (access_at(meter, address) == READ_ONLY_AREA) {
         begin_with_address(meter, address);
         printf("can only be read");
     } else if (allows_function(meter, CLEAR) && address == clear_address(meter)) {

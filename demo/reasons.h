@@ -17,6 +17,9 @@ struct reason {
 /* Asks for the reason. Hands back what cedarskein_why does: only with 0 there is one. */
 uint32_t ask_reason(struct reason *reason, const struct meter *before, const uint8_t *frame, size_t n);
 
+/* Writes that a register can be written but not read, with its address and its name: "0118, Preset volume upper digit, can be written but not read". */
+void print_written_only(const struct meter *meter, unsigned address);
+
 /* Writes the reason alone, as "the frame is for station 2; this meter is station 1". */
 void print_reason(const struct reason *reason);
 

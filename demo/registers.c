@@ -24,12 +24,24 @@ static const struct known_sheet SHEETS[] = {
 
 static const struct register_row *const ROWS[] = { [UX_MAP] = ux_rows, [ASWE_MAP] = aswe_rows, [OTHER_MAP] = NULL };
 
+/* The sheet that the AS-WE 40 had before version 3.2 of the library, and that a board may have still: that of bore 50, but for the word that has the
+   highest low flow cutoff. */
+enum { CUTOFF_WORD = 97, CUTOFF_OF_BORE_40 = 16 };
+
+static int is_old_aswe_40(const struct meter *meter)
+{
+    struct meter other = *meter;
+    store_word(other.sheet, CUTOFF_WORD, word_at(cedarskein_aswe_50_sheet, CUTOFF_WORD));
+    return meter->sheet_n == sizeof cedarskein_aswe_50_sheet && word_at(meter->sheet, CUTOFF_WORD) == CUTOFF_OF_BORE_40
+        && memcmp(other.sheet, cedarskein_aswe_50_sheet, other.sheet_n) == 0;
+}
+
 enum map map_of(const struct meter *meter)
 {
     for (size_t k = 0; k < sizeof SHEETS / sizeof *SHEETS; k++)
         if (meter->sheet_n == SHEETS[k].n && memcmp(meter->sheet, SHEETS[k].bytes, meter->sheet_n) == 0)
             return SHEETS[k].map;
-    return OTHER_MAP;
+    return is_old_aswe_40(meter) ? ASWE_MAP : OTHER_MAP;
 }
 
 struct register_row register_at(const struct meter *meter, unsigned address)

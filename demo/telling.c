@@ -101,12 +101,12 @@ static void tell_written(const struct meter *before, const struct meter *sent, c
     begin_register(row);
     print_value(row, wanted);
     if (wanted == old) {
-        printf(", as it was\n");
-        return;
+        printf(", as it was");
+    } else {
+        printf(wanted == new ? ", it was " : " was not stored, it is still ");
+        print_value(row, old);
     }
-    printf(wanted == new ? ", it was " : " was not stored, it is still ");
-    print_value(row, old);
-    printf("\n");
+    printf(access_at(now, row->address) == WRITE_ONLY_AREA ? "; it cannot be read back\n" : "\n");
 }
 
 /* Each register of the run once, also where only some of its words are in it. */

@@ -23,7 +23,7 @@ void tell_frame(const uint8_t *frame, size_t n);
 void tell_silence(const struct meter *before, const uint8_t *frame, size_t n);
 
 /* A reply, with an error why, and the alarm mark, the station and the rate that are not as they were before the frame; then each register of the
-   frame, with its value in its unit, or the words of the record that was read. */
+   frame, with its value in its unit, and of what was written also where it cannot be read back; or the words of the record that was read. */
 void tell_answer(const struct meter *before, const struct meter *now, const struct exchange *exchange);
 
 /* The words of a run from an address on: each register once, with its value in its unit. Of one that is only partly among them, its words. */

@@ -20,6 +20,7 @@ import history_trials
 import why_trials
 
 ROOT = os.path.dirname(os.path.dirname(os.path.abspath(__file__)))
+ASWE = os.path.join(ROOT, "sheets", "aswe_40.sheet")
 FRAME_COLUMNS = 38
 
 
@@ -175,16 +176,47 @@ def bank_in_use_asked(bench):
         return f"{said}; unchanged {bench.read('bank') == before}"
 
 
-def told_of_frame(bench, text):
-    """What the meter's screen says became of a frame, which is put on the line as it is."""
-    with bench.running("-l", "line") as meter:
-        line = os.open(bench.path("line"), os.O_WRONLY | os.O_NOCTTY)
-        os.write(line, bytes.fromhex(text))
-        os.close(line)
-        history_trials.wait_for_words(bench, "\nstation ")
+def wait_for_frames(bench, number):
+    deadline = time.monotonic() + 10
+    while bench.read("screen").count(b"\nstation ") < number and time.monotonic() < deadline:
+        time.sleep(0.02)
+
+
+def screen_of_frames(bench, frames, *options):
+    """The lines of the meter's screen behind the one that it is on, once it has met frames, which are put on the line as they are."""
+    with bench.running("-l", "line", *options) as meter:
+        for number, text in enumerate(frames, 1):
+            line = os.open(bench.path("line"), os.O_WRONLY | os.O_NOCTTY)
+            os.write(line, bytes.fromhex(text))
+            os.close(line)
+            wait_for_frames(bench, number)
         ended(meter, signal.SIGTERM)
-    frames = [line for line in bench.read("screen").decode().splitlines() if line.startswith("station ")]
+    lines = bench.read("screen").decode().splitlines()
+    return lines[[line[:8] for line in lines].index("meter on") + 1:-1]
+
+
+def told_of_frame(bench, text):
+    """What the meter's screen says became of a frame."""
+    frames = [line for line in screen_of_frames(bench, [text]) if line.startswith("station ")]
     return "; then ".join(line[FRAME_COLUMNS:] for line in frames)
+
+
+def told_by_aswe(*frames):
+    """What the screen of an AS-WE, bore 40, says of each frame and of its registers; a frame is given without its check."""
+    def trial(bench):
+        bench.sheet = ASWE
+        lines = screen_of_frames(bench, [why_trials.sealed(frame) for frame in frames])
+        return " / ".join(line[FRAME_COLUMNS:] if line.startswith("station ") else line.strip() for line in lines)
+    return trial
+
+
+def preset_kept(bench):
+    """Presets in the file that keeps the bank, and what the meter says of them when it is on again."""
+    bench.sheet = ASWE
+    screen_of_frames(bench, [why_trials.sealed("01 10 01 18 00 07 0E 00 09 27 0F 27 0F FF FF FF FE 00 01 00 02")], "-b", "bank")
+    copies = bench.read("bank")
+    again = screen_of_frames(bench, [why_trials.sealed("01 06 01 18 00 01")], "-b", "bank")
+    return f"{[copies[at:at + 14].hex(' ', 2) for at in (40, 94 + 40)]}; {again[-1].strip()}"
 
 
 def told_by_make(*words):
@@ -193,6 +225,32 @@ def told_by_make(*words):
 
 
 LEFT = "It was left as it is"
+NOT_BACK = "; it cannot be read back"
+PRESETS = [
+    ("a preset", told_by_aswe("01 06 01 18 00 02"), f"reply of 8 bytes at 9600 / 0118 Preset volume upper digit: 20000000 m3, it was 0 m3{NOT_BACK}"),
+    ("a preset that is there already", told_by_aswe("01 06 01 1A 00 00"),
+     f"reply of 8 bytes at 9600 / 011A Preset volume lower digits: 0.0 m3, as it was{NOT_BACK}"),
+    ("three presets, the last is bad", told_by_aswe("01 10 01 18 00 03 06 00 09 27 0F 27 11"),
+     f"error 03 at 9600: {why_trials.LOWER_DIGITS} 10001 (1000.1 m3) / 0118 Preset volume upper digit: 90000000 m3, it was 0 m3{NOT_BACK} / "
+     f"0119 Preset volume middle digits: 9999000 m3, it was 0 m3{NOT_BACK} / "
+     f"011A Preset volume lower digits: 1000.1 m3 was not stored, it is still 0.0 m3{NOT_BACK}"),
+    ("a preset that is a pair, and half of it", told_by_aswe("01 10 01 1B 00 02 04 FF FF FF FF", "01 06 01 1B 00 00"),
+     f"reply of 8 bytes at 9600 / 011B Preset second volume: 429496729.5 m3, it was 0.0 m3{NOT_BACK} / "
+     f"reply of 8 bytes at 9600 / 011B Preset second volume: 6553.5 m3, it was 429496729.5 m3{NOT_BACK}"),
+    ("a preset and a setting", told_by_aswe("01 06 01 1E 00 01", "01 06 01 23 00 00"),
+     f"reply of 8 bytes at 9600 / 011D Preset reverse volume: 0.1 m3, it was 0.0 m3{NOT_BACK} / "
+     "reply of 8 bytes at 9600 / 0123 Reference temperature: 0.0 degC, it was -10.0 degC"),
+    ("a preset, and a read of it", told_by_aswe("01 06 01 18 00 02", "01 03 01 18 00 01"),
+     f"reply of 8 bytes at 9600 / 0118 Preset volume upper digit: 20000000 m3, it was 0 m3{NOT_BACK} / "
+     f"error 02 at 9600: 0118, Preset volume upper digit, {why_trials.NOT_READ}; nothing changed"),
+    ("presets that are kept", preset_kept,
+     "['0009 270f 270f ffff fffe 0001 0002', '0009 270f 270f ffff fffe 0001 0002']; "
+     f"0118 Preset volume upper digit: 10000000 m3, it was 90000000 m3{NOT_BACK}"),
+    ("a sheet of version 1 with what is only written", lambda bench: refused_sheet(bench, why_trials.written_only_sheet(1)),
+     "status 1: sheet: no sheet: its version is 1, and its registers from 0013 on can only be written (access 2), which by request W7 of document 02 "
+     "takes version 2; link left False"),
+]
+
 TRIALS = [
     ("a link to a line that is there", lambda bench: link_in_the_way(bench, "/dev/null"),
      f"status 1: line is a link to /dev/null, which is in use. {LEFT}: give LINK another name; leads to /dev/null"),
@@ -277,7 +335,7 @@ def main():
     words_given.add_argument("ask")
     given = words_given.parse_args()
     run = given.run.split()
-    why, meter = [*why_trials.TRIALS, *history_trials.OF_WHY], [*TRIALS, *history_trials.OF_METER]
+    why, meter = [*why_trials.TRIALS, *history_trials.OF_WHY], [*TRIALS, *PRESETS, *history_trials.OF_METER]
     of_why = differing(why, run, given, lambda bench: bench.why)
     print(f"{len(why)} trials of make why, {of_why} came out otherwise than expected")
     if not has_pseudo_terminals():

@@ -46,11 +46,19 @@ def sheet_with(kind, low, high):
     return bytes_of((1, 1, 12, 3, 16, places, 15, 34, 0, 1, 0x0300, 0, 0x0010, 0x0010 + places - 1, 0, 3, *items))
 
 
-def old_aswe_sheet():
-    """AS-WE, bore 40, as it was up to version 1.2 of the library: the same but for its stations."""
-    with open(os.path.join(ROOT, "sheets", "aswe_40.sheet"), "rb") as file:
+def written_only_sheet(version=2, access=2):
+    """A sheet that is no maker's: a station, a rate and a signed word at 0010 to 0012, a pair that is only written at 0013, and two readings at 0015."""
+    areas = (0x0010, 0x0012, 0, 3, 0x0013, 0x0014, 3, access, 0x0015, 0x0016, 5, 1)
+    items = (0, 0, 0, 1, 0, 0xF7, *RATE_AND_SIGNED_WORD, PAIR, 3, 0, 0, 1, 0x869F)
+    return bytes_of((version, 3, 12, 4, 24, 7, 13, 48, 0, 1, 0, 0, *areas, *items))
+
+
+def old_aswe_sheet(stations=(0, 0xFF)):
+    """AS-WE, bore 40, as it was up to version 1.2 of the library, or up to 3.1 with stations 1 to 247: that of bore 50, but for the low flow cutoff."""
+    with open(os.path.join(ROOT, "sheets", "aswe_50.sheet"), "rb") as file:
         sheet = file.read()
-    return sheet.replace(bytes_of((0, 9, 0, 1, 0, 0xF7)), bytes_of((0, 9, 0, 0, 0, 0xFF)))
+    old = sheet.replace(bytes_of((0, 10, 0, 0, 0, 0x1E)), bytes_of((0, 10, 0, 0, 0, 0x10)))
+    return old.replace(bytes_of((0, 9, 0, 1, 0, 0xF7)), bytes_of((0, 9, 0, stations[0], 0, stations[1])))
 
 
 def kept(bank):
@@ -106,10 +114,10 @@ def ux_bank(**words):
     return bytes_of(bank)
 
 
-def aswe_bank(station):
+def aswe_bank(station, presets=7 * (0,)):
     """A fresh bank of AS-WE, bore 40, at a station."""
-    items = (0, 0, 0, 0, 0, 0, 1, 800, 1, station, 0, 500, 0, 1, 1, 0, 0, 1, 0, 1, 0xFF9C, 0)
-    return bytes_of((*items, *(39 - len(items)) * [0]))
+    in_front = (0, 0, 0, 0, 0, 0, 1, 800, 1, station, 0, 500, 0, 1, 1, 0, 0, 1, 0, 1)
+    return bytes_of((*in_front, *presets, 0xFF9C, 0, *17 * (0,)))
 
 
 def outside_of_make():
@@ -243,6 +251,78 @@ REASONS = [
     ("a meter of no maker replies", lambda why: why.frame("01 03 FF FD 00 03", why.file("sheet", sheet_of(15, AT_THE_END))),
      "A reply goes out: the frame reads FFFD to FFFF"),
 ]
+
+NOT_READ = "can be written but not read"
+UPPER_DIGIT = "the item at 0118, Preset volume upper digit, would be too high: it takes 0 to 9 (0 to 90000000 m3), this would be"
+MIDDLE_DIGITS = "the item at 0119, Preset volume middle digits, would be too high: it takes 0 to 9999 (0 to 9999000 m3), this would be"
+LOWER_DIGITS = "the item at 011A, Preset volume lower digits, would be too high: it takes 0 to 9999 (0.0 to 999.9 m3), this would be"
+
+
+def at_aswe(text):
+    return lambda why: why.frame(text, "aswe_40")
+
+
+def at_old_aswe(text):
+    return lambda why: why.frame(text, why.file("sheet", old_aswe_sheet((1, 0xF7))))
+
+
+def at_written_only(text):
+    return lambda why: why.frame(text, why.file("sheet", written_only_sheet()))
+
+
+def with_sheet(*given):
+    return lambda why: why.sheet(written_only_sheet(*given))
+
+
+PRESETS = [
+    ("a read of a preset", at_aswe("01 03 01 18 00 01"), f"Error 02: 0118, Preset volume upper digit, {NOT_READ}"),
+    ("a read of the last preset's lower half", at_aswe("01 03 01 1E 00 01"), f"Error 02: 011E, Preset reverse volume, {NOT_READ}"),
+    ("a read of all presets", at_aswe("01 03 01 18 00 07"),
+     f"Error 02: 0118, Preset volume upper digit, {NOT_READ}; the frame is for 7 registers from 0118 on"),
+    ("a read that comes to the presets over a gap", at_aswe("01 03 01 16 00 03"),
+     "Error 02: this meter has no register at 0117; the frame is for 3 registers from 0116 on"),
+    ("a read of a preset, and of too many", at_aswe("01 03 01 18 00 30"), "Error 02: the frame reads 48 registers; a read is of 1 to 47"),
+    ("a preset at its highest", at_aswe("01 06 01 18 00 09"), "A reply goes out: the frame writes 0118, Preset volume upper digit"),
+    ("a preset that is too high", at_aswe("01 06 01 18 00 0A"),
+     f"Error 03: {UPPER_DIGIT} 10 (100000000 m3); a tenth of it, 1 (10000000 m3), would be taken"),
+    ("the second of three is too high", at_aswe("01 10 01 18 00 03 06 00 09 27 10 27 0F"),
+     f"Error 03: {MIDDLE_DIGITS} 10000 (10000000 m3); a tenth of it, 1000 (1000000 m3), would be taken"),
+    ("the third of three is too high", at_aswe("01 10 01 18 00 03 06 00 09 27 0F 27 11"), f"Error 03: {LOWER_DIGITS} 10001 (1000.1 m3)"),
+    ("three at their highest", at_aswe("01 10 01 18 00 03 06 00 09 27 0F 27 0F"),
+     "A reply goes out: the frame writes 0118, Preset volume upper digit, to 011A, Preset volume lower digits"),
+    ("a pair for which no value is bad", at_aswe("01 10 01 1B 00 02 04 FF FF FF FF"),
+     "A reply goes out: the frame writes 011B to 011C, Preset second volume"),
+    ("half of it", at_aswe("01 06 01 1C FF FF"), "A reply goes out: the frame writes 011C, Preset second volume"),
+    ("all presets", at_aswe("01 10 01 18 00 07 0E" + 7 * " 00 01"),
+     "A reply goes out: the frame writes 0118, Preset volume upper digit, to 011E, Preset reverse volume"),
+    ("a write behind the presets", at_aswe("01 10 01 1E 00 02 04 00 00 00 00"),
+     "Error 02: this meter has no register at 011F; the frame is for 2 registers from 011E on"),
+    ("bore 50 has no presets", lambda why: why.frame("01 06 01 18 00 01", "aswe_50"), "Error 02: this meter has no register at 0118"),
+    ("nor had bore 40", at_old_aswe("01 06 01 18 00 01"), "Error 02: this meter has no register at 0118"),
+    (".. whose registers have their names still", at_old_aswe("01 06 01 09 00 11"),
+     "Error 03: the item at 0109, Low flow cutoff, would be too high: it takes 0 to 16 (0.0 to 1.6 m3/h), this would be 17 (1.7 m3/h)"),
+    ("a meter of no maker, a read", at_written_only("01 03 00 13 00 01"), f"Error 02: 0013 {NOT_READ}"),
+    ("a meter of no maker, a run into what is only written", at_written_only("01 03 00 10 00 07"),
+     f"Error 02: 0013 {NOT_READ}; the frame is for 7 registers from 0010 on"),
+    ("a meter of no maker, up to it", at_written_only("01 03 00 10 00 03"), "A reply goes out: the frame reads 0010 to 0012"),
+    ("a meter of no maker, behind it", at_written_only("01 03 00 15 00 02"), "A reply goes out: the frame reads 0015 to 0016"),
+    ("a meter of no maker, a write of both kinds", at_written_only("01 10 00 12 00 02 04 00 00 00 01"),
+     "A reply goes out: the frame writes 0012 to 0013"),
+    ("a meter of no maker, a write on into the readings", at_written_only("01 10 00 14 00 02 04 00 00 00 00"),
+     "Error 02: 0015 can only be read; the frame is for 2 registers from 0014 on"),
+    ("a meter of no maker, half a pair", at_written_only("01 06 00 13 00 02"),
+     "Error 03: the item at 0013 would be too high: it takes 0 to 99999, this would be 131072, with 0000 still at 0014"),
+    ("version 2 without what is only written", lambda why: why.frame("01 03 00 10 00 05", why.file("sheet", written_only_sheet(access=3))),
+     "A reply goes out: the frame reads 0010 to 0014"),
+    ("version 1 with what is only written", with_sheet(1),
+     "status 2: sheet: no sheet: its version is 1, and its registers from 0013 on can only be written (access 2), which by request W7 of document 02 "
+     "takes version 2"),
+    ("version 3", with_sheet(3), "status 2: sheet: no sheet: its version is 3; there are versions 1 and 2"),
+    ("version 0", with_sheet(0, 3), "status 2: sheet: no sheet: its version is 0; there are versions 1 and 2"),
+    ("an access that is none", with_sheet(2, 4), "status 2: sheet: no sheet: it breaks a rule of document 01"),
+    ("version 3 and an access that is none", with_sheet(3, 0), "status 2: sheet: no sheet: it breaks a rule of document 01"),
+]
+
 
 def missed(kind, low, high, number, side, more=""):
     """A number that an item of a meter of no maker does not take, and what is said of it."""
@@ -432,4 +512,4 @@ MAKE = [
     ("what the README shows of make why", shown_in_readme, "8 shown, otherwise: []"),
 ]
 
-TRIALS = [*REASONS, *SIDES, *FACTOR_OF_TEN, *BANKS, *HEX, *MAKE]
+TRIALS = [*REASONS, *PRESETS, *SIDES, *FACTOR_OF_TEN, *BANKS, *HEX, *MAKE]
