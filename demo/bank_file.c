@@ -1,14 +1,13 @@
 /* The file that keeps the bank of the simulated meter. */
-#define _DEFAULT_SOURCE
+#define _XOPEN_SOURCE 700
 #include "bank_file.h"
 
 #include <errno.h>
-#include <fcntl.h>
 #include <stdio.h>
 #include <string.h>
-#include <sys/file.h>
-#include <sys/stat.h>
 #include <unistd.h>
+
+#include "old_bank.h"
 
 /* The two sides of lasting memory, on a file. What was stored is on the disk before the next is begun. */
 static int load(void *memory, size_t at, uint8_t *bytes, size_t n)
@@ -22,34 +21,8 @@ static int store(void *memory, size_t at, const uint8_t *bytes, size_t n)
     return pwrite(file, bytes, n, (off_t)at) == (ssize_t)n && fdatasync(file) == 0 ? 0 : -1;
 }
 
-enum { WHY_ROOM = 200 };
-
-/* Whether a bank that is not sound would be with a station that the sheet takes. */
-static int only_station_is_bad(const struct meter *meter, const uint8_t *bank)
-{
-    struct meter moved = *meter;
-    struct item station = station_item(meter);
-    memcpy(moved.bank, bank, moved.bank_n);
-    store_word(moved.bank, station.place, (unsigned)station.low);
-    return cedarskein_bank_check(moved.sheet, moved.sheet_n, moved.bank, moved.bank_n) == CEDARSKEIN_DONE;
-}
-
-/* A bank from before version 1.3 can be at station 0, or 248 to 255. Its settings need not be lost, so it is not called spoiled: hands back 1, and
-   why it is refused, where the station alone is bad. */
-static int is_at_bad_station(const struct meter *meter, const uint8_t *bank, char *why)
-{
-    struct item station = station_item(meter);
-    if (!only_station_is_bad(meter, bank))
-        return 0;
-    snprintf(why, WHY_ROOM,
-             "its station is %u, and this sheet takes %lu to %lu; all else in it is good, and include/cedarskein.h, \"Stations\", says how it gets "
-             "another one",
-             word_at(bank, station.place), (unsigned long)station.low, (unsigned long)station.high);
-    return 1;
-}
-
-/* The same of a copy that is whole: the check value over it and its own check value, low byte first, is then 0. */
-static int copy_is_at_bad_station(const struct meter *meter, const struct kept_bank *kept, char *why)
+/* Whether a copy that is whole is at a bad station: the check value over it and its own check value, low byte first, is then 0. */
+static int copy_is_at_bad_station(const struct meter *meter, const struct kept_bank *kept, char why[STATION_ROOM])
 {
     uint8_t copy[CEDARSKEIN_LONGEST_BANK + CHECK_SIZE];
     size_t n = meter->bank_n + CHECK_SIZE;
@@ -60,89 +33,26 @@ static int copy_is_at_bad_station(const struct meter *meter, const struct kept_b
     return 0;
 }
 
-static int refused(struct bank_file *bank, const char *why)
-{
-    fprintf(stderr, "the bank's file %s: %s. It was left as it is\n", bank->path, why);
-    if (bank->file >= 0)
-        close(bank->file);
-    bank->path = NULL;
-    return -1;
-}
-
-/* Opens the file alone for this meter, and finds how long it is. */
-static int take_file(struct bank_file *bank, off_t *size)
-{
-    struct stat status;
-    bank->file = open(bank->path, O_RDWR | O_CREAT | O_CLOEXEC, 0666);
-    if (bank->file < 0 || fstat(bank->file, &status) != 0)
-        return refused(bank, strerror(errno));
-    if (!S_ISREG(status.st_mode))
-        return refused(bank, "no plain file");
-    if (flock(bank->file, LOCK_EX | LOCK_NB) != 0)
-        return refused(bank, errno == EWOULDBLOCK ? "another meter has it in use" : strerror(errno));
-    *size = status.st_size;
-    return 0;
-}
+static const char SECOND_TAKEN[] = "; its first copy was spoiled, and the second was taken";
 
 static int restore_from_file(struct bank_file *bank, const struct meter *meter)
 {
-    char why[WHY_ROOM];
+    char why[STATION_ROOM];
     switch (restore_bank(&bank->kept)) {
     case FROM_FIRST_COPY:
-        printf("the bank is the one that %s keeps\n", bank->path);
+        printf("the bank is the one that %s keeps\n", bank->own.name);
         return 0;
     case FROM_SECOND_COPY:
-        printf("the bank is the one that %s keeps; its first copy was spoiled, and the second was taken\n", bank->path);
+        printf("the bank is the one that %s keeps%s\n", bank->own.name, SECOND_TAKEN);
         return 0;
     default:
         if (copy_is_at_bad_station(meter, &bank->kept, why))
-            return refused(bank, why);
-        return refused(bank, "neither copy in it is a good bank of this sheet; without the file the meter begins with a fresh bank");
+            return refuse_file(&bank->own, why);
+        return refuse_file(&bank->own, "neither copy in it is a good bank of this sheet; without the file the meter begins with a fresh bank");
     }
 }
 
-int open_bank(struct bank_file *bank, struct meter *meter, const char *path)
-{
-    off_t size = 0;
-    bank->path = path;
-    if (take_file(bank, &size) != 0)
-        return -1;
-    struct kept_bank kept = { meter->sheet, meter->sheet_n, meter->bank, meter->bank_n, { load, store, &bank->file } };
-    bank->kept = kept;
-    if (size == (off_t)kept_size(meter->bank_n))
-        return restore_from_file(bank, meter);
-    if (size != 0)
-        return refused(bank, "it has not the bytes of two banks of this sheet with their check values");
-    printf("the bank is fresh, and kept in %s\n", bank->path);
-    return keep_bank_readings(bank);
-}
-
-static int told(const struct bank_file *bank, int failed)
-{
-    if (failed)
-        fprintf(stderr, "the bank is not kept in %s: %s\n", bank->path, strerror(errno));
-    return failed;
-}
-
-int keep_bank_settings(const struct bank_file *bank)
-{
-    return bank->path ? told(bank, keep_settings(&bank->kept)) : 0;
-}
-
-int keep_bank_readings(const struct bank_file *bank)
-{
-    return bank->path ? told(bank, keep_readings(&bank->kept)) : 0;
-}
-
-void close_bank(struct bank_file *bank)
-{
-    if (!bank->path)
-        return;
-    keep_bank_readings(bank);
-    close(bank->file);
-}
-
-/* A file as it was read. It has room for one byte more than any bank's file, so that a longer one shows. */
+/* A file's bytes. There is room for one more than any bank's file has, so that a longer one shows. */
 struct image {
     uint8_t bytes[2 * (CEDARSKEIN_LONGEST_BANK + CHECK_SIZE) + 1];
     size_t n;
@@ -152,6 +62,101 @@ static int load_image(void *memory, size_t at, uint8_t *bytes, size_t n)
 {
     memcpy(bytes, ((const struct image *)memory)->bytes + at, n);
     return 0;
+}
+
+static int store_image(void *memory, size_t at, const uint8_t *bytes, size_t n)
+{
+    memcpy(((struct image *)memory)->bytes + at, bytes, n);
+    return 0;
+}
+
+/* A file for the bank that was carried over, in the place of the old one. That one stays under another name: a bank of bore 50 or 80 has as many bytes,
+   and whoever named the wrong sheet needs it still. */
+static int keep_carried(struct bank_file *bank, const struct meter *meter, const char *old_name)
+{
+    char why[WHY_ROOM];
+    struct image image = { .n = kept_size(meter->bank_n) };
+    struct kept_bank copies = bank->kept;
+    struct lasting in_memory = { load_image, store_image, &image };
+    copies.lasting = in_memory;
+    keep_readings(&copies);
+    int error = replace_file_keeping(&bank->own, image.bytes, image.n, old_name);
+    if (error == 0)
+        return 0;
+    snprintf(why, sizeof why, "by its size it is of the AS-WE 40 from before version 3.2; it cannot be carried over and stay as %.*s: %s", WHY_ROOM / 2,
+             old_name, strerror(error));
+    return refuse_file(&bank->own, why);
+}
+
+static int carry_file_over(struct bank_file *bank, struct meter *meter, size_t size)
+{
+    char why[WHY_ROOM], old_name[PATH_MAX + sizeof ".old"];
+    struct image image = { .n = size };
+    if (load(&bank->own.file, 0, image.bytes, size) != 0)
+        return refuse_file(&bank->own, strerror(errno));
+    enum restored from = carry_bytes_over(meter, image.bytes, size, why);
+    if (from == NO_GOOD_COPY)
+        return refuse_file(&bank->own, why);
+    snprintf(old_name, sizeof old_name, "%s.old", bank->own.path);
+    if (keep_carried(bank, meter, old_name) != 0)
+        return -1;
+    printf("the bank is the one that %s keeps%s; by its size it was of the AS-WE 40 from before version 3.2, and was carried over to this sheet, the "
+           "presets 0118 to 011E at 0; the old file is %s\n",
+           bank->own.name, from == FROM_SECOND_COPY ? SECOND_TAKEN : "", old_name);
+    return 0;
+}
+
+/* A bare bank has no check value by which it could be known to be whole. */
+static int refuse_size(struct bank_file *bank, const struct meter *meter, size_t size)
+{
+    if (is_old_bank_size(meter, size))
+        return refuse_file(&bank->own, "by its size it is a bare bank of the AS-WE 40 from before version 3.2; a meter takes two copies with their check "
+                                       "values. include/cedarskein.h, \"A board from before version 3.2\", says how it is carried over, and "
+                                       "demo/carried.c does it");
+    return refuse_file(&bank->own, "it has not the bytes of two banks of this sheet with their check values");
+}
+
+int open_bank(struct bank_file *bank, struct meter *meter, const char *path)
+{
+    off_t size = 0;
+    bank->own = file_named("bank", path);
+    if (take_file(&bank->own, &size) != 0)
+        return -1;
+    struct kept_bank kept = { meter->sheet, meter->sheet_n, meter->bank, meter->bank_n, { load, store, &bank->own.file } };
+    bank->kept = kept;
+    if (size == (off_t)kept_size(meter->bank_n))
+        return restore_from_file(bank, meter);
+    if (is_old_file_size(meter, (size_t)size))
+        return carry_file_over(bank, meter, (size_t)size);
+    if (size != 0)
+        return refuse_size(bank, meter, (size_t)size);
+    printf("the bank is fresh, and kept in %s\n", bank->own.name);
+    return keep_bank_readings(bank);
+}
+
+static int told(const struct bank_file *bank, int failed)
+{
+    if (failed)
+        fprintf(stderr, "the bank is not kept in %s: %s\n", bank->own.name, strerror(errno));
+    return failed;
+}
+
+int keep_bank_settings(const struct bank_file *bank)
+{
+    return bank->own.name ? told(bank, keep_settings(&bank->kept)) : 0;
+}
+
+int keep_bank_readings(const struct bank_file *bank)
+{
+    return bank->own.name ? told(bank, keep_readings(&bank->kept)) : 0;
+}
+
+void close_bank(struct bank_file *bank)
+{
+    if (!bank->own.name)
+        return;
+    keep_bank_readings(bank);
+    close(bank->own.file);
 }
 
 /* A spoiled copy is the meter's to write anew. */
@@ -183,7 +188,7 @@ static int read_image(struct image *image, const char *path)
 static int take_copies(struct meter *meter, struct image *image, const char *path)
 {
     struct kept_bank kept = { meter->sheet, meter->sheet_n, meter->bank, meter->bank_n, { load_image, leave_image, image } };
-    char why[WHY_ROOM];
+    char why[STATION_ROOM];
     if (restore_bank(&kept) != NO_GOOD_COPY)
         return 0;
     return no_bank(path, copy_is_at_bad_station(meter, &kept, why) ? why : "neither copy in it is a good bank of this sheet");
@@ -191,12 +196,23 @@ static int take_copies(struct meter *meter, struct image *image, const char *pat
 
 static int take_bytes(struct meter *meter, const struct image *image, const char *path)
 {
-    char why[WHY_ROOM];
+    char why[STATION_ROOM];
     if (cedarskein_bank_check(meter->sheet, meter->sheet_n, image->bytes, image->n) != CEDARSKEIN_DONE)
         return no_bank(path, is_at_bad_station(meter, image->bytes, why)
                                  ? why
                                  : "it is not sound: an item is out of its range, or the mark is neither 0 nor 1");
     memcpy(meter->bank, image->bytes, meter->bank_n);
+    return 0;
+}
+
+/* It is told: the frames are then judged with another bank than the file has. */
+static int take_old(struct meter *meter, const struct image *image, const char *path)
+{
+    char why[WHY_ROOM];
+    if (carry_bytes_over(meter, image->bytes, image->n, why) == NO_GOOD_COPY)
+        return no_bank(path, why);
+    fprintf(stderr, "the bank %s: by its size it is of the AS-WE 40 from before version 3.2; the frames are judged with it carried over to this sheet, "
+                    "the presets 0118 to 011E at 0. The file is left as it is\n", path);
     return 0;
 }
 
@@ -209,6 +225,8 @@ int read_bank(struct meter *meter, const char *path)
         return take_bytes(meter, &image, path);
     if (image.n == kept_size(meter->bank_n))
         return take_copies(meter, &image, path);
+    if (is_old_bank_size(meter, image.n) || is_old_file_size(meter, image.n))
+        return take_old(meter, &image, path);
     fprintf(stderr, "the bank %s: it has %zu bytes; a bank of this sheet has %zu, and a file that make meter keeps has %zu\n", path, image.n,
             meter->bank_n, kept_size(meter->bank_n));
     return -1;

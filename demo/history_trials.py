@@ -236,9 +236,9 @@ def mode_kept(bench, mode):
     return f"stored {stored_in(bench) >= 4}, mode {os.stat(bench.path('ring')).st_mode & 0o7777:o}"
 
 
-def without_room(bench):
-    """From here on a meter can write a part of a ring, as on a disk that fills up."""
-    bench.command = ["sh", "-c", 'ulimit -S -f 100; exec "$@"', "sh", *bench.command]
+def without_room(bench, blocks=100):
+    """From here on a meter can write a part of a ring, as on a disk that fills up, or with no block nothing at all."""
+    bench.command = ["sh", "-c", f'ulimit -S -f {blocks}; exec "$@"', "sh", *bench.command]
 
 
 def wait_for_words(bench, words):

@@ -113,10 +113,10 @@ static void keep_records(struct simulation *simulation)
 {
     int error = keep_ring(&simulation->ring);
     if (error != 0 && error != simulation->ring_error)
-        printf("the ring is not kept in %s: %s. The meter goes on; if it is switched off now, its newest records are lost\n", simulation->ring.name,
+        printf("the ring is not kept in %s: %s. The meter goes on; if it is switched off now, its newest records are lost\n", simulation->ring.own.name,
                strerror(error));
     else if (error == 0 && simulation->ring_error != 0)
-        printf("the ring is kept in %s again, with every record\n", simulation->ring.name);
+        printf("the ring is kept in %s again, with every record\n", simulation->ring.own.name);
     simulation->ring_error = error;
 }
 

@@ -2,15 +2,12 @@
 #ifndef RING_FILE_H
 #define RING_FILE_H
 
-#include <limits.h>
-
 #include "memory.h"
+#include "own_file.h"
 
-/* A meter may have no such file: its name is then NULL, and nothing is kept. The path is where the file really lies. */
+/* A meter may have no such file, and then nothing is kept. */
 struct ring_file {
-    const char *name;
-    char path[PATH_MAX];
-    int file;
+    struct own_file own;
     const struct meter *meter;
 };
 

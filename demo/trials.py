@@ -28,7 +28,7 @@ class Bench:
     """A folder to try in, and how the meter and the programs `why` and `ask` are started."""
 
     def __init__(self, run, given, folder):
-        self.command, self.sheet, self.folder = [*run, os.path.abspath(given.meter)], given.sheet, folder
+        self.command, self.sheet, self.folder = [*run, os.path.abspath(given.meter)], given.sheet, os.path.realpath(folder)
         self.why = why_trials.Why([*run, os.path.abspath(given.why)], folder)
         self.ask = ask_trials.Ask([*run, os.path.abspath(given.ask)], folder)
 
@@ -162,6 +162,61 @@ def bank_at_station(bench, station):
     return refused_bank(bench)
 
 
+CARRIED = why_trials.aswe_bank(5, behind=(100, 7, *range(0x2001, 0x2011), 1))
+OLD_FILE = why_trials.kept(why_trials.aswe_bank(5, (), (100, 7, *range(0x2001, 0x2011), 1)))
+
+
+def with_old_bank(trial, data=OLD_FILE, lay=lambda _: None):
+    """A trial at an AS-WE, bore 40, with a bank's file from before version 3.2, and with what else is laid beside it."""
+    def at_aswe(bench):
+        bench.sheet = ASWE
+        bench.write("bank", data)
+        lay(bench)
+        return trial(bench)
+    return at_aswe
+
+
+def carried(bench):
+    """The meter's first line, what is there then, and what the next meter says."""
+    before = bench.read("bank")
+    with bench.running("-b", "bank") as meter:
+        is_carried = bench.read("bank") == why_trials.kept(CARRIED)
+        ended(meter, signal.SIGTERM)
+    said = bench.read("screen").decode().split("\n")[0].replace(bench.folder + "/", "")
+    files = sorted(set(os.listdir(bench.folder)) - {"screen"})
+    stays = bench.read("bank.old") == before
+    return f"{said}; carried over {is_carried}, the old one as it was {stays}, {files}; then {bank_lines(bench, '-b', 'bank')}"
+
+
+def not_carried(bench):
+    """What a meter says that does not take the file, and that the folder is as it was."""
+    before = {name: bench.read(name) for name in os.listdir(bench.folder)}
+    said = bench.refused("-b", "bank")
+    return f"{said}; unchanged {before == {name: bench.read(name) for name in os.listdir(bench.folder)}}"
+
+
+def cut_off(bench):
+    """What a meter leaves that is cut off while it carries a bank over: the second name, and a part of the new file."""
+    os.link(bench.path("bank"), bench.path("bank.old"))
+    bench.write("bank.a1B2c3", why_trials.kept(CARRIED)[:50])
+
+
+def carried_through_link(bench):
+    os.mkdir(bench.path("there"))
+    bench.write("there/bank", OLD_FILE)
+    os.chmod(bench.path("there/bank"), 0o600)
+    os.symlink(bench.path("there/bank"), bench.path("bank"))
+    bench.sheet = ASWE
+    bank_lines(bench, "-b", "bank")
+    mode = os.stat(bench.path("there/bank")).st_mode & 0o777
+    return f"still a link {os.path.islink(bench.path('bank'))}, mode {mode:o}, there {sorted(os.listdir(bench.path('there')))}"
+
+
+def carried_settings(bench):
+    lines = screen_of_frames(bench, [why_trials.sealed(frame) for frame in ("05 06 01 23 00 00", "05 03 01 24 00 01")], "-b", "bank")
+    return " / ".join(line.strip() for line in lines if line.startswith(" "))
+
+
 def refused_sheet(bench, data):
     bench.write("sheet", data)
     bench.sheet = bench.path("sheet")
@@ -225,6 +280,35 @@ def told_by_make(*words):
 
 
 LEFT = "It was left as it is"
+TAKEN = "the bank is the one that bank keeps"
+SECOND = "; its first copy was spoiled, and the second was taken"
+OVER = ("; by its size it was of the AS-WE 40 from before version 3.2, and was carried over to this sheet, the presets 0118 to 011E at 0; "
+        "the old file is bank.old; carried over True, the old one as it was True")
+OLD_BANKS = [
+    ("a bank from before version 3.2", with_old_bank(carried), f"{TAKEN}{OVER}, ['bank', 'bank.old']; then {TAKEN}"),
+    (".. its first copy spoiled", with_old_bank(carried, why_trials.spoiled(OLD_FILE, 24)), f"{TAKEN}{SECOND}{OVER}, ['bank', 'bank.old']; then {TAKEN}"),
+    (".. its second copy spoiled", with_old_bank(carried, why_trials.spoiled(OLD_FILE, 80 + 24)), f"{TAKEN}{OVER}, ['bank', 'bank.old']; then {TAKEN}"),
+    (".. after a cut", with_old_bank(carried, lay=cut_off), f"{TAKEN}{OVER}, ['bank', 'bank.a1B2c3', 'bank.old']; then {TAKEN}"),
+    (".. behind a link", carried_through_link, "still a link True, mode 600, there ['bank', 'bank.old']"),
+    (".. its settings", with_old_bank(carried_settings),
+     "0123 Reference temperature: 0.0 degC, it was 10.0 degC / 0124 Reference pressure: 0.07 kPa gauge"),
+    (".. both copies spoiled", with_old_bank(not_carried, why_trials.spoiled(OLD_FILE, 24, 80 + 24)),
+     f"status 1: the bank's file bank: {why_trials.NOT_CARRIED}; neither copy in it is a good bank. {LEFT}; unchanged True"),
+    (".. at station 0", with_old_bank(not_carried, why_trials.kept(why_trials.old_aswe_bank(0))),
+     f"status 1: the bank's file bank: {why_trials.NOT_CARRIED}; its station is 0, {why_trials.MOVABLE}. {LEFT}; unchanged True"),
+    (".. at station 255", with_old_bank(not_carried, why_trials.kept(why_trials.old_aswe_bank(255))),
+     f"status 1: the bank's file bank: {why_trials.NOT_CARRIED}; its station is 255, {why_trials.MOVABLE}. {LEFT}; unchanged True"),
+    (".. a file of the user's own under the old one's name", with_old_bank(not_carried, lay=lambda bench: bench.write("bank.old", b"mine")),
+     f"status 1: the bank's file bank: {why_trials.OLD}; it cannot be carried over and stay as bank.old: File exists. {LEFT}; unchanged True"),
+    (".. a disk that is full", with_old_bank(not_carried, lay=lambda bench: history_trials.without_room(bench, 0)),
+     f"status 1: the bank's file bank: {why_trials.OLD}; it cannot be carried over and stay as bank.old: File too large. {LEFT}; unchanged True"),
+    (".. as its own bytes", with_old_bank(not_carried, OLD_FILE[:78]),
+     "status 1: the bank's file bank: by its size it is a bare bank of the AS-WE 40 from before version 3.2; a meter takes two copies with their check "
+     'values. include/cedarskein.h, "A board from before version 3.2", says how it is carried over, and demo/carried.c does it. '
+     f"{LEFT}; unchanged True"),
+    (".. of another size", with_old_bank(not_carried, OLD_FILE[:159]),
+     f"status 1: the bank's file bank: it has not the bytes of two banks of this sheet with their check values. {LEFT}; unchanged True"),
+]
 NOT_BACK = "; it cannot be read back"
 PRESETS = [
     ("a preset", told_by_aswe("01 06 01 18 00 02"), f"reply of 8 bytes at 9600 / 0118 Preset volume upper digit: 20000000 m3, it was 0 m3{NOT_BACK}"),
@@ -335,7 +419,7 @@ def main():
     words_given.add_argument("ask")
     given = words_given.parse_args()
     run = given.run.split()
-    why, meter = [*why_trials.TRIALS, *history_trials.OF_WHY], [*TRIALS, *PRESETS, *history_trials.OF_METER]
+    why, meter = [*why_trials.TRIALS, *history_trials.OF_WHY], [*TRIALS, *OLD_BANKS, *PRESETS, *history_trials.OF_METER]
     of_why = differing(why, run, given, lambda bench: bench.why)
     print(f"{len(why)} trials of make why, {of_why} came out otherwise than expected")
     if not has_pseudo_terminals():

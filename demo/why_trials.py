@@ -114,10 +114,14 @@ def ux_bank(**words):
     return bytes_of(bank)
 
 
-def aswe_bank(station, presets=7 * (0,)):
-    """A fresh bank of AS-WE, bore 40, at a station."""
+def aswe_bank(station, presets=7 * (0,), behind=(0xFF9C, 0, *17 * (0,))):
+    """A bank of AS-WE, bore 40, at a station, fresh where nothing else is said. Without presets it is one from before version 3.2 of the library."""
     in_front = (0, 0, 0, 0, 0, 0, 1, 800, 1, station, 0, 500, 0, 1, 1, 0, 0, 1, 0, 1)
-    return bytes_of((*in_front, *presets, 0xFF9C, 0, *17 * (0,)))
+    return bytes_of((*in_front, *presets, *behind))
+
+
+def old_aswe_bank(station):
+    return aswe_bank(station, presets=())
 
 
 def outside_of_make():
@@ -422,6 +426,53 @@ NOT_SOUND = "it is not sound: an item is out of its range, or the mark is neithe
 MOVABLE = 'and this sheet takes 1 to 247; all else in it is good, and include/cedarskein.h, "Stations", says how it gets another one'
 WITHIN = "they must lie within 1 to 247, as those of the files in sheets/ do"
 SIZES = "a bank of this sheet has 70, and a file that make meter keeps has 144"
+OLD = "by its size it is of the AS-WE 40 from before version 3.2"
+NOT_CARRIED = f"{OLD}, whose banks demo/carried.c carries over"
+CARRIED = (f"status 0: the bank bank: {OLD}; the frames are judged with it carried over to this sheet, the presets 0118 to 011E at 0. "
+           "The file is left as it is; printed: Silence: the frame is for station 2; this meter is station 5")
+
+
+def spoiled(file, *places):
+    """A file with some bytes turned. In these banks place 24, the lower byte of the year, may be anything, and only the check value can tell."""
+    return bytes(byte ^ 0xFF if place in places else byte for place, byte in enumerate(file))
+
+
+def old_bank(data):
+    """A bank for AS-WE, bore 40, and whether its file is as it was."""
+    def trial(why):
+        said = why.bank(data, "aswe_40")
+        with open(os.path.join(why.folder, "bank"), "rb") as file:
+            return said if file.read() == data and os.listdir(why.folder) == ["bank"] else f"{said}; and the file is another"
+    return trial
+
+
+OLD_BANKS = [
+    ("an old bank's own bytes", old_bank(old_aswe_bank(5)), CARRIED),
+    ("an old bank that a meter kept", old_bank(kept(old_aswe_bank(5))), CARRIED),
+    ("an old bank, its first copy spoiled", old_bank(spoiled(kept(old_aswe_bank(5)), 24)), CARRIED),
+    ("an old bank, its second copy spoiled", old_bank(spoiled(kept(old_aswe_bank(5)), 80 + 24)), CARRIED),
+    ("an old bank, both copies spoiled", old_bank(spoiled(kept(old_aswe_bank(5)), 24, 80 + 24)),
+     f"status 2: the bank bank: {NOT_CARRIED}; neither copy in it is a good bank"),
+    ("an old bank, two copies that are not sound", old_bank(kept(aswe_bank(5, (), (0x0259, *18 * (0,))))),
+     f"status 2: the bank bank: {NOT_CARRIED}; neither copy in it is a good bank"),
+    ("an old bank, the first of two copies is not sound", old_bank(kept(aswe_bank(5, (), (0x0259, *18 * (0,))))[:80] + kept(old_aswe_bank(5))[80:]),
+     CARRIED),
+    ("an old bank's own bytes that are not sound", old_bank(old_aswe_bank(5)[:-1] + b"\2"), f"status 2: the bank bank: {NOT_CARRIED}; {NOT_SOUND}"),
+    ("an old bank at station 0", old_bank(old_aswe_bank(0)), f"status 2: the bank bank: {NOT_CARRIED}; its station is 0, {MOVABLE}"),
+    ("an old bank that a meter kept at station 255", old_bank(kept(old_aswe_bank(255))),
+     f"status 2: the bank bank: {NOT_CARRIED}; its station is 255, {MOVABLE}"),
+    ("an old bank at station 248, its first copy spoiled", old_bank(spoiled(kept(old_aswe_bank(248)), 24)),
+     f"status 2: the bank bank: {NOT_CARRIED}; its station is 248, {MOVABLE}"),
+    ("an old bank at station 0 that is not sound either", old_bank(old_aswe_bank(0)[:-1] + b"\2"), f"status 2: the bank bank: {NOT_CARRIED}; {NOT_SOUND}"),
+    ("an old bank with a byte too many", old_bank(old_aswe_bank(5) + b"\0"),
+     "status 2: the bank bank: it has 79 bytes; a bank of this sheet has 92, and a file that make meter keeps has 188"),
+    ("a bank of bore 50 has as many bytes still", lambda why: why.bank(old_aswe_bank(5), "aswe_50"),
+     "Silence: the frame is for station 2; this meter is station 5"),
+    ("an old bank with its old sheet", lambda why: why.bank(old_aswe_bank(5), why.file("sheet", old_aswe_sheet((1, 0xF7)))),
+     "Silence: the frame is for station 2; this meter is station 5"),
+    ("an old bank for another meter", lambda why: why.bank(kept(old_aswe_bank(5))), f"status 2: the bank bank: it has 160 bytes; {SIZES}"),
+]
+
 BANKS = [
     ("a bank's own bytes", lambda why: why.bank(ux_bank()), FOR_TWO),
     ("a bank that a meter keeps", lambda why: why.bank(kept(ux_bank())), FOR_TWO),
@@ -443,6 +494,7 @@ BANKS = [
      "status 2: the bank bank: neither copy in it is a good bank of this sheet"),
     ("a bank at station 0 with another item out of its range", lambda why: why.bank(ux_bank(a010E=0, a0101=5)),
      f"status 2: the bank bank: {NOT_SOUND}"),
+    *OLD_BANKS,
     ("a mark of 2", lambda why: why.bank(ux_bank()[:-1] + b"\2"), f"status 2: the bank bank: {NOT_SOUND}"),
     ("an empty bank", lambda why: why.bank(b""), f"status 2: the bank bank: it has 0 bytes; {SIZES}"),
     ("a bank of AS-WE", lambda why: why.bank(bytes(78)), f"status 2: the bank bank: it has 78 bytes; {SIZES}"),
