@@ -1,9 +1,11 @@
-/* The pump hand's story: a new limit comes back with error 03. What is in the meter now, and why? And what a newer meter tells of the last nights. */
+/* The pump hand's story: a new limit comes back with error 03. What is in the meter now, and why? And what a newer meter tells of the last nights, and how
+   a total is set that no read shows. */
 #include <stdio.h>
 #include <stdlib.h>
 #include <string.h>
 
 #include "cedarskein_registers.h"
+#include "cedarskein_sheets.h"
 #include "hex.h"
 #include "reasons.h"
 #include "registers.h"
@@ -255,9 +257,41 @@ static void tell_full_history(void)
     printf("  Read in time: the record of day 14 is gone.\n");
 }
 
+static void begin_aswe_meter(void)
+{
+    memcpy(meter.sheet, cedarskein_aswe_40_sheet, sizeof cedarskein_aswe_40_sheet);
+    meter.sheet_n = sizeof cedarskein_aswe_40_sheet;
+    set_up_meter(&meter, "the AS-WE 40's sheet");
+}
+
+/* What the firmware finds in the bank: the three presets as words, and the volume that they make up, in tenths. */
+static void tell_preset_volume(void)
+{
+    unsigned upper = (unsigned)value_at(&meter, CEDARSKEIN_ASWE_PRESET_VOLUME_UPPER_DIGIT);
+    unsigned middle = (unsigned)value_at(&meter, CEDARSKEIN_ASWE_PRESET_VOLUME_MIDDLE_DIGITS);
+    unsigned lower = (unsigned)value_at(&meter, CEDARSKEIN_ASWE_PRESET_VOLUME_LOWER_DIGITS);
+    unsigned tenths = 100000000 * upper + 10000 * middle + lower;
+    printf("  In the bank, where the meter's firmware takes it from: %04X %04X %04X, %u.%u m3.\n", upper, middle, lower, tenths / 10, tenths % 10);
+}
+
+static void tell_preset(void)
+{
+    printf("\n8. A total that goes on where the old one stopped\n"
+           "  The other pump has an AS-WE 40, and today a new board in it. The old one had counted 12345678.9 m3.\n"
+           "  Three presets set such a total: 0118 takes its first digit, 0119 the next four, 011A the last four.\n");
+    ask("01 06 01 18 00 0C");
+    printf("  Sent was 000C, which is 12: one digit too many.\n");
+    ask("01 10 01 18 00 03 06 00 01 09 29 1A 85");
+    printf("  Sent were 1, 2345 and 6789.\n");
+    ask("01 03 01 18 00 03");
+    printf("  A preset is not for reading. Its write was answered without an error, so it is stored.\n");
+    tell_preset_volume();
+}
+
 static void tell_where_next(void)
 {
-    printf("\nAfter an error 03 to a write, read back: the reply does not say how much was stored.\n\n"
+    printf("\nAfter an error 03 to a write, read back: the reply does not say how much was stored. What cannot be\n"
+           "read, send again.\n\n"
            "Next: make meter    a meter like the first one, on a line of its own, for your own program\n"
            "      make why      why a meter is silent or answers with an error, for a frame of yours or a capture\n"
            "      make test     the proofs that it is so for every frame and every sheet\n"
@@ -281,6 +315,8 @@ int main(int argc, char **argv)
     begin_history_meter();
     tell_first_nights();
     tell_full_history();
+    begin_aswe_meter();
+    tell_preset();
     tell_where_next();
     return 0;
 }
