@@ -9,6 +9,7 @@ from masters import Mbpoll, words
 SHEET = os.path.join(os.path.dirname(os.path.abspath(__file__)), "..", "sheets", "history_example.sheet")    # no maker's, so that no register has a name
 FIRST, REGISTERS, COIL = 0x0100, 47, 0x0300
 LAST = FIRST + REGISTERS - 1
+TOTALS = (0x0001, 0x0929, 0x1A85, 0xFFFE, 0x1234, 0x8001, 0x0203)    # 0118 to 011E, which a meter does not let be read
 
 
 class Asker:
@@ -73,6 +74,10 @@ def steps_of_writing(asker, witness):
         (".. mbpoll finds it as written", lambda: witness.read(0x0103, 1), "1388"),
         ("ask writes one register by 10", lambda: asker.writes(0x0104, 0x9ABC), "done"),
         (".. ask reads it as written, with its neighbours", lambda: asker.read(0x0103, 3), "1388 9ABC A105"),
+        ("ask writes the totals of an AS-WE 40, by 10", lambda: asker.writes(0x0118, *TOTALS), "done"),
+        ("ask writes half of one, by 06", lambda: asker.write(0x011C, 0x5678), "done"),
+        (".. ask reads them as written, where the server lets it", lambda: asker.read(0x0118, 7), "0001 0929 1A85 FFFE 5678 8001 0203"),
+        (".. mbpoll finds them as written", lambda: witness.read(0x0118, 7), "0001 0929 1A85 FFFE 5678 8001 0203"),
         ("ask writes 45 registers", lambda: asker.writes(0x0101, *many), "done"),
         (".. ask reads them as written, with their neighbours", lambda: asker.read(FIRST, REGISTERS), all_written),
         (".. mbpoll finds them as written", lambda: witness.read(FIRST, REGISTERS), all_written),

@@ -23,6 +23,7 @@ from asking_steps import steps_of_asking
 from history_steps import steps_of_growing, steps_of_history
 from masters import Mbpoll, Pymodbus, damaged, send_raw, with_check
 from played_meter import UNCHANGED, GrowingHistory, Meter, StandingHistory, at_new_line, refused
+from preset_steps import steps_of_presets
 from servers import WIRES, Server
 
 HERE = os.path.dirname(os.path.abspath(__file__))
@@ -333,6 +334,8 @@ PARTS = {
     "mbpoll": (Meter, "ux", Mbpoll, steps_of_master),
     "pymodbus": (Meter, "ux", Pymodbus, lambda master, meter: [*steps_of_master(master, meter), *steps_of_broadcast(master, meter)]),
     "AS-WE": (Meter, "aswe", Pymodbus, steps_of_aswe),
+    "totals, mbpoll": (Meter, "aswe", Mbpoll, steps_of_presets),
+    "totals, pymodbus": (Meter, "aswe", Pymodbus, steps_of_presets),
     "kept": (Meter, "ux", Mbpoll, steps_of_keeping),
     "README": (Meter, "ux", contextlib.nullcontext, lambda _, meter: steps_of_readme(meter)),
     "history, mbpoll": (StandingHistory, "history", Mbpoll, steps_of_history),

@@ -18,7 +18,8 @@ class Meter:
     def __init__(self, command, sheet):
         self.folder = tempfile.TemporaryDirectory()
         self.screen = os.path.join(self.folder.name, "screen")
-        self.command = [*command, "-b", os.path.join(self.folder.name, "bank"), *self.options()]
+        self.bank = os.path.join(self.folder.name, "bank")
+        self.command = [*command, "-b", self.bank, *self.options()]
         self.sheet = sheet
         self.start("meter")
 
@@ -53,8 +54,18 @@ class Meter:
         with open(self.screen, encoding="ascii") as screen:
             return screen.read().splitlines() or [""]
 
+    def last_lines(self, number):
+        return [" ".join(line.split()) for line in self.lines()[-number:]]
+
     def last_line(self):
-        return " ".join(self.lines()[-1].split())
+        return self.last_lines(1)[0]
+
+    def kept_words(self, place, count):
+        """Words of the bank as its file has them, from a place on: those of the first copy, and of the second where they are others."""
+        with open(self.bank, "rb") as file:
+            data = file.read()
+        copies = [data[at + 2 * place:at + 2 * (place + count)].hex(" ", 2).upper() for at in (0, len(data) // 2)]
+        return copies[0] if copies[0] == copies[1] else " and ".join(copies)
 
     def told(self):
         """What the screen says became of the last frame, behind what it says the frame was."""

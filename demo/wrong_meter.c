@@ -1,15 +1,15 @@
-/* Four meters that are wrong, so that each step of interop.py is seen to fail: three break document 01, and the fourth request W3 of document 02. The
+/* Six meters that are wrong, so that each step of interop.py is seen to fail: three break document 01, one request W3 of document 02, and two W7. The
    linker puts these functions in place of the library's and the line's (--wrap): one meter is silent always, one answers whatever it hears, and both
    leave their link behind. The third is good, but that it does what is sent to the stations that no meter has, 0 and 248 to 255, and is silent about
    it. The fourth is good but for its history: it counts the records from the wrong end, and answers whatever touches them as if it were a read of
-   one. */
+   one. The others are good but for the registers that are only written: the fifth reads them out, and the sixth takes no write of them. */
 #include <string.h>
 
 #include "cedarskein.h"
 #include "frame.h"
 #include "line.h"
 
-enum { SILENT, HASTY, OBEDIENT, MUDDLED };
+enum { SILENT, HASTY, OBEDIENT, MUDDLED, TALKATIVE, CLOSED };
 
 /* What the library is lent, in one piece. */
 struct call {
@@ -127,6 +127,59 @@ static uint32_t muddled(const struct call *call, const uint8_t *frame, size_t n)
     return number;
 }
 
+/* What touches registers that are only written, and nothing that is no register. The meter has the sheet and the bank of the call. */
+static int touches_written_only(const struct meter *meter, const uint8_t *frame, size_t n)
+{
+    int touched = 0;
+    if (n < PLAIN_FRAME || frame[FUNCTION_BYTE] == CLEAR)
+        return 0;
+    struct run run = run_of(frame);
+    for (unsigned k = 0; k < run.count; k++) {
+        if (access_at(meter, run.start + k) == NO_AREA)
+            return 0;
+        touched |= access_at(meter, run.start + k) == WRITE_ONLY_AREA;
+    }
+    return touched;
+}
+
+/* The reply to a read, whatever may be read. */
+static void read_out(const struct call *call, const struct meter *meter, const uint8_t *frame)
+{
+    struct run run = run_of(frame);
+    call->out[1] = READ;
+    call->out[2] = (uint8_t)(2 * run.count);
+    for (unsigned k = 0; k < run.count; k++)
+        memcpy(call->out + 3 + 2 * (size_t)k, meter->bank + 2 * (size_t)place_of(meter, run.start + k), 2);
+    *call->length = 2 * run.count + 5;
+    sign(call->out, *call->length, frame[STATION_BYTE]);
+}
+
+static void refuse_address(const struct call *call, const uint8_t *frame)
+{
+    call->out[1] = (uint8_t)(frame[FUNCTION_BYTE] | ERROR_BIT);
+    call->out[2] = 2;
+    *call->length = 5;
+    sign(call->out, *call->length, frame[STATION_BYTE]);
+}
+
+/* The fifth and the sixth are the real one, but that the one reads out what it does not, and the other takes a write back that it has done. */
+static uint32_t wrong_about_written_only(const struct call *call, const uint8_t *frame, size_t n, int reads_out)
+{
+    static struct meter before;
+    memcpy(before.sheet, call->sheet, call->sheet_n);
+    memcpy(before.bank, call->bank, call->bank_n);
+    uint32_t number = really(call, frame, n);
+    if (number != CEDARSKEIN_DONE || !touches_written_only(&before, frame, n))
+        return number;
+    if (frame[FUNCTION_BYTE] == READ && reads_out) {
+        read_out(call, &before, frame);
+    } else if (frame[FUNCTION_BYTE] != READ && !reads_out) {
+        memcpy(call->bank, before.bank, call->bank_n);
+        refuse_address(call, frame);
+    }
+    return number;
+}
+
 uint32_t __wrap_cedarskein_answer(const uint8_t *sheet, size_t sheet_n, uint8_t *bank, size_t bank_n, const uint8_t *ring, size_t ring_n,
                                   const uint8_t *frame, size_t frame_n, uint8_t *out, size_t out_n, uint32_t *length, uint32_t *rate)
 {
@@ -136,6 +189,8 @@ uint32_t __wrap_cedarskein_answer(const uint8_t *sheet, size_t sheet_n, uint8_t 
     case HASTY: return hasty(&call, frame, frame_n);
     case OBEDIENT: return obedient(&call, frame, frame_n);
     case MUDDLED: return muddled(&call, frame, frame_n);
+    case TALKATIVE:
+    case CLOSED: return wrong_about_written_only(&call, frame, frame_n, WRONG == TALKATIVE);
     default: return CEDARSKEIN_SILENCE;
     }
 }
