@@ -10,7 +10,7 @@ import tty
 
 from history_trials import ring_of
 from played_line import BrokenLine, NoisyLine, PlayedLine, sent
-from why_trials import ROOT, outside_of_make, sealed
+from why_trials import ROOT, outside_of_make, parts_of_readme, sealed
 
 TIMEOUT = 30
 
@@ -597,24 +597,29 @@ def form_of(command, said):
     return re.sub(r"\b[0-9A-F]{2,4}\b", "N", bare) if "SHEET=history" in command else bare
 
 
+def sheet_named(command):
+    return "".join(re.findall(r"SHEET=(\S+)", command))
+
+
+def shown_otherwise(bench, command, lines, link):
+    """What a command of the README prints that comes out otherwise than it shows; else nothing."""
+    typed = command.replace("/tmp/meter", link).replace("target/demo/ask", " ".join(bench.ask.command))
+    done_there = subprocess.run(typed, shell=True, cwd=ROOT, env=outside_of_make(), capture_output=True, text=True, timeout=60, check=False)
+    printed, expected = (form_of(command, said) for said in (done_there.stdout + done_there.stderr, lines))
+    return f"{command} prints {printed}, and not {expected}" if printed != expected else ""
+
+
 def shown_in_readme(bench):
-    """The README's orders that come out otherwise than it shows, one after the other at a meter that is fresh at first, or at one with a history."""
-    with open(os.path.join(ROOT, "README.md"), encoding="utf-8") as page:
-        text = page.read().partition("## Ask a meter\n")[2].partition("\n## ")[0]
-    shown = re.findall(r"^ +\$ ((?:make|target/demo/)\W*ask.*)\n((?: +(?!\$)\S.*\n)*)", text, re.M)
+    """The README's orders that come out otherwise than it shows, one after the other at a meter that is fresh at first, or at one of its sheet."""
+    shown = re.findall(r"^ +\$ ((?:make|target/demo/)\W*ask.*)\n((?: +(?!\$)\S.*\n)*)", parts_of_readme("Preset a total", "Ask a meter"), re.M)
     bench.write("ring", ring_of(2, 3))
-    otherwise = []
-    with bench.running("-l", "ux"):
-        bench.sheet = os.path.join(ROOT, "sheets", "history_example.sheet")
-        with bench.running("-l", "history", "-r", "ring", "-e", "86400"):
-            for command, lines in shown:
-                link = bench.path("history" if "SHEET=history" in command else "ux")
-                typed = command.replace("/tmp/meter", link).replace("target/demo/ask", " ".join(bench.ask.command))
-                done_there = subprocess.run(typed, shell=True, cwd=ROOT, env=outside_of_make(), capture_output=True, text=True, timeout=60,
-                                            check=False)
-                printed, expected = (form_of(command, said) for said in (done_there.stdout + done_there.stderr, lines))
-                if printed != expected:
-                    otherwise.append(f"{command} prints {printed}, and not {expected}")
+    with contextlib.ExitStack() as meters:
+        links = {"": bench.path("ux")}
+        meters.enter_context(bench.running("-l", "ux"))
+        for word, sheet, options in (("history", "history_example", ("-r", "ring", "-e", "86400")), ("aswe_40", "aswe_40", ())):
+            bench.sheet, links[word] = os.path.join(ROOT, "sheets", sheet + ".sheet"), bench.path(word)
+            meters.enter_context(bench.running("-l", word, *options))
+        otherwise = [said for command, lines in shown if (said := shown_otherwise(bench, command, lines, links[sheet_named(command)]))]
     return f"{len(shown)} shown, otherwise: {otherwise}"
 
 
@@ -634,7 +639,7 @@ MAKE = [
     ("make ask, an empty name", lambda _: by_make("ORDER="), "status 2: empty: ORDER. Give each a name, or leave it out. Stop."),
     ("make ask, a name that is misspelt", lambda _: by_make("BAUD=9600"),
      "status 2: make ask takes no BAUD. It takes: SHEET LINK ORDER STATION RATE. Stop."),
-    ("what the README shows of make ask", shown_in_readme, "7 shown, otherwise: []"),
+    ("what the README shows of make ask", shown_in_readme, "8 shown, otherwise: []"),
 ]
 
 TRIALS = [*AT_METER, *PRESETS, *AT_PLAYED, *LINES, *ORDERS, *MAKE]

@@ -276,10 +276,13 @@ def run_program(program, link):
     return done.stdout
 
 
-def steps_of_readme(meter):
-    """The README's commands with what it shows below each, the lines that it shows of the meter's screen, and its program."""
+def part_of_readme(heading):
     with open(README, encoding="utf-8") as page:
-        text = page.read().partition("## Talk to a simulated meter\n")[2].partition("\n## ")[0]
+        return page.read().partition(f"## {heading}\n")[2].partition("\n## ")[0]
+
+
+def steps_of_shown(text, meter):
+    """The commands of a part of the README with what it shows below each, and the lines that it shows of the meter's screen."""
     commands = re.findall(r"^    \$ (mbpoll .*)\n((?:    (?!\$).*\n)*)", text, re.M)
     screen = re.findall(r"^    (station .*|        +[0-9A-F]{4} .*)$", text, re.M)
     if not commands or not screen:
@@ -287,14 +290,21 @@ def steps_of_readme(meter):
     return [
         *((command, lambda command=command: run_command(command, meter.link), " ".join(shown.split())) for command, shown in commands),
         ("the meter's screen", lambda: "\n".join(meter.lines()[-len(screen):]), "\n".join(screen)),
+    ]
+
+
+def steps_of_readme(meter):
+    """What the README shows at a UX15/25, and its program."""
+    text = part_of_readme("Talk to a simulated meter")
+    return [
+        *steps_of_shown(text, meter),
         ("the program for pymodbus", lambda: run_program(between(text, "pymodbus"), meter.link), between(text, "what pymodbus prints")),
     ]
 
 
 def steps_of_readme_history(meter):
     """The same of the README's history. Its numbers are another meter's: only their form is compared."""
-    with open(README, encoding="utf-8") as page:
-        text = page.read().partition("## Read a history\n")[2].partition("\n## ")[0]
+    text = part_of_readme("Read a history")
     (command, shown), = re.findall(r"^    \$ (mbpoll .*)\n((?:    (?!\$).*\n)*)", text, re.M)
     screen = re.findall(r"^    (station .*|        +record \d+ of .*)$", text, re.M)
 
@@ -338,6 +348,7 @@ PARTS = {
     "totals, pymodbus": (Meter, "aswe", Pymodbus, steps_of_presets),
     "kept": (Meter, "ux", Mbpoll, steps_of_keeping),
     "README": (Meter, "ux", contextlib.nullcontext, lambda _, meter: steps_of_readme(meter)),
+    "README, totals": (Meter, "aswe", contextlib.nullcontext, lambda _, meter: steps_of_shown(part_of_readme("Preset a total"), meter)),
     "history, mbpoll": (StandingHistory, "history", Mbpoll, steps_of_history),
     "history, pymodbus": (StandingHistory, "history", Pymodbus, steps_of_history),
     "history, growing": (GrowingHistory, "history", Pymodbus, steps_of_growing),

@@ -136,10 +136,15 @@ def by_make(*words, given=""):
     return result_of(done.returncode, done.stdout, first[0].partition("*** ")[2] or first[0] if first else "")
 
 
+def parts_of_readme(*headings):
+    with open(os.path.join(ROOT, "README.md"), encoding="utf-8") as page:
+        text = page.read()
+    return "\n".join(text.partition(f"## {heading}\n")[2].partition("\n## ")[0] for heading in headings)
+
+
 def shown_in_readme(why):
     """The README's questions that come out otherwise than it shows. Of make's own line only its end is the same everywhere."""
-    with open(os.path.join(ROOT, "README.md"), encoding="utf-8") as page:
-        text = page.read().partition("## Ask why\n")[2].partition("\n## ")[0]
+    text = parts_of_readme("Preset a total", "Ask why")
     files = {"/tmp/pump.bank": why.file("pump.bank", kept(ux_bank(a0104=0x9876))),
              "/tmp/pump.ring": why.file("pump.ring", bytes_of((2, 3)) + bytes(2 * 6600 * 22))}
     shown = re.findall(r"^ +\$ (.*make why.*)\n((?: +(?!\$)\S.*\n)*)", text, re.M)
@@ -561,7 +566,7 @@ MAKE = [
      f"status 2: more than one sheet begins with aswe. SHEET= takes one of: {ASWE}"),
     ("make why, a frame that is empty", lambda _: by_make("FRAME="), "status 2: empty: FRAME. Give each a name, or leave it out.  Stop."),
     ("make why, a name that is misspelt", lambda _: by_make("FRAM=01"), "status 2: make why takes no FRAM. It takes: SHEET BANK RING FRAME.  Stop."),
-    ("what the README shows of make why", shown_in_readme, "8 shown, otherwise: []"),
+    ("what the README shows of make why", shown_in_readme, "9 shown, otherwise: []"),
 ]
 
 TRIALS = [*REASONS, *PRESETS, *SIDES, *FACTOR_OF_TEN, *BANKS, *HEX, *MAKE]
