@@ -55,6 +55,10 @@ def asked_with_sheet(functions, records, word_11=1):
     return asked_with_words(sheet_of(functions, IN_ONE_AREA, records=records), word_11)
 
 
+def of_version_2(records):
+    return b"\0\2" + sheet_of(15, IN_ONE_AREA, records=records)[2:]
+
+
 def bad_area(first, records, words):
     return (f"status 2: sheet: no sheet: its history is {records} records of {words} words from {first:04X} on; it must be 1 to 6600 records of "
             "1 to 47 words, at addresses up to FFFF that nothing else has")
@@ -132,6 +136,9 @@ SHEETS = [
     ("the longest sheet", lambda why: why.run(why.file("sheet", longest_sheet()), "-f", sealed("01 03 10 00 00 01")),
      "Error 02: record 1 is asked for, at 1000; none is stored yet"),
     ("the longest sheet has 862 bytes", lambda why: str(len(longest_sheet())), "862"),
+    ("a history in a sheet of version 2", lambda why: why.run(why.file("sheet", of_version_2(SMALL)), "-f", sealed("01 03 04 00 00 01")),
+     "Error 02: record 1 is asked for, at 0400; none is stored yet"),
+    ("a history of no record in a sheet of version 2", lambda why: why.sheet(of_version_2((0x0400, 0, 2))), bad_area(0x0400, 0, 2)),
     ("a history of no record", asked_with_sheet(15, (0x0400, 0, 2)), bad_area(0x0400, 0, 2)),
     ("a history of too many records", asked_with_sheet(15, (0x0400, 6601, 2)), bad_area(0x0400, 6601, 2)),
     ("records of no word", asked_with_sheet(15, (0x0400, 3, 0)), bad_area(0x0400, 3, 0)),
