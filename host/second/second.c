@@ -1529,6 +1529,7 @@ const char *second_reason_name(enum second_reason reason)
  * The box has no sheet and no bank. All that it goes by is the order, and what comes
  * back is read against that alone. */
 
+/* rules Q1 and Q2; the numbers have 32 bits and are asked about whole, rule Q16. */
 struct order {
     uint32_t kind;                  /* one of enum second_order, or none */
     uint32_t station, address;
@@ -1537,7 +1538,8 @@ struct order {
     size_t values_n;
 };
 
-/* What fits 100 bytes: the reply to a read, and the query of a write. */
+/* What fits 100 bytes: the reply to a read, rule Q12, and the query of a write,
+ * rule Q13. */
 enum { MOST_ASKED = 47, MOST_WRITTEN = 45 };
 
 static bool words_fit(size_t words, size_t most)
@@ -1545,26 +1547,27 @@ static bool words_fit(size_t words, size_t most)
     return 1 <= words && words <= most;
 }
 
-/* Whether a run of addresses ends by FFFF. 64 bits, since the sum of two numbers of
- * 32 bits need not fit these. */
+/* rule Q15: whether a run of addresses ends by FFFF. 64 bits, since the sum of two
+ * numbers of 32 bits need not fit these. */
 static bool run_fits(const struct order *order, uint64_t addresses)
 {
     return order->address + addresses <= 0x10000;
 }
 
+/* rule Q5 */
 static size_t words_to_write(const struct order *order)
 {
     return order->values_n / 2;
 }
 
-/* Several writes have whole words. */
+/* rule Q13: several writes have whole words. */
 static bool values_fit(const struct order *order)
 {
     return order->values_n % 2 == 0 && words_fit(words_to_write(order), MOST_WRITTEN);
 }
 
-/* Number and values are asked about only where the order has a use for them. A
- * record has one address, however many words it has. */
+/* rules Q10 to Q15. Number and values are asked about only where the order has a use
+ * for them, rule Q9. A record has one address, however many words it has: rule Q7. */
 static bool has_frame(const struct order *order)
 {
     if (order->station < LOWEST_STATION || order->station > HIGHEST_STATION)
@@ -1580,8 +1583,8 @@ static bool has_frame(const struct order *order)
     }
 }
 
-/* 9, then 5: the buffer must have room for the longest frame, also where nothing is
- * written to it. */
+/* rules Q22 and Q40, here 9 and then 5: the buffer must have room for the longest
+ * frame, also where nothing is written to it, rule N5. */
 static uint32_t refuse_order(const struct order *order, size_t out_n)
 {
     if (!has_frame(order))
@@ -1589,6 +1592,7 @@ static uint32_t refuse_order(const struct order *order, size_t out_n)
     return out_n < 100 ? NUMBER_BUFFER : NUMBER_DONE;
 }
 
+/* rule Q3 */
 static uint8_t function_asked(const struct order *order)
 {
     switch (order->kind) {
@@ -1599,8 +1603,8 @@ static uint8_t function_asked(const struct order *order)
     }
 }
 
-/* The word behind the address: a count, or a value. A record is read alone, and a
- * clear has the value 0. */
+/* rule Q6: the word behind the address, a count or a value. A record is read alone,
+ * and a clear has the value 0. */
 static uint32_t word_asked(const struct order *order)
 {
     switch (order->kind) {
@@ -1613,7 +1617,7 @@ static uint32_t word_asked(const struct order *order)
 
 /* ---- The query of an order ---- */
 
-/* All but the check; how many bytes that is. */
+/* rules Q4, Q20 and Q21: all but the check; how many bytes that is. */
 static uint32_t put_query(const struct order *order, uint8_t *out)
 {
     out[0] = (uint8_t)order->station;
@@ -1627,6 +1631,7 @@ static uint32_t put_query(const struct order *order, uint8_t *out)
     return 7 + (uint32_t)order->values_n;
 }
 
+/* rules Q22 and Q23 */
 uint32_t second_query(uint32_t order, uint32_t station, uint32_t address, uint32_t number,
                       const uint8_t *values, size_t values_n,
                       uint8_t *out, size_t out_n, uint32_t *length)
@@ -1642,6 +1647,7 @@ uint32_t second_query(uint32_t order, uint32_t station, uint32_t address, uint32
 
 /* ---- The reply to an order ---- */
 
+/* rules R5 and Q32 */
 enum { ERROR_BIT = 0x80 };
 
 /* What stands between the function and the check. */
@@ -1650,19 +1656,19 @@ struct body {
     size_t n;
 };
 
-/* 10: rule J10 once more, of what has come back. */
+/* rule Q30: rule J10 once more, of what has come back. */
 static bool reply_passes(const uint8_t *reply, size_t reply_n)
 {
     return 4 <= reply_n && reply_n <= 100 && check_agrees(reply, reply_n);
 }
 
-/* 12: the query's own function, or that with the top bit set. */
+/* rule Q32: the query's own function, or that with the top bit set. */
 static bool function_fits(const struct order *order, uint8_t function)
 {
     return function == function_asked(order) || function == (function_asked(order) | ERROR_BIT);
 }
 
-/* 10, 11 and 12, in this order. */
+/* rules Q30 to Q32: 10, 11 and 12, in this order. */
 static uint32_t refuse_reply(const struct order *order, const uint8_t *reply, size_t reply_n)
 {
     if (!reply_passes(reply, reply_n))
@@ -1672,31 +1678,33 @@ static uint32_t refuse_reply(const struct order *order, const uint8_t *reply, si
     return function_fits(order, reply[1]) ? NUMBER_DONE : NUMBER_REPLY_FUNCTION;
 }
 
-/* Which code can follow which function is not asked. */
+/* rule Q33: which code can follow which function is not asked. */
 static bool is_error_body(const struct body *body)
 {
     return body->n == 1 && 1 <= body->bytes[0] && body->bytes[0] <= 3;
 }
 
+/* rule Q8 */
 static bool brings_values(const struct order *order)
 {
     return order->kind == ORDER_READ || order->kind == ORDER_RECORD;
 }
 
-/* The byte count and as many bytes: those of the words that were asked for. */
+/* rule Q34: the byte count and as many bytes, those of the words that were asked for. */
 static bool is_values_body(const struct order *order, const struct body *body)
 {
     size_t bytes = 2 * (size_t)order->number;
     return body->n == 1 + bytes && body->bytes[0] == bytes;
 }
 
-/* The two words behind the query's function, and nothing more. */
+/* rule Q35: the two words behind the query's function, and nothing more. */
 static bool is_echo_body(const struct order *order, const struct body *body)
 {
     return body->n == 4 && word_at(body->bytes, 0) == order->address
         && word_at(body->bytes, 1) == word_asked(order);
 }
 
+/* rules Q36 and Q41, of an error */
 static uint32_t read_error(const struct body *body, uint32_t *error)
 {
     if (!is_error_body(body))
@@ -1705,6 +1713,7 @@ static uint32_t read_error(const struct body *body, uint32_t *error)
     return NUMBER_DONE;
 }
 
+/* rules Q36, Q41 and Q42, of values */
 static uint32_t read_values(const struct order *order, const struct body *body, uint8_t *out,
                             uint32_t *length)
 {
@@ -1715,6 +1724,7 @@ static uint32_t read_values(const struct order *order, const struct body *body, 
     return NUMBER_DONE;
 }
 
+/* rules Q36 and Q40 to Q42; what was done has nothing to hand back. */
 uint32_t second_reply(uint32_t order, uint32_t station, uint32_t address, uint32_t number,
                       const uint8_t *values, size_t values_n,
                       const uint8_t *reply, size_t reply_n,

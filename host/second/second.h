@@ -49,7 +49,7 @@ uint32_t second_reply(uint32_t order, uint32_t station, uint32_t address, uint32
                       const uint8_t *reply, size_t reply_n,
                       uint8_t *out, size_t out_n, uint32_t *length, uint32_t *error);
 
-/* The numbers of the rules N0 to N8, and those of a box that asks. */
+/* The numbers of rules N0 to N8, and with rules N9 to N13 those of a box that asks. */
 enum second_number {
     NUMBER_DONE = 0,
     NUMBER_SILENCE = 1,
@@ -68,7 +68,7 @@ enum second_number {
     NUMBER_COUNT
 };
 
-/* What a box can ask of a meter. */
+/* What a box can ask of a meter: rule Q2. */
 enum second_order {
     ORDER_READ = 0,                 /* registers */
     ORDER_RECORD = 1,               /* one record of a history */
