@@ -1,8 +1,9 @@
-/* The cases that 01 lists, and more for the requests W1 to W3, W5 and W6 of 02, run on
+/* The cases that 01 lists, and more for the requests W1 to W3 and W5 to W7 of 02, run on
  * both sides: the library and the second statement must agree, and both must
  * give what is written here. Each frame is asked about first: the reason, and with
  * an item the side, is the one that 02 names for what 01 writes. */
 #include "calls.h"
+#include "cedarskein_sheets.h"
 #include "second.h"
 #include "sheets_made.h"
 
@@ -10,14 +11,17 @@
 #include <stdlib.h>
 #include <string.h>
 
-enum { MARK = 0x10000, WORDS = 4, OUT_ROOM = 100 };
+enum { MARK = 0x10000, WORDS = 8, OUT_ROOM = 100 };
 
 /* For the calls of a meter. */
 #define NO_ORDER { 0, 0, 0, 0 }
 
 /* AS-WE goes by its bore. No maker's pair can be too low, and so there is UX with
- * another range of the pair 0103. */
-enum { MAP_UX = 0, MAP_PAIR = 1, MAP_AS_WE = 40 };
+ * another range of the pair 0103. No maker's presets have a neighbour, and so there is
+ * AS-WE 40 with settings at 0116 and 0117 and at 011F and 0120 and readings from 0121
+ * to 0130; and no maker's station is only written, and so there is one whose settings
+ * from 00FF to 0109 are. */
+enum { MAP_UX = 0, MAP_PAIR = 1, MAP_BESIDE = 2, MAP_HIDDEN = 3, MAP_AS_WE = 40 };
 enum { PAIR_LOW = 0x00018000, PAIR_HIGH = 0x00034000 };
 
 struct stored {
@@ -284,7 +288,115 @@ static const struct frame_case cases[] = {
       REASON_ITEM, 0x0103, SIDE_TOO_HIGH },
     { "W5 lower 0000, by 0001", MAP_PAIR, { { 0x0103, 1 }, { 0x0104, 0x9000 } },
       "01 06 01 04 00 00", "01 86 03", { { 0, 0 } },
-      REASON_ITEM, 0x0103, SIDE_TOO_LOW }
+      REASON_ITEM, 0x0103, SIDE_TOO_LOW },
+    { "W7 read of 0118", MAP_AS_WE, { { 0, 0 } }, "01 03 01 18 00 01", "01 83 02", { { 0, 0 } },
+      REASON_ADDRESS, 0x0118, SIDE_NONE },
+    { "W7 read of 011E", MAP_AS_WE, { { 0, 0 } }, "01 03 01 1E 00 01", "01 83 02", { { 0, 0 } },
+      REASON_ADDRESS, 0x011E, SIDE_NONE },
+    { "W7 read of all", MAP_AS_WE, { { 0x0118, 9 } }, "01 03 01 18 00 07", "01 83 02",
+      { { 0, 0 } },
+      REASON_ADDRESS, 0x0118, SIDE_NONE },
+    { "W7 read of none", MAP_AS_WE, { { 0, 0 } }, "01 03 01 18 00 00", "01 83 03", { { 0, 0 } },
+      REASON_BAD_COUNT, 0, SIDE_NONE },
+    { "W7 read of 48", MAP_AS_WE, { { 0, 0 } }, "01 03 01 18 00 30", "01 83 02", { { 0, 0 } },
+      REASON_BAD_COUNT, 0, SIDE_NONE },
+    { "W7 read over 0117", MAP_AS_WE, { { 0, 0 } }, "01 03 01 16 00 03", "01 83 02", { { 0, 0 } },
+      REASON_ADDRESS, 0x0117, SIDE_NONE },
+    { "W7 read of 0115", MAP_AS_WE, { { 0, 0 } }, "01 03 01 15 00 02", "01 03 04 00 00 00 01",
+      { { 0, 0 } },
+      REASON_NONE, 0, SIDE_NONE },
+    { "W7 0118 0009", MAP_AS_WE, { { 0, 0 } }, "01 06 01 18 00 09", "01 06 01 18 00 09",
+      { { 0x0118, 9 } },
+      REASON_NONE, 0, SIDE_NONE },
+    { "W7 0118 000A", MAP_AS_WE, { { 0, 0 } }, "01 06 01 18 00 0A", "01 86 03", { { 0, 0 } },
+      REASON_ITEM, 0x0118, SIDE_TOO_HIGH },
+    { "W7 0119 270F", MAP_AS_WE, { { 0, 0 } }, "01 06 01 19 27 0F", "01 06 01 19 27 0F",
+      { { 0x0119, 0x270F } },
+      REASON_NONE, 0, SIDE_NONE },
+    { "W7 0119 2710", MAP_AS_WE, { { 0, 0 } }, "01 06 01 19 27 10", "01 86 03", { { 0, 0 } },
+      REASON_ITEM, 0x0119, SIDE_TOO_HIGH },
+    { "W7 011A 270F", MAP_AS_WE, { { 0, 0 } }, "01 06 01 1A 27 0F", "01 06 01 1A 27 0F",
+      { { 0x011A, 0x270F } },
+      REASON_NONE, 0, SIDE_NONE },
+    { "W7 011A 9999", MAP_AS_WE, { { 0, 0 } }, "01 06 01 1A 99 99", "01 86 03", { { 0, 0 } },
+      REASON_ITEM, 0x011A, SIDE_TOO_HIGH },
+    { "W7 011B FFFF alone", MAP_AS_WE, { { 0x011C, 0x1234 } }, "01 06 01 1B FF FF",
+      "01 06 01 1B FF FF", { { 0x011B, 0xFFFF } },
+      REASON_NONE, 0, SIDE_NONE },
+    { "W7 011C FFFF alone", MAP_AS_WE, { { 0x011B, 0xFFFF } }, "01 06 01 1C FF FF",
+      "01 06 01 1C FF FF", { { 0x011C, 0xFFFF } },
+      REASON_NONE, 0, SIDE_NONE },
+    { "W7 011E ABCD alone", MAP_AS_WE, { { 0x011D, 0x8000 } }, "01 06 01 1E AB CD",
+      "01 06 01 1E AB CD", { { 0x011E, 0xABCD } },
+      REASON_NONE, 0, SIDE_NONE },
+    { "W7 011D FFFF FFFF", MAP_AS_WE, { { 0, 0 } }, "01 10 01 1D 00 02 04 FF FF FF FF",
+      "01 10 01 1D 00 02", { { 0x011D, 0xFFFF }, { 0x011E, 0xFFFF } },
+      REASON_NONE, 0, SIDE_NONE },
+    { "W7 all", MAP_AS_WE, { { 0, 0 } },
+      "01 10 01 18 00 07 0E 00 09 27 0F 00 01 FF FF 00 00 00 00 FF FF", "01 10 01 18 00 07",
+      { { 0x0118, 9 }, { 0x0119, 0x270F }, { 0x011A, 1 }, { 0x011B, 0xFFFF }, { 0x011E, 0xFFFF } },
+      REASON_NONE, 0, SIDE_NONE },
+    { "W7 from a half on", MAP_AS_WE, { { 0, 0 } }, "01 10 01 1C 00 02 04 11 11 22 22",
+      "01 10 01 1C 00 02", { { 0x011C, 0x1111 }, { 0x011D, 0x2222 } },
+      REASON_NONE, 0, SIDE_NONE },
+    { "W7 one too many", MAP_AS_WE, { { 0, 0 } }, "01 10 01 1E 00 02 04 00 01 00 01", "01 90 02",
+      { { 0, 0 } },
+      REASON_ADDRESS, 0x011F, SIDE_NONE },
+    { "W7 from 0117", MAP_AS_WE, { { 0, 0 } }, "01 10 01 17 00 02 04 00 01 00 01", "01 90 02",
+      { { 0, 0 } },
+      REASON_ADDRESS, 0x0117, SIDE_NONE },
+    { "W7 good, then high", MAP_AS_WE, { { 0, 0 } }, "01 10 01 18 00 03 06 00 09 27 10 00 01",
+      "01 90 03", { { 0x0118, 9 } },
+      REASON_ITEM, 0x0119, SIDE_TOO_HIGH },
+    { "W7 beside, read of the last", MAP_BESIDE, { { 0, 0 } }, "01 03 01 17 00 02", "01 83 02",
+      { { 0, 0 } },
+      REASON_ADDRESS, 0x0118, SIDE_NONE },
+    { "W7 beside, read over all", MAP_BESIDE, { { 0, 0 } }, "01 03 01 17 00 09", "01 83 02",
+      { { 0, 0 } },
+      REASON_ADDRESS, 0x0118, SIDE_NONE },
+    { "W7 beside, read of the first", MAP_BESIDE, { { 0, 0 } }, "01 03 01 1E 00 02", "01 83 02",
+      { { 0, 0 } },
+      REASON_ADDRESS, 0x011E, SIDE_NONE },
+    { "W7 beside, read in front", MAP_BESIDE, { { 0x0116, 5 } }, "01 03 01 16 00 02",
+      "01 03 04 00 05 00 01", { { 0, 0 } },
+      REASON_NONE, 0, SIDE_NONE },
+    { "W7 beside, read behind", MAP_BESIDE, { { 0x0121, 0xBEEF } }, "01 03 01 1F 00 03",
+      "01 03 06 FF 9C 00 00 BE EF", { { 0, 0 } },
+      REASON_NONE, 0, SIDE_NONE },
+    { "W7 beside, write into", MAP_BESIDE, { { 0, 0 } }, "01 10 01 17 00 02 04 00 04 00 09",
+      "01 10 01 17 00 02", { { 0x0117, 4 }, { 0x0118, 9 } },
+      REASON_NONE, 0, SIDE_NONE },
+    { "W7 beside, write out of", MAP_BESIDE, { { 0x011D, 7 } }, "01 10 01 1E 00 02 04 00 08 00 09",
+      "01 10 01 1E 00 02", { { 0x011E, 8 }, { 0x011F, 9 } },
+      REASON_NONE, 0, SIDE_NONE },
+    { "W7 beside, bad behind", MAP_BESIDE, { { 0, 0 } },
+      "01 10 01 1D 00 03 06 12 34 56 78 02 59", "01 90 03",
+      { { 0x011D, 0x1234 }, { 0x011E, 0x5678 } },
+      REASON_ITEM, 0x011F, SIDE_TOO_HIGH },
+    { "W7 beside, bad in front", MAP_BESIDE, { { 0, 0 } }, "01 10 01 17 00 02 04 00 05 00 09",
+      "01 90 03", { { 0, 0 } },
+      REASON_ITEM, 0x0117, SIDE_TOO_HIGH },
+    { "W7 beside, bad within", MAP_BESIDE, { { 0, 0 } }, "01 10 01 17 00 02 04 00 04 00 0A",
+      "01 90 03", { { 0x0117, 4 } },
+      REASON_ITEM, 0x0118, SIDE_TOO_HIGH },
+    { "W7 beside, to the readings", MAP_BESIDE, { { 0, 0 } },
+      "01 10 01 1E 00 04 08 00 01 00 01 00 01 00 01", "01 90 02", { { 0, 0 } },
+      REASON_ADDRESS, 0x0121, SIDE_NONE },
+    { "W7 hidden, read of the station", MAP_HIDDEN, { { 0, 0 } }, "01 03 01 08 00 01", "01 83 02",
+      { { 0, 0 } },
+      REASON_ADDRESS, 0x0108, SIDE_NONE },
+    { "W7 hidden, station 2", MAP_HIDDEN, { { 0, 0 } }, "01 06 01 08 00 02", "01 06 01 08 00 02",
+      { { 0x0108, 2 } },
+      REASON_NONE, 0, SIDE_NONE },
+    { "W7 hidden, station 0", MAP_HIDDEN, { { 0, 0 } }, "01 06 01 08 00 00", "01 86 03",
+      { { 0, 0 } },
+      REASON_ITEM, 0x0108, SIDE_TOO_LOW },
+    { "W7 hidden, rate 0, station 3", MAP_HIDDEN, { { 0, 0 } }, "01 10 01 07 00 02 04 00 00 00 03",
+      "01 10 01 07 00 02", { { 0x0107, 0 }, { 0x0108, 3 } },
+      REASON_NONE, 0, SIDE_NONE },
+    { "W7 hidden, at station 9", MAP_HIDDEN, { { 0x0108, 9 } }, "09 06 01 09 00 11", "09 86 03",
+      { { 0, 0 } },
+      REASON_ITEM, 0x0109, SIDE_TOO_HIGH }
 };
 
 static int failed;
@@ -355,17 +467,29 @@ static void ask_why(const struct frame_case *one, struct call call)
     expect(why.side == one->side, one->name, "side");
 }
 
+static void move_area(struct made_area *area, uint32_t first)
+{
+    area->last = first + (area->last - area->first);
+    area->first = first;
+}
+
 static void make_map(struct made *made, uint32_t map)
 {
-    if (map != MAP_UX && map != MAP_PAIR) {
-        make_as_we(made, map);
-        return;
-    }
-    make_ux(made);
+    if (map == MAP_UX || map == MAP_PAIR)
+        make_ux(made);
+    else
+        make_as_we(made, map == MAP_BESIDE || map == MAP_HIDDEN ? MAP_AS_WE : map);
     if (map == MAP_PAIR) {
         made->items[3].low = PAIR_LOW;
         made->items[3].high = PAIR_HIGH;
     }
+    if (map == MAP_BESIDE) {
+        move_area(&made->areas[2], 0x0116);
+        move_area(&made->areas[4], 0x011F);
+        move_area(&made->areas[5], 0x0121);
+    }
+    if (map == MAP_HIDDEN)
+        made->areas[0].access = 2;
 }
 
 static void run_case(const struct frame_case *one)
@@ -423,14 +547,39 @@ static void run_listed_sheet(void)
            "listed sheet", "number");
 }
 
-/* "B is 34.", "B is 38.", 18 and 22 items. */
+struct map_case {
+    const char *name;
+    uint32_t map, version, areas, items, bank_words;
+    const uint8_t *sheet;       /* as it is handed out */
+    size_t sheet_n, bank_n;
+};
+
+/* "B is 34.", "B is 38.", 18 and 22 items; for bore 40 "B becomes 45 and items 27". */
+static const struct map_case maps[] = {
+    { "UX", MAP_UX, 1, 2, 18, 34, cedarskein_ux_sheet, CEDARSKEIN_UX_SHEET_SIZE,
+      CEDARSKEIN_UX_BANK_SIZE },
+    { "AS-WE 40", 40, 2, 6, 27, 45, cedarskein_aswe_40_sheet, CEDARSKEIN_ASWE_40_SHEET_SIZE,
+      CEDARSKEIN_ASWE_40_BANK_SIZE },
+    { "AS-WE 50", 50, 1, 5, 22, 38, cedarskein_aswe_50_sheet, CEDARSKEIN_ASWE_50_SHEET_SIZE,
+      CEDARSKEIN_ASWE_50_BANK_SIZE },
+    { "AS-WE 80", 80, 1, 5, 22, 38, cedarskein_aswe_80_sheet, CEDARSKEIN_ASWE_80_SHEET_SIZE,
+      CEDARSKEIN_ASWE_80_BANK_SIZE }
+};
+
 static void run_maps(void)
 {
-    struct made made;
-    make_ux(&made);
-    expect(made.bank_words == 34 && made.items_n == 18, "UX", "size");
-    make_as_we(&made, 40);
-    expect(made.bank_words == 38 && made.items_n == 22, "AS-WE", "size");
+    for (size_t i = 0; i < sizeof maps / sizeof maps[0]; i++) {
+        const struct map_case *one = &maps[i];
+        uint8_t sheet[SHEET_ROOM];
+        struct made made;
+        make_map(&made, one->map);
+        expect(made.version == one->version, one->name, "version");
+        expect(made.areas_n == one->areas && made.items_n == one->items, one->name, "rows");
+        expect(made.bank_words == one->bank_words, one->name, "bank words");
+        expect(one->bank_n == 2 * (size_t)one->bank_words + 2, one->name, "bytes of a bank");
+        expect(put_sheet(&made, sheet) == one->sheet_n
+                   && memcmp(sheet, one->sheet, one->sheet_n) == 0, one->name, "sheet");
+    }
 }
 
 /* ---- W2: ranges and banks at and beyond both ends ---- */
@@ -536,8 +685,8 @@ struct sheet_case {
     enum second_number number;
 };
 
-/* On AS-WE's areas: 00FF to 0109, 010D to 0113, 0115 and 0116, 0123 and 0124,
- * 01FF to 020E. */
+/* On AS-WE 40's areas: 00FF to 0109, 010D to 0113, 0115 and 0116, 0118 to 011E,
+ * 0123 and 0124, 01FF to 020E. */
 static const struct sheet_case sheets[] = {
     { "history", 13, 0, 0x0400, 6600, 22, NUMBER_DONE },
     { "1 record of 1 word", 13, 0, 0x0400, 1, 1, NUMBER_DONE },
@@ -559,6 +708,11 @@ static const struct sheet_case sheets[] = {
     { "010A to 010D", 13, 0, 0x010A, 4, 2, NUMBER_SHEET },
     { "0114", 13, 0, 0x0114, 1, 47, NUMBER_DONE },
     { "0115", 13, 0, 0x0115, 1, 47, NUMBER_SHEET },
+    { "0117", 13, 0, 0x0117, 1, 3, NUMBER_DONE },
+    { "0117 and 0118", 13, 0, 0x0117, 2, 3, NUMBER_SHEET },
+    { "among the presets", 13, 0, 0x011B, 1, 3, NUMBER_SHEET },
+    { "011E to 0122", 13, 0, 0x011E, 5, 3, NUMBER_SHEET },
+    { "011F to 0122", 13, 0, 0x011F, 4, 3, NUMBER_DONE },
     { "0125 to 01FE", 13, 0, 0x0125, 218, 2, NUMBER_DONE },
     { "0125 to 01FF", 13, 0, 0x0125, 219, 2, NUMBER_SHEET },
     { "from 020F", 13, 0, 0x020F, 1, 1, NUMBER_DONE },
@@ -627,17 +781,17 @@ static void run_sheet_lengths(void)
         uint32_t word_11, word_7, words;
         enum second_number number;
     } lengths[] = {
-        { 1, 167, 167, NUMBER_DONE }, { 0, 167, 167, NUMBER_SHEET }, { 2, 167, 167, NUMBER_SHEET },
-        { 0x0101, 167, 167, NUMBER_SHEET }, { 1, 164, 167, NUMBER_SHEET },
-        { 1, 167, 164, NUMBER_SHEET }, { 1, 164, 164, NUMBER_SHEET },
-        { 1, 166, 166, NUMBER_SHEET }, { 1, 168, 168, NUMBER_SHEET },
-        { 0, 164, 164, NUMBER_DONE }, { 2, 164, 164, NUMBER_SHEET }
+        { 1, 201, 201, NUMBER_DONE }, { 0, 201, 201, NUMBER_SHEET }, { 2, 201, 201, NUMBER_SHEET },
+        { 0x0101, 201, 201, NUMBER_SHEET }, { 1, 198, 201, NUMBER_SHEET },
+        { 1, 201, 198, NUMBER_SHEET }, { 1, 198, 198, NUMBER_SHEET },
+        { 1, 200, 200, NUMBER_SHEET }, { 1, 202, 202, NUMBER_SHEET },
+        { 0, 198, 198, NUMBER_DONE }, { 2, 198, 198, NUMBER_SHEET }
     };
     for (size_t i = 0; i < sizeof lengths / sizeof lengths[0]; i++) {
         uint8_t sheet[SHEET_ROOM] = { 0 };
         struct made made;
         make_with_records(&made, &sheets[0]);
-        expect(put_sheet(&made, sheet) == 2 * 167, "lengths", "12 + 4 * 5 + 6 * 22 + 3 words");
+        expect(put_sheet(&made, sheet) == 2 * 201, "lengths", "12 + 4 * 6 + 6 * 27 + 3 words");
         put16(sheet, 7, lengths[i].word_7);
         put16(sheet, 11, lengths[i].word_11);
         struct call call = { CALL_SHEET_CHECK, { sheet, NULL, NULL, NULL, NULL },
@@ -922,7 +1076,7 @@ static void read_history(const uint8_t *sheet, size_t sheet_n, const char *hex, 
 {
     static const uint8_t out[OUT_ROOM];
     uint8_t bank[BANK_ROOM], frame[OUT_ROOM];
-    size_t bank_n = 2 * 38 + 2;
+    size_t bank_n = 2 * 45 + 2;
     struct outcome outcome;
     second_bank_fresh(sheet, sheet_n, bank, bank_n);
     struct call call = { CALL_ANSWER, { sheet, bank, big_ring, frame, out },
@@ -966,7 +1120,7 @@ static void run_longest(void)
     static const uint8_t out[OUT_ROOM];
     struct sheet_case longest = { "longest", 13, 0, 0x0400, 2, 47, NUMBER_DONE };
     uint8_t sheet[SHEET_ROOM], bank[BANK_ROOM], ring[4 + 2 * 94], frame[OUT_ROOM];
-    size_t bank_n = 2 * 38 + 2;
+    size_t bank_n = 2 * 45 + 2;
     struct made made;
     struct outcome outcome;
     make_with_records(&made, &longest);
@@ -1092,9 +1246,214 @@ static void run_map_ends(uint32_t map)
 
 static void run_ends(void)
 {
-    static const uint32_t maps[] = { MAP_UX, MAP_PAIR, MAP_AS_WE, 50, 80 };
-    for (size_t i = 0; i < sizeof maps / sizeof maps[0]; i++)
-        run_map_ends(maps[i]);
+    static const uint32_t ended[] = {
+        MAP_UX, MAP_PAIR, MAP_BESIDE, MAP_HIDDEN, MAP_AS_WE, 50, 80
+    };
+    for (size_t i = 0; i < sizeof ended / sizeof ended[0]; i++)
+        run_map_ends(ended[i]);
+}
+
+/* ---- W7: versions and accesses ---- */
+
+struct version_case {
+    const char *name;
+    uint32_t version, access;   /* of 0118 to 011E, which have items */
+    enum second_number number;
+};
+
+static const struct version_case versions[] = {
+    { "version 2, access 2", 2, 2, NUMBER_DONE },
+    { "version 2, access 3", 2, 3, NUMBER_DONE },
+    { "version 1, access 3", 1, 3, NUMBER_DONE },
+    { "version 1, access 2", 1, 2, NUMBER_SHEET },
+    { "version 0, access 2", 0, 2, NUMBER_SHEET },
+    { "version 0, access 3", 0, 3, NUMBER_SHEET },
+    { "version 3, access 2", 3, 2, NUMBER_SHEET },
+    { "version 3, access 3", 3, 3, NUMBER_SHEET },
+    { "version 4, access 2", 4, 2, NUMBER_SHEET },
+    { "version 0102, access 2", 0x0102, 2, NUMBER_SHEET },
+    { "version 0101, access 3", 0x0101, 3, NUMBER_SHEET },
+    { "version 0200, access 2", 0x0200, 2, NUMBER_SHEET },
+    { "version 8002, access 2", 0x8002, 2, NUMBER_SHEET },
+    { "version FFFF, access 2", 0xFFFF, 2, NUMBER_SHEET },
+    { "version 2, access 0", 2, 0, NUMBER_SHEET },
+    { "version 2, access 1", 2, 1, NUMBER_SHEET },
+    { "version 2, access 4", 2, 4, NUMBER_SHEET },
+    { "version 2, access 6", 2, 6, NUMBER_SHEET },
+    { "version 2, access 0102", 2, 0x0102, NUMBER_SHEET },
+    { "version 2, access 0200", 2, 0x0200, NUMBER_SHEET },
+    { "version 1, access 0", 1, 0, NUMBER_SHEET },
+    { "version 1, access 4", 1, 4, NUMBER_SHEET }
+};
+
+/* The whole sheet is refused, whatever a call is about. */
+static void run_version(const struct version_case *one)
+{
+    static const uint8_t out[OUT_ROOM];
+    uint8_t sheet[SHEET_ROOM], bank[BANK_ROOM], frame[OUT_ROOM];
+    struct made made;
+    make_as_we(&made, 40);
+    size_t sheet_n = put_sheet(&made, sheet);
+    size_t bank_n = 2 * (size_t)made.bank_words + 2;
+    second_bank_fresh(sheet, sheet_n, bank, bank_n);
+    made.version = one->version;
+    made.areas[3].access = one->access;
+    put_sheet(&made, sheet);
+    struct call call = { CALL_SHEET_CHECK, { sheet, bank, NULL, frame, out },
+                         { sheet_n, bank_n, 0, put_checked("01 03 01 08 00 01", frame), OUT_ROOM },
+                         0x01FF, 0, NO_ORDER };
+    ask(&call, CALL_SHEET_CHECK, one->number, one->name);
+    ask(&call, CALL_BANK_CHECK, one->number, one->name);
+    ask(&call, CALL_BANK_FRESH, one->number, one->name);
+    ask(&call, CALL_POST, one->number, one->name);
+    ask(&call, CALL_ANSWER, one->number, one->name);
+    ask(&call, CALL_WHY, one->number, one->name);
+    call.part_n[PART_RING] = 0;
+    ask(&call, CALL_RING_CHECK, one->number, one->name);
+    call.value = 0;
+    ask(&call, CALL_SET_MARK, one->number, one->name);
+}
+
+/* An access that is none where there are no items. */
+static void run_other_access(void)
+{
+    static const uint32_t accesses[] = { 0, 4, 5, 7, 0x0101, 0x0102, 0xFFFF };
+    for (size_t i = 0; i < sizeof accesses / sizeof accesses[0]; i++) {
+        uint8_t sheet[SHEET_ROOM];
+        struct made made;
+        make_as_we(&made, 40);
+        made.areas[5].access = accesses[i];
+        struct call call = { CALL_SHEET_CHECK, { sheet, NULL, NULL, NULL, NULL },
+                             { put_sheet(&made, sheet), 0, 0, 0, 0 }, 0, 0, NO_ORDER };
+        ask(&call, CALL_SHEET_CHECK, NUMBER_SHEET, "access of the readings");
+    }
+}
+
+/* Without the item of one preset, or of a reading that is one now. */
+static void run_uncovered(void)
+{
+    for (uint32_t left_out = 20; left_out <= 25; left_out++) {
+        uint8_t sheet[SHEET_ROOM];
+        struct made made;
+        make_as_we(&made, 40);
+        if (left_out == 25) {
+            made.areas[5].access = 2;
+        } else {
+            made.items_n--;
+            memmove(&made.items[left_out], &made.items[left_out + 1],
+                    (made.items_n - left_out) * sizeof made.items[0]);
+        }
+        struct call call = { CALL_SHEET_CHECK, { sheet, NULL, NULL, NULL, NULL },
+                             { put_sheet(&made, sheet), 0, 0, 0, 0 }, 0, 0, NO_ORDER };
+        ask(&call, CALL_SHEET_CHECK, NUMBER_SHEET, "a preset without an item");
+    }
+}
+
+/* ---- W7: banks and posting ---- */
+
+/* A preset that begins at 5: fresh, and on both sides of its ends. */
+static void run_preset_bank(void)
+{
+    static const struct {
+        uint32_t word;
+        enum second_number number;
+    } words[] = {
+        { 5, NUMBER_DONE }, { 9, NUMBER_DONE }, { 4, NUMBER_BANK_SOUND },
+        { 10, NUMBER_BANK_SOUND }, { 0, NUMBER_BANK_SOUND }, { 0x0105, NUMBER_BANK_SOUND }
+    };
+    uint8_t sheet[SHEET_ROOM], bank[BANK_ROOM];
+    struct made made;
+    make_as_we(&made, 40);
+    made.items[20].low = 5;
+    memset(bank, 0xA5, sizeof bank);
+    struct call call = { CALL_BANK_FRESH, { sheet, bank, NULL, NULL, NULL },
+                         { put_sheet(&made, sheet), 2 * 45 + 2, 0, 0, 0 }, 0, 0, NO_ORDER };
+    ask(&call, CALL_BANK_FRESH, NUMBER_DONE, "fresh presets");
+    memcpy(bank, part_after(PART_BANK), 2 * 45 + 2);
+    expect(get16(bank, 20) == 5, "fresh presets", "low bound");
+    for (size_t place = 21; place < 27; place++)
+        expect(get16(bank, place) == 0, "fresh presets", "0");
+    for (size_t i = 0; i < sizeof words / sizeof words[0]; i++) {
+        put16(bank, 20, words[i].word);
+        ask(&call, CALL_BANK_CHECK, words[i].number, "a bank's preset");
+    }
+}
+
+/* A bank of before, of 78 bytes, is none of the sheet with presets, and the other way
+ * round. */
+static void run_preset_sizes(void)
+{
+    uint8_t sheet[SHEET_ROOM], bank[BANK_ROOM] = { 0 };
+    struct made made;
+    make_as_we(&made, 40);
+    struct call call = { CALL_BANK_FRESH, { sheet, bank, NULL, NULL, NULL },
+                         { put_sheet(&made, sheet), 78, 0, 0, 0 }, 0, 0, NO_ORDER };
+    ask(&call, CALL_BANK_FRESH, NUMBER_BANK_SIZE, "78 bytes, presets");
+    call.part_n[PART_BANK] = 92;
+    ask(&call, CALL_BANK_FRESH, NUMBER_DONE, "92 bytes, presets");
+    make_plain_as_we_40(&made);
+    call.part_n[PART_SHEET] = put_sheet(&made, sheet);
+    expect(call.part_n[PART_SHEET] == 328, "AS-WE 40 of before", "size");
+    ask(&call, CALL_BANK_FRESH, NUMBER_BANK_SIZE, "92 bytes, no presets");
+    call.part_n[PART_BANK] = 78;
+    ask(&call, CALL_BANK_FRESH, NUMBER_DONE, "78 bytes, no presets");
+}
+
+struct post_case {
+    const char *name;
+    uint32_t address;
+    size_t bytes;
+    enum second_number number;
+};
+
+/* With settings up to 0117, presets, settings up to 0120 and readings up to 0130. */
+static const struct post_case posts[] = {
+    { "posted at 0118", 0x0118, 2, NUMBER_POSTED_ADDRESS },
+    { "posted at 011E", 0x011E, 2, NUMBER_POSTED_ADDRESS },
+    { "posted at all presets", 0x0118, 14, NUMBER_POSTED_ADDRESS },
+    { "posted at half a pair", 0x011C, 2, NUMBER_POSTED_ADDRESS },
+    { "posted up to presets", 0x0117, 4, NUMBER_POSTED_ADDRESS },
+    { "posted from presets on", 0x011E, 8, NUMBER_POSTED_ADDRESS },
+    { "posted at 10118", 0x10118, 2, NUMBER_POSTED_ADDRESS },
+    { "odd bytes at 0118", 0x0118, 3, NUMBER_BAD_INPUT },
+    { "nothing at 0118", 0x0118, 0, NUMBER_BAD_INPUT },
+    { "posted at 0121", 0x0121, 32, NUMBER_DONE }
+};
+
+static void run_preset_posts(void)
+{
+    static const uint8_t words[32] = { 1, 2, 3, 4 };
+    uint8_t sheet[SHEET_ROOM], bank[BANK_ROOM];
+    struct made made;
+    make_map(&made, MAP_BESIDE);
+    size_t sheet_n = put_sheet(&made, sheet);
+    second_bank_fresh(sheet, sheet_n, bank, 92);
+    for (size_t i = 0; i < sizeof posts / sizeof posts[0]; i++) {
+        struct call call = { CALL_POST, { sheet, bank, NULL, words, NULL },
+                             { sheet_n, 92, 0, posts[i].bytes, 0 }, posts[i].address, 0, NO_ORDER };
+        ask(&call, CALL_POST, posts[i].number, posts[i].name);
+        expect(bank_changed(&call) == (posts[i].number == NUMBER_DONE), posts[i].name, "bank");
+    }
+    made.areas[2].access = 1;
+    made.items_n -= 2;
+    memmove(&made.items[18], &made.items[20], (made.items_n - 18) * sizeof made.items[0]);
+    sheet_n = put_sheet(&made, sheet);
+    struct call call = { CALL_POST, { sheet, bank, NULL, words, NULL },
+                         { sheet_n, 92, 0, 4, 0 }, 0x0116, 0, NO_ORDER };
+    ask(&call, CALL_POST, NUMBER_DONE, "posted in front of presets");
+    call.value = 0x0117;
+    ask(&call, CALL_POST, NUMBER_POSTED_ADDRESS, "posted into presets");
+}
+
+static void run_presets(void)
+{
+    for (size_t i = 0; i < sizeof versions / sizeof versions[0]; i++)
+        run_version(&versions[i]);
+    run_other_access();
+    run_uncovered();
+    run_preset_bank();
+    run_preset_sizes();
+    run_preset_posts();
 }
 
 /* ---- W6: orders on both sides of each limit ---- */
@@ -1490,6 +1849,7 @@ int main(void)
     run_stations();
     run_records();
     run_ends();
+    run_presets();
     run_orders();
     printf("ran %zu frame cases, %zu orders and %zu replies, %d failures\n", n + records_n,
            orders_n, replies_n, failed);

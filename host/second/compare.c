@@ -66,22 +66,44 @@ static void differs(const struct call *call, const char *what)
 
 /* ---- Sheets ---- */
 
-/* Each rule in turn, so that all are met equally often; those of the record area
- * twice, since each has two limits. */
+/* Rules that have several limits, or hold for several accesses. */
+static const enum second_rule several[] = {
+    RULE_VERSION, RULE_ACCESS, RULE_PLACE_MISSING, RULE_PLACE_TWICE, RULE_PAIR_TWO_AREAS,
+    RULE_RECORD_COUNT, RULE_RECORD_WORDS, RULE_RECORDS_END, RULE_RECORDS_SHARE,
+    RULE_CLEAR_IN_RECORDS, RULE_PLACE_MISSING, RULE_PLACE_TWICE, RULE_PLACE_TWICE,
+    RULE_PAIR_TWO_AREAS, RULE_PAIR_TWO_AREAS, RULE_PAIR_TWO_AREAS
+};
+
+enum { SEVERAL = sizeof several / sizeof several[0], ALL_RULES = RULE_COUNT - (RULE_NONE + 1) };
+
+static enum second_rule rule_at(uint32_t at)
+{
+    return at < ALL_RULES ? (enum second_rule)(RULE_NONE + 1 + at) : several[at - ALL_RULES];
+}
+
+/* Each rule in turn, so that all are met equally often, and then these once more. */
+static enum second_rule next_rule(void)
+{
+    static uint32_t at;
+    enum second_rule rule = rule_at(at);
+    at = (at + 1) % (ALL_RULES + SEVERAL);
+    return rule;
+}
+
 static void break_next_rule(void)
 {
-    static int rule = RULE_NONE;
-    static bool again;
-    rule++;
-    if (rule == RULE_COUNT) {
-        again = !again;
-        rule = again ? RULE_RECORD_COUNT : RULE_NONE + 1;
-    }
-    subject.made_broken = (enum second_rule)rule;
+    subject.made_broken = next_rule();
     if (!make_broken(subject.made_broken, &subject.made, subject.sheet, &subject.sheet_n)) {
         printf("no sheet was found that breaks: %s\n", second_rule_name(subject.made_broken));
         exit(1);
     }
+}
+
+/* One thing is changed for any rule, whatever the second statement says of it. */
+static void change_sheet(void)
+{
+    enum second_rule rule = chance(50) ? several[below(SEVERAL)] : rule_at(below(ALL_RULES));
+    make_changed(rule, &subject.made, subject.sheet, &subject.sheet_n);
 }
 
 /* Noise of any length; often with a header that starts well. */
@@ -90,7 +112,7 @@ static void random_sheet(void)
     subject.sheet_n = chance(30) ? below(60) : below(1000);
     noise_fill(subject.sheet, SHEET_ROOM);
     if (chance(50)) {
-        put16(subject.sheet, 0, 1);
+        put16(subject.sheet, 0, 1 + below(2));
         put16(subject.sheet, 1, 1 + below(8));
         put16(subject.sheet, 2, 12);
     }
@@ -184,6 +206,17 @@ static void poke_records(void)
     }
 }
 
+/* The version, or the access of an area, at, next to and beyond its limits, so that
+ * several rules are broken, or one, or none. */
+static void poke_version(void)
+{
+    size_t row = 12 + 4 * (size_t)below(subject.made.areas_n);
+    if (chance(50))
+        put16(subject.sheet, 0, ONE_OF(0, 1, 1, 1, 2, 3, 3, 4, 0x0101, 0x0102, 0x0200, 0xFFFF));
+    else
+        put16(subject.sheet, row + 3, ONE_OF(0, 0, 1, 2, 2, 3, 4, 4, 0x0101, 0x0102, 0x0103));
+}
+
 static void make_subject_sheet(void)
 {
     subject.made_broken = RULE_NONE;
@@ -204,6 +237,10 @@ static void make_subject_sheet(void)
         poke_range();
     else if (sort < 52)
         poke_records();
+    else if (sort < 56)
+        poke_version();
+    else if (sort < 59)
+        change_sheet();
     subject.broken = second_broken_rule(subject.sheet, subject.sheet_n);
 }
 
@@ -292,7 +329,7 @@ static void spoil_station(uint8_t *bank)
 static size_t spoil_bank(uint8_t *bank, size_t n)
 {
     noise_fill(bank + n, 4);
-    switch (below(10)) {
+    switch (below(11)) {
     case 0: return n + 1;
     case 1: return n + 2;
     case 2: return n - 1;
@@ -638,7 +675,7 @@ static void count_post(const struct call *call, const struct outcome *outcome)
     if (outcome->number == NUMBER_DONE && over_areas(call->value, call->value + count - 1))
         met(SPECIAL_POST_OVER_AREAS);
     if (outcome->number == NUMBER_BAD_INPUT && call->part_n[PART_BYTES] > 0
-        && (area < 0 || subject.made.areas[area].access == 3))
+        && (area < 0 || subject.made.areas[area].access != 1))
         met(SPECIAL_7_BEFORE_6);
 }
 
@@ -842,6 +879,27 @@ static void call_ends(void)
 {
     for (uint32_t ends = 1 + below(6); ends > 0 && counts.calls < calls_asked; ends--)
         call_end();
+}
+
+/* A frame about registers that are only written is asked about and answered; false if
+ * the sheet has none. */
+static bool call_preset(void)
+{
+    static uint8_t bank[BANK_ROOM], frame[FRAME_ROOM];
+    struct call call = new_call(CALL_WHY);
+    memcpy(bank, subject.bank, subject.bank_n);
+    call.part[PART_BANK] = bank;
+    call.part_n[PART_BANK] = subject.bank_n;
+    lend_ring(&call);
+    call.part_n[PART_BYTES] = make_preset_frame(&subject.made, bank, frame);
+    call.part[PART_BYTES] = frame;
+    if (call.part_n[PART_BYTES] == 0)
+        return false;
+    struct outcome why = make_call(&call);
+    count_why(&call, &why);
+    answer_too(&call, &why);
+    keep_bank(&call, true);
+    return true;
 }
 
 /* A passing frame, damaged: whatever the frame, the reason is its check, and
@@ -1125,13 +1183,24 @@ static bool some_order_call(bool sound)
     return true;
 }
 
+/* Frames about registers that are only written, some of them on one sheet. */
+static bool some_preset_call(bool sound)
+{
+    uint32_t frames = 1 + below(4);
+    if (!sound || !chance(12) || !is_room_for(2) || !call_preset())
+        return false;
+    while (--frames > 0 && is_room_for(2))
+        call_preset();
+    return true;
+}
+
 /* A call about a ring: more of them where there are records to add. */
 static bool some_ring_call(bool sound)
 {
     bool records = sound && subject.made.records.is;
-    if (!chance(records ? 20 : 5))
+    if (!chance(records ? 18 : 5))
         return false;
-    if (records && chance(18))
+    if (records && chance(15))
         call_sequence();
     else if (chance(22))
         call_ring();
@@ -1145,7 +1214,7 @@ static void some_call(void)
     bool sound = subject.broken == RULE_NONE && sheet_is_as_made();
     bool writes = sound && (subject.made.functions & 12) == 12;
     uint32_t sort = below(100);
-    if (some_order_call(sound) || some_ring_call(sound))
+    if (some_order_call(sound) || some_preset_call(sound) || some_ring_call(sound))
         return;
     if (sort < 1)
         call_check(CALL_CHECK_START);
@@ -1159,15 +1228,15 @@ static void some_call(void)
         call_bank(CALL_BANK_CHECK);
     else if (sort < (sound ? 15 : 59))
         call_bank(CALL_BANK_FRESH);
-    else if (sort < (sound ? 27 : 69))
+    else if (sort < (sound ? 30 : 69))
         call_post();
-    else if (sort < (sound ? 32 : 79))
+    else if (sort < (sound ? 33 : 79))
         call_mark();
-    else if (sort < (sound ? 59 : 90) || !is_room_for(2))
+    else if (sort < (sound ? 61 : 90) || !is_room_for(2))
         call_answer();
     else if (sort < 64 && sound)
         call_damaged();
-    else if (sort < 68 && writes)
+    else if (sort < 69 && writes)
         call_ends();
     else
         call_why();

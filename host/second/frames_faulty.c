@@ -38,16 +38,26 @@ static void leave_out_from(struct making *making, enum second_reason reason)
 
 /* ---- Runs of addresses ---- */
 
-/* An area that can be read or written; the last one more often than others,
- * because it alone can end at FFFF. */
+/* Whether there is something to write, or to read; there may be nothing to read. */
+static bool has_open_area(const struct made *made, bool write)
+{
+    for (uint32_t i = 0; i < made->areas_n; i++)
+        if (made->areas[i].access != (write ? 1u : 2u))
+            return true;
+    return false;
+}
+
+/* An area that can be read or written, if there is one; the last one more often than
+ * others, because it alone can end at FFFF. */
 static const struct made_area *open_area(const struct making *making, bool write)
 {
     const struct made *made = making->made;
     const struct made_area *area = &made->areas[made->areas_n - 1];
-    if (chance(50) || (write && area->access != 3))
+    uint32_t shut = write ? 1 : 2;
+    if (has_open_area(made, write) && (chance(50) || area->access == shut))
         do
             area = &made->areas[below(made->areas_n)];
-        while (write && area->access != 3);
+        while (area->access == shut);
     return area;
 }
 
@@ -79,7 +89,7 @@ static uint32_t open_start(const struct making *making, bool write)
  * at a record's is another matter. */
 static bool closed_start(const struct making *making, bool write, uint32_t *start)
 {
-    if (write && making->made->records.is && chance(40)) {
+    if (write && making->made->records.is && chance(75)) {
         *start = some_record(making->made, making->stored);
         return true;
     }
@@ -110,17 +120,50 @@ static bool run_to_records(struct making *making, bool write, uint32_t *start, u
     return true;
 }
 
+/* A read of registers that are only written and of one beside them: up to the first,
+ * from the last on, or from in front of them to behind; false if the area that is
+ * looked at is no such one. */
+static bool run_over_write_only(struct making *making, uint32_t most, uint32_t *start,
+                                uint32_t *count)
+{
+    const struct made *made = making->made;
+    const struct made_area *area = &made->areas[below(made->areas_n)];
+    uint32_t length = area->last - area->first + 1;
+    if (area->access != 2 || length + 2 > most || !made_is_open(made, area->first - 1, false)
+        || !made_is_open(made, area->last + 1, false))
+        return false;
+    uint32_t sort = below(3);
+    *start = sort == 0 ? area->last : area->first - 1;
+    *count = sort < 2 ? 2 : length + 2;
+    making->closed = sort == 0 ? area->last : area->first;
+    return true;
+}
+
+/* A read where nothing can be read; from its first address on. */
+static uint32_t shut_run(struct making *making, uint32_t start, uint32_t *count)
+{
+    *count = 1 + below(3);
+    making->closed = start;
+    put_in(making, REASON_ADDRESS);
+    return start;
+}
+
 /* The start of a run of at most so many addresses, and how many it has. */
 static uint32_t make_run(struct making *making, bool write, uint32_t most, uint32_t *count)
 {
     uint32_t start = open_start(making, write);
     uint32_t run = run_length(making->made, start, write);
+    if (run == 0)
+        return shut_run(making, start, count);
     *count = 1 + below(run < most ? run : most);
     if (!wants(making, REASON_ADDRESS))
         return start;
-    if (most > 1 && chance(90) && run_to_records(making, write, &start, count)) {
+    if (!write && chance(40) && run_over_write_only(making, most, &start, count)) {
         put_in(making, REASON_ADDRESS);
-    } else if (run < most && chance(70)) {
+    } else if (most > 1 && chance(write ? 75 : 90)
+               && run_to_records(making, write, &start, count)) {
+        put_in(making, REASON_ADDRESS);
+    } else if (run < most && chance(making->made->records.is ? 55 : 70)) {
         *count = run + 1 + below(most - run < 3 ? most - run : 3);
         making->closed = start + run;
         put_in(making, REASON_ADDRESS);
@@ -260,7 +303,7 @@ static size_t faulty_record(struct making *making, uint8_t *frame)
 
 static size_t faulty_read(struct making *making, uint8_t *frame)
 {
-    if (making->made->records.is && chance(40))
+    if (making->made->records.is && chance(28))
         return faulty_record(making, frame);
     uint32_t count;
     uint32_t start = make_run(making, false, MOST_READ, &count);
@@ -276,7 +319,7 @@ static size_t faulty_clear(struct making *making, uint8_t *frame)
     uint32_t start = making->made->clear;
     uint32_t value = 0;
     if (wants(making, REASON_ADDRESS)) {
-        start = making->made->records.is && chance(30)
+        start = making->made->records.is && chance(40)
             ? some_record(making->made, making->stored)
             : (start + ONE_OF(1, 0xFFFF, 1 + below(0xFFFF))) & 0xFFFF;
         making->closed = start;
@@ -421,7 +464,8 @@ static uint32_t some_faults(void)
 {
     uint32_t faults = chance(4) ? 1u << REASON_TOO_SHORT | 1u << REASON_STATION : 0;
     uint32_t first = ONE_OF(REASON_TOO_SHORT, REASON_TOO_SHORT, REASON_CHECK, REASON_STATION,
-                            REASON_FUNCTION, REASON_FUNCTION, REASON_BAD_COUNT, REASON_BAD_COUNT);
+                            REASON_FUNCTION, REASON_FUNCTION, REASON_FUNCTION, REASON_BAD_COUNT,
+                            REASON_BAD_COUNT);
     for (uint32_t many = below(6); many > 0; many--)
         faults |= 1u << (first + below(REASON_COUNT - first));
     return faults;

@@ -31,25 +31,21 @@ uint32_t some_address(const struct made *made)
     }
 }
 
-/* An address of an access 3 area. */
+/* An address that can be written. */
 static uint32_t open_address(const struct made *made)
 {
     const struct made_area *area;
     do
         area = &made->areas[below(made->areas_n)];
-    while (area->access != 3);
+    while (area->access == 1);
     return chance(30) ? area->first : area->first + below(area->last - area->first + 1);
 }
 
-/* How many addresses from this one on lie in areas, one next to the other. */
-uint32_t run_length(const struct made *made, uint32_t start, bool open)
+uint32_t run_length(const struct made *made, uint32_t start, bool write)
 {
     uint32_t n = 0;
-    int area = made_area_of(made, start);
-    while (area >= 0 && (!open || made->areas[area].access == 3)) {
+    while (made_is_open(made, start + n, write))
         n++;
-        area = made_area_of(made, start + n);
-    }
     return n;
 }
 
@@ -76,7 +72,7 @@ uint8_t own_station(const struct made *made, const uint8_t *bank)
 static uint8_t some_station(const struct made *made, const uint8_t *bank)
 {
     uint32_t own = own_station(made, bank);
-    if (chance(88))
+    if (chance(86))
         return (uint8_t)own;
     return (uint8_t)ONE_OF(0, 0, 0, 0, 0, 0xF8, 0xFF, own + 1, own ^ 0x80, own - 1, below(256));
 }
@@ -155,7 +151,7 @@ static uint32_t put_item_words(const struct made *made, uint8_t *words, uint32_t
                                uint32_t left, bool bad)
 {
     int area = made_area_of(made, address);
-    if (area < 0 || made->areas[area].access != 3) {
+    if (area < 0 || made->areas[area].access == 1) {
         noise_fill(words, 2);
         return 1;
     }
@@ -292,17 +288,18 @@ static size_t body_long_read(const struct made *made, uint8_t *frame)
     uint32_t start = some_address(made);
     for (int tries = 0; tries < 12 && run_length(made, start, false) < 48; tries++)
         start = made->areas[below(made->areas_n)].first + below(3);
-    return put_start(frame, 0x03, start & 0xFFFF, ONE_OF(46, 47, 47, 47, 48, 48, 49));
+    return put_start(frame, 0x03, start & 0xFFFF, ONE_OF(46, 47, 47, 47, 47, 48, 48, 48, 49));
 }
 
-/* An area with a neighbour of the same access behind it; the last area if the
- * search finds none. */
-static const struct made_area *area_with_neighbour(const struct made *made, uint32_t access)
+/* An area with a neighbour behind it, both of which can be written, or none of the
+ * two; the last area if the search finds none. */
+static const struct made_area *area_with_neighbour(const struct made *made, bool write)
 {
     for (int tries = 0; tries < 12; tries++) {
         const struct made_area *area = &made->areas[below(made->areas_n)];
         int next = made_area_of(made, area->last + 1);
-        if (area->access == access && next >= 0 && made->areas[next].access == access)
+        if (next >= 0 && (area->access != 1) == write
+            && (made->areas[next].access != 1) == write)
             return area;
     }
     return &made->areas[made->areas_n - 1];
@@ -311,7 +308,7 @@ static const struct made_area *area_with_neighbour(const struct made *made, uint
 /* A read or write from one area into the next. */
 static size_t body_over_areas(const struct made *made, uint8_t *frame)
 {
-    const struct made_area *area = area_with_neighbour(made, 3);
+    const struct made_area *area = area_with_neighbour(made, true);
     uint32_t back = below(area->last - area->first + 1) % 4;
     uint32_t start = area->last - back;
     uint32_t count = back + 2 + below(2);
@@ -398,7 +395,7 @@ uint32_t some_record(const struct made *made, uint32_t stored)
 static uint32_t some_record_count(void)
 {
     return chance(55) ? 1
-        : ONE_OF(0, 0, 0, 2, 2, 2, 3, 46, 47, 47, 47, 48, 48, 49, 0x0101, 0xFFFF);
+        : ONE_OF(0, 0, 0, 0, 2, 2, 2, 2, 2, 3, 46, 47, 47, 47, 47, 48, 48, 49, 0x0101, 0xFFFF);
 }
 
 static size_t body_record(const struct made *made, uint32_t stored, uint8_t *frame)
@@ -416,7 +413,7 @@ static size_t body_record(const struct made *made, uint32_t stored, uint8_t *fra
 static void put_counts(uint8_t *frame, uint32_t count)
 {
     frame[6] = (uint8_t)(2 * count);
-    if (chance(20))
+    if (chance(26))
         put16(frame + 4, 0, count + ONE_OF(0, 1, 0x80, 0x0100, 0x10000 - count));
 }
 
@@ -429,7 +426,7 @@ static size_t body_into_records(const struct made *made, uint8_t *frame)
         back = 1;
     uint32_t start = made->records.first - back;
     uint32_t count = back + 1 + below(2);
-    if (chance(36))
+    if (chance(45))
         return put_start(frame, 0x03, start, count);
     size_t n = put_start(frame, 0x10, start, count) + 1;
     put_counts(frame, count);
@@ -442,7 +439,7 @@ static size_t body_on_record(const struct made *made, uint32_t stored, uint8_t *
 {
     uint32_t start = some_record(made, stored);
     uint32_t count = 1 + below(3);
-    switch (below(4)) {
+    switch (below(5)) {
     case 0: return put_start(frame, 0x05, start, chance(60) ? 0 : ONE_OF(1, 0xFF00));
     case 1: return put_start(frame, 0x06, start, below(0x10000));
     default: break;
@@ -458,10 +455,133 @@ static size_t body_of_records(const struct made *made, uint32_t stored, uint8_t 
 {
     bool next = made_area_of(made, made->records.first - 1) >= 0;
     uint32_t sort = below(20);
-    if (sort < 4)
+    if (sort < 5)
         return body_on_record(made, stored, frame);
-    return made->records.first > 0 && sort < (next ? 17 : 6) ? body_into_records(made, frame)
+    return made->records.first > 0 && sort < (next ? 15 : 6) ? body_into_records(made, frame)
                                                              : body_record(made, stored, frame);
+}
+
+/* ---- Bodies about registers that are only written ---- */
+
+/* An area that is only written, rather one with something to read right in front of
+ * it and right behind; NULL if the search finds none. */
+static const struct made_area *write_only_area(const struct made *made)
+{
+    const struct made_area *found = NULL;
+    for (int tries = 0; tries < 16; tries++) {
+        const struct made_area *area = &made->areas[below(made->areas_n)];
+        if (area->access != 2)
+            continue;
+        found = area;
+        if (made_is_open(made, area->first - 1, false) && made_is_open(made, area->last + 1, false))
+            return area;
+    }
+    return found;
+}
+
+/* How many addresses right in front of one can be read, at most so many. */
+static uint32_t open_in_front(const struct made *made, uint32_t address, uint32_t most)
+{
+    uint32_t n = 0;
+    while (n < most && made_is_open(made, address - n - 1, false))
+        n++;
+    return n;
+}
+
+/* Reads that go from in front of the area to behind it, end in it or right in front
+ * of it, begin in it or right behind it; and of one register, of none, or of too many
+ * from there on. */
+static size_t body_read_write_only(const struct made *made, const struct made_area *area,
+                                   uint8_t *frame)
+{
+    uint32_t length = area->last - area->first + 1;
+    uint32_t front = open_in_front(made, area->first, 1 + below(3));
+    uint32_t behind = run_length(made, area->last + 1, false);
+    uint32_t start = area->first - front;
+    if (behind > 2)
+        behind = 1 + below(2);
+    if (front > 0 && behind > 0 && chance(45))
+        return put_start(frame, 0x03, start, front + length + behind);
+    if (front > 0 && chance(50))
+        return put_start(frame, 0x03, start, front + (chance(60) ? 1 : 0));
+    if (behind > 0 && chance(65))
+        return chance(60) ? put_start(frame, 0x03, area->last, 1 + behind)
+                          : put_start(frame, 0x03, area->last + 1, behind);
+    return put_start(frame, 0x03, area->first + below(length), ONE_OF(1, 1, 1, 0, 47, 48, 48));
+}
+
+/* The same count, or one more where it would end between the halves of a pair. */
+static uint32_t whole_items(const struct made *made, uint32_t start, uint32_t count)
+{
+    uint32_t last = start + count - 1;
+    int area = made_area_of(made, last);
+    if (area < 0 || made->areas[area].access == 1)
+        return count;
+    uint32_t place = made->areas[area].place + (last - made->areas[area].first);
+    const struct made_item *item = &made->items[made_item_of(made, place)];
+    return item->kind == 2 && item->place == place ? count + 1 : count;
+}
+
+/* Out of the area, or into it from the one in front. */
+static size_t body_past_write_only(const struct made *made, const struct made_area *area,
+                                   uint8_t *frame)
+{
+    uint32_t length = area->last - area->first + 1;
+    uint32_t back = below(length < 3 ? length : 3);
+    uint32_t start = area->last - back;
+    uint32_t count = back + 2 + below(2);
+    bool behind = made_area_of(made, area->last + 1) >= 0;
+    if (made_area_of(made, area->first - 1) >= 0 && chance(behind ? 50 : 85)) {
+        start = area->first - 1;
+        count = 2 + below(2);
+    }
+    if (chance(70))
+        count = whole_items(made, start, count);
+    size_t n = put_start(frame, 0x10, start, count) + 1;
+    frame[6] = (uint8_t)(2 * count);
+    put_words(made, frame + n, start, count, 100);
+    return n + 2 * (size_t)count;
+}
+
+/* Half of a pair in the area, if the search finds one; else a clear there. */
+static size_t body_half_write_only(const struct made *made, const struct made_area *area,
+                                   uint8_t *frame)
+{
+    for (int tries = 0; tries < 12; tries++) {
+        uint32_t at = below(area->last - area->first + 1);
+        const struct made_item *item = &made->items[made_item_of(made, area->place + at)];
+        if (item->kind == 2 && item->place == area->place + at && chance(30))
+            at++;
+        if (item->kind == 2)
+            return put_start(frame, 0x06, area->first + at,
+                             half_word(item, item->place == area->place + at));
+    }
+    return put_start(frame, 0x05, area->first, 0);
+}
+
+/* Some registers of the area. */
+static size_t body_write_write_only(const struct made *made, const struct made_area *area,
+                                    uint8_t *frame)
+{
+    uint32_t length = area->last - area->first + 1;
+    uint32_t at = below(length);
+    uint32_t count = 1 + below(length - at < 6 ? length - at : 6);
+    size_t n = put_start(frame, 0x10, area->first + at, count) + 1;
+    frame[6] = (uint8_t)(2 * count);
+    put_words(made, frame + n, area->first + at, count, chance(60) ? ONE_OF(0, 1, 1, 2) : 100);
+    return n + 2 * (size_t)count;
+}
+
+static size_t body_of_write_only(const struct made *made, const struct made_area *area,
+                                 uint8_t *frame)
+{
+    uint32_t sort = below(23);
+    if (sort < 8)
+        return body_read_write_only(made, area, frame);
+    if (sort < 15)
+        return body_past_write_only(made, area, frame);
+    return sort < 19 ? body_half_write_only(made, area, frame)
+                     : body_write_write_only(made, area, frame);
 }
 
 /* ---- Frames ---- */
@@ -473,8 +593,8 @@ static make_body *some_body(void)
     static make_body *const bodies[] = {
         body_read, body_read, body_read, body_read, body_read,
         body_long_read, body_long_read, body_long_read, body_long_read, body_long_read,
-        body_long_read, body_long_read, body_long_read,
-        body_clear, body_clear, body_clear,
+        body_long_read, body_long_read, body_long_read, body_long_read, body_long_read,
+        body_long_read, body_clear, body_clear, body_clear,
         body_write_one, body_write_one, body_write_one,
         body_half, body_half, body_half, body_half, body_half, body_half,
         body_write_many, body_write_many, body_write_many, body_write_many, body_write_many,
@@ -490,9 +610,13 @@ static make_body *some_body(void)
     return bodies[below(sizeof bodies / sizeof bodies[0])];
 }
 
-/* About records, where there are any, in so many of a hundred. */
+/* About records, and about registers that are only written, where there are any, in
+ * so many of a hundred. */
 static size_t put_body(const struct made *made, uint32_t stored, uint8_t *frame)
 {
+    const struct made_area *area = chance(12) ? write_only_area(made) : NULL;
+    if (area != NULL)
+        return body_of_write_only(made, area, frame);
     if (made->records.is && chance(50))
         return body_of_records(made, stored, frame);
     return some_body()(made, frame);
@@ -510,6 +634,15 @@ size_t make_frame(const struct made *made, const uint8_t *bank, uint32_t stored,
     if (chance(1))
         n = below((uint32_t)n + 1);
     return n;
+}
+
+size_t make_preset_frame(const struct made *made, const uint8_t *bank, uint8_t *frame)
+{
+    const struct made_area *area = write_only_area(made);
+    if (area == NULL)
+        return 0;
+    frame[0] = own_station(made, bank);
+    return add_check(frame, body_of_write_only(made, area, frame));
 }
 
 size_t make_passing_frame(const struct made *made, const uint8_t *bank, uint32_t stored,
@@ -671,16 +804,34 @@ static uint32_t post_near_records(const struct made *made)
     return address_near_records(made);
 }
 
+/* Right in front of an area that is only written, where that can be posted at, or now
+ * and then in one; false if the search finds neither. */
+static bool post_near_write_only(const struct made *made, uint32_t *address)
+{
+    bool found = false;
+    for (int tries = 0; tries < 12 && !found; tries++) {
+        const struct made_area *area = &made->areas[below(made->areas_n)];
+        bool in_front = made_has_access(made, area->first - 1, 1);
+        found = area->access == 2 && chance(in_front ? 90 : 6);
+        *address = in_front && chance(90) ? area->first - 1
+                                          : area->first + below(area->last - area->first + 1);
+    }
+    return found;
+}
+
 /* An address to post at: mostly in an access 1 area, if the sheet has one. */
 static uint32_t post_address(const struct made *made)
 {
     const struct made_area *area = &made->areas[below(made->areas_n)];
+    uint32_t address;
     for (int tries = 0; tries < 6 && area->access != 1; tries++)
         area = &made->areas[below(made->areas_n)];
     if (made->records.is && chance(50))
         return post_near_records(made);
+    if (chance(70) && post_near_write_only(made, &address))
+        return address;
     if (chance(40))
-        return area_with_neighbour(made, 1)->last;
+        return area_with_neighbour(made, false)->last;
     if (chance(8))
         return some_address(made) + ONE_OF(0x10000, 0xFFFF0000, 0x80000000);
     if (chance(10))
@@ -691,11 +842,11 @@ static uint32_t post_address(const struct made *made)
 static uint32_t post_count(const struct made *made, uint32_t address)
 {
     uint32_t run = 0;
-    int area = made_area_of(made, address);
-    while (area >= 0 && made->areas[area].access == 1)
-        area = made_area_of(made, address + ++run);
-    if (run > 0 && made_is_record(made, address + run) && chance(60))
-        return run + 1 + below(2);
+    while (made_has_access(made, address + run, 1))
+        run++;
+    bool into = made_is_record(made, address + run) || made_has_access(made, address + run, 2);
+    if (run > 0 && into && chance(92))
+        return chance(made_is_record(made, address + run) ? 85 : 50) ? run + 1 + below(2) : run;
     switch (below(8)) {
     case 0: return run;
     case 1: return run + 1;
@@ -712,7 +863,7 @@ size_t make_post(const struct made *made, uint32_t *address, uint8_t *words)
     size_t n = 2 * (size_t)(count < 500 ? count : 1 + below(500));
     if (chance(5))
         n = 0;
-    else if (chance(12))
+    else if (chance(made_has_access(made, *address, 2) ? 30 : 12))
         n = n == 0 ? 1 : n - 1;
     noise_fill(words, n);
     return n;

@@ -20,6 +20,10 @@ enum damage {
  * are stored; its length is handed back. Most have the right check. */
 size_t make_frame(const struct made *made, const uint8_t *bank, uint32_t stored, uint8_t *frame);
 
+/* A frame for the bank's station about registers that are only written, or those
+ * beside them. 0 if the search finds none. */
+size_t make_preset_frame(const struct made *made, const uint8_t *bank, uint8_t *frame);
+
 /* A frame that passes: 4 to 100 bytes and the right check. */
 size_t make_passing_frame(const struct made *made, const uint8_t *bank, uint32_t stored,
                           uint8_t *frame);
@@ -30,13 +34,13 @@ size_t make_passing_frame(const struct made *made, const uint8_t *bank, uint32_t
 size_t make_end_write(const struct made *made, uint8_t *bank, uint8_t *frame);
 
 /* Parts of frames: an address at, inside or next to an area, or anywhere; how
- * many addresses from one on lie in areas, or in those open to writing; the
- * address of a place; the station that a bank has; function, start and a word
+ * many addresses from one on a write can have, or else a read; the address of a
+ * place; the station that a bank has; function, start and a word
  * behind the station; the right check behind n bytes. The last two hand back
  * the length then. some_record is a record's address, often that of the first,
  * the last, the last that is stored or the one behind it. */
 uint32_t some_address(const struct made *made);
-uint32_t run_length(const struct made *made, uint32_t start, bool open);
+uint32_t run_length(const struct made *made, uint32_t start, bool write);
 uint32_t address_of_place(const struct made *made, uint32_t place);
 uint8_t own_station(const struct made *made, const uint8_t *bank);
 size_t put_start(uint8_t *frame, uint32_t function, uint32_t start, uint32_t word);

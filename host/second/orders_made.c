@@ -200,7 +200,7 @@ static bool take_frame(const uint8_t *frame, size_t n, struct made_order *order)
 static void choose_record(const struct made *made, struct asked *asked)
 {
     bool at_record = made_is_record(made, asked->address);
-    if (asked->order != ORDER_READ || asked->number != 1 || chance(at_record ? 35 : 60))
+    if (asked->order != ORDER_READ || asked->number != 1 || chance(at_record ? 35 : 50))
         return;
     asked->order = ORDER_RECORD;
     asked->number = at_record ? made->records.words : ONE_OF(1, 1, 2, READ_MOST);

@@ -68,13 +68,13 @@ static bool runs_into_records(const struct call *call)
     return start < records.first && records.first < start + run_of(frame);
 }
 
-/* Whether some area lets a function have an address: a read any, a write one of
- * access 3. */
+/* Whether some area lets a function have an address: a read one of access 1 or 3, a
+ * write one of access 2 or 3. */
 static bool is_open(const uint8_t *sheet, uint8_t function, uint32_t address)
 {
     for (size_t row = 12; row < get16(sheet, 4); row += 4)
         if (get16(sheet, row) <= address && address <= get16(sheet, row + 1))
-            return function == 0x03 || get16(sheet, row + 3) == 3;
+            return get16(sheet, row + 3) != (function == 0x03 ? 2u : 1u);
     return false;
 }
 

@@ -35,6 +35,7 @@ static uint32_t sheet_word(const struct sheet *sheet, size_t index)
     return word_at(sheet->bytes, index);
 }
 
+static uint32_t version(const struct sheet *sheet) { return sheet_word(sheet, 0); }
 static uint32_t area_count(const struct sheet *sheet) { return sheet_word(sheet, 1); }
 static uint32_t item_count(const struct sheet *sheet) { return sheet_word(sheet, 3); }
 static uint32_t bank_words(const struct sheet *sheet) { return sheet_word(sheet, 5); }
@@ -71,6 +72,9 @@ static uint32_t area_access(const struct sheet *sheet, size_t area)
 {
     return area_word(sheet, area, 3);
 }
+
+/* rule S21: what may be done in an area. */
+enum { READ_ONLY = 1, WRITE_ONLY = 2, READ_AND_WRITE = 3 };
 
 static uint32_t area_length(const struct sheet *sheet, size_t area)
 {
@@ -204,7 +208,10 @@ static bool is_record_address(const struct sheet *sheet, uint32_t address)
 static bool keeps_header(const struct sheet *sheet) { return sheet->n >= 24; }
 
 /* rule S0 */
-static bool keeps_version(const struct sheet *sheet) { return sheet_word(sheet, 0) == 1; }
+static bool keeps_version(const struct sheet *sheet)
+{
+    return version(sheet) == 1 || version(sheet) == 2;
+}
 
 /* rule S1 */
 static bool keeps_areas(const struct sheet *sheet)
@@ -258,7 +265,7 @@ static bool keeps_byte_length(const struct sheet *sheet)
 static bool keeps_access(const struct sheet *sheet)
 {
     for (size_t area = 0; area < area_count(sheet); area++)
-        if (area_access(sheet, area) != 1 && area_access(sheet, area) != 3)
+        if (area_access(sheet, area) < READ_ONLY || area_access(sheet, area) > READ_AND_WRITE)
             return false;
     return true;
 }
@@ -334,6 +341,15 @@ static bool keeps_clear_zero(const struct sheet *sheet)
     return clear_allowed(sheet) || clear_address(sheet) == 0;
 }
 
+/* rule S30; a sheet of version 2 need not have such an area. */
+static bool keeps_write_only(const struct sheet *sheet)
+{
+    for (size_t area = 0; area < area_count(sheet); area++)
+        if (area_access(sheet, area) == WRITE_ONLY && version(sheet) != 2)
+            return false;
+    return true;
+}
+
 /* ---- The rules of the item rows ---- */
 
 /* rule S41 */
@@ -385,11 +401,17 @@ static uint32_t times_covered(const struct sheet *sheet, uint32_t place)
     return times;
 }
 
-/* Rule S47: whether the places of access 3 areas are each covered least to most times. */
+/* Whether the places of an area are those of items: of one that can be written. */
+static bool area_has_items(const struct sheet *sheet, size_t area)
+{
+    return area_access(sheet, area) == WRITE_ONLY || area_access(sheet, area) == READ_AND_WRITE;
+}
+
+/* Rule S47: whether the places of such areas are each covered least to most times. */
 static bool covered_between(const struct sheet *sheet, uint32_t least, uint32_t most)
 {
     for (size_t area = 0; area < area_count(sheet); area++)
-        for (uint32_t i = 0; area_access(sheet, area) == 3 && i < area_length(sheet, area); i++) {
+        for (uint32_t i = 0; area_has_items(sheet, area) && i < area_length(sheet, area); i++) {
             uint32_t times = times_covered(sheet, area_place(sheet, area) + i);
             if (times < least || most < times)
                 return false;
@@ -397,8 +419,8 @@ static bool covered_between(const struct sheet *sheet, uint32_t least, uint32_t 
     return true;
 }
 
-/* rule S47: no place of an access 3 area is left out, and none is covered
- * twice. */
+/* rule S47: no place of an area that can be written is left out, and none is
+ * covered twice. */
 static bool keeps_none_missing(const struct sheet *sheet)
 {
     return covered_between(sheet, 1, UINT32_MAX);
@@ -409,20 +431,20 @@ static bool keeps_none_twice(const struct sheet *sheet)
     return covered_between(sheet, 0, 1);
 }
 
-static bool place_is_access_3(const struct sheet *sheet, uint32_t place)
+static bool place_has_item(const struct sheet *sheet, uint32_t place)
 {
     size_t area = area_of_place(sheet, place);
-    return area < area_count(sheet) && area_access(sheet, area) == 3;
+    return area < area_count(sheet) && area_has_items(sheet, area);
 }
 
-/* rule S47, of places outside of access 3 areas */
+/* rule S47, of places outside of areas that can be written */
 static bool keeps_no_other(const struct sheet *sheet)
 {
     for (size_t item = 0; item < item_count(sheet); item++) {
         uint32_t place = item_place(sheet, item);
-        if (!place_is_access_3(sheet, place))
+        if (!place_has_item(sheet, place))
             return false;
-        if (item_is_pair(sheet, item) && !place_is_access_3(sheet, place + 1))
+        if (item_is_pair(sheet, item) && !place_has_item(sheet, place + 1))
             return false;
     }
     return true;
@@ -567,7 +589,7 @@ static const struct rule rules[RULE_COUNT] = {
     [RULE_LENGTH_WORD] = { "length word", keeps_length_word },
     [RULE_WORD_11] = { "word 11 zero or one", keeps_word_11 },
     [RULE_BYTE_LENGTH] = { "byte length", keeps_byte_length },
-    [RULE_ACCESS] = { "access 1 or 3", keeps_access },
+    [RULE_ACCESS] = { "access 1, 2 or 3", keeps_access },
     [RULE_FIRST_ABOVE_LAST] = { "first not above last", keeps_first_last },
     [RULE_AREAS_ASCEND] = { "areas ascend", keeps_areas_ascend },
     [RULE_AREAS_SHARE] = { "areas share no address", keeps_areas_apart },
@@ -575,6 +597,7 @@ static const struct rule rules[RULE_COUNT] = {
     [RULE_LENGTHS_SUM] = { "lengths sum to B", keeps_lengths_sum },
     [RULE_CLEAR_IN_AREA] = { "clear address in no area", keeps_clear_apart },
     [RULE_CLEAR_NOT_ZERO] = { "word 10 zero without 05", keeps_clear_zero },
+    [RULE_WRITE_ONLY] = { "access 2 only in version 2", keeps_write_only },
     [RULE_KIND] = { "kind 0 to 2", keeps_kind },
     [RULE_LOW_FIRST_WORD] = { "first word of low is 0", keeps_low_first_word },
     [RULE_HIGH_FIRST_WORD] = { "first word of high is 0", keeps_high_first_word },
@@ -826,7 +849,7 @@ static uint32_t place_of(const struct sheet *sheet, uint32_t address)
 static bool posted_addresses_good(const struct sheet *sheet, uint32_t address, size_t count)
 {
     for (size_t i = 0; i < count; i++)
-        if (!address_has_access(sheet, (uint64_t)address + i, 1))
+        if (!address_has_access(sheet, (uint64_t)address + i, READ_ONLY))
             return false;
     return true;
 }
@@ -1033,8 +1056,10 @@ static enum second_step step_6_address(const struct query *query, uint32_t addre
         return STEP_6_RECORD;
     if (area_of_address(&query->sheet, address) == area_count(&query->sheet))
         return STEP_6_NO_AREA;
-    if (is_write(query) && address_has_access(&query->sheet, address, 1))
+    if (is_write(query) && address_has_access(&query->sheet, address, READ_ONLY))
         return STEP_6_READ_ONLY;
+    if (!is_write(query) && address_has_access(&query->sheet, address, WRITE_ONLY))
+        return STEP_6_WRITE_ONLY;
     return GOES_ON;
 }
 
@@ -1179,7 +1204,7 @@ static uint8_t error_of(enum second_step step)
     switch (step) {
     case STEP_3_FUNCTION:
         return 1;
-    case STEP_6_ABOVE_FFFF: case STEP_6_NO_AREA: case STEP_6_READ_ONLY:
+    case STEP_6_ABOVE_FFFF: case STEP_6_NO_AREA: case STEP_6_READ_ONLY: case STEP_6_WRITE_ONLY:
     case STEP_6_OVER_47: case STEP_6_NOT_CLEAR: case STEP_6_RECORD: case STEP_6_NOT_STORED:
         return 2;
     case STEP_5_READ_COUNT_0: case STEP_5_WRITE_COUNT_0: case STEP_5_BYTE_COUNT:
@@ -1315,6 +1340,7 @@ static const char *const step_names[STEP_COUNT] = {
     [STEP_6_ABOVE_FFFF] = "6 above FFFF",
     [STEP_6_NO_AREA] = "6 in no area",
     [STEP_6_READ_ONLY] = "6 write to access 1",
+    [STEP_6_WRITE_ONLY] = "6 read of access 2",
     [STEP_6_OVER_47] = "6 count over 47",
     [STEP_6_NOT_CLEAR] = "6 not the clear address",
     [STEP_6_RECORD] = "6 run into records, or a write",
@@ -1397,14 +1423,23 @@ static uint32_t addresses_of(const struct query *query)
     return function == READ || function == WRITE_MANY ? count_or_value_of(query) : 1;
 }
 
-/* Whether a read may have an address: one of an area, rule J60, or the address of
- * a stored record, rule J66, if that is where the read starts. */
+/* Whether a read may have an address: one of an area that can be read, by
+ * rules J60 and J61, or the address of a stored record, rule J66, if that is where
+ * the read starts. */
 static bool is_open_to_read(const struct query *query, uint32_t address)
 {
     const struct sheet *sheet = &query->sheet;
     if (address == start_of(query) && is_record_address(sheet, address))
         return address - records_first(sheet) < ring_stored(query->ring);
-    return area_of_address(sheet, address) < area_count(sheet);
+    return address_has_access(sheet, address, READ_ONLY)
+        || address_has_access(sheet, address, READ_AND_WRITE);
+}
+
+/* Whether a write may: rules J60 and J61. */
+static bool is_open_to_write(const struct query *query, uint32_t address)
+{
+    return address_has_access(&query->sheet, address, WRITE_ONLY)
+        || address_has_access(&query->sheet, address, READ_AND_WRITE);
 }
 
 /* Whether the function may be used at an address. No area has an address above
@@ -1414,7 +1449,7 @@ static bool is_open(const struct query *query, uint32_t address)
     switch (function_of(query)) {
     case READ: return is_open_to_read(query, address);
     case CLEAR: return address == clear_address(&query->sheet);
-    default: return address_has_access(&query->sheet, address, 3);
+    default: return is_open_to_write(query, address);
     }
 }
 

@@ -12,8 +12,10 @@
  * - a rate range that does not hold 1 is not 0 to 1 either.
  * Parts of other rules cannot be broken alone either: 0 areas (B would be 0),
  * 0 or 1 items (address and rate need two), B of 0 or 1 (two items need two
- * places), an address range of 0 alone (it is not within 1 to F7). Those are
- * met among the poked and the random sheets. */
+ * places), an address range of 0 alone (it is not within 1 to F7), another version
+ * than 1 and 2 with access 2 (which is for version 2), an access that is none in an
+ * area of items (which are in no other). Those are met among the poked and the random
+ * sheets. */
 #include "noise.h"
 #include "sheets_made.h"
 
@@ -33,7 +35,7 @@ static void cut_header(uint8_t *bytes, size_t *n)
 static void break_version(uint8_t *bytes, size_t *n)
 {
     (void)n;
-    put16(bytes, 0, ONE_OF(0, 2, 3, 0x0100, 0x0101, 0x8001, 0xFFFF));
+    put16(bytes, 0, ONE_OF(0, 0, 0, 0, 3, 3, 3, 4, 0x0101, 0x0102, 0x0200, 0x8002));
 }
 
 static struct made_area *last_area(struct made *made)
@@ -133,7 +135,8 @@ static struct made_area *some_area(struct made *made)
 
 static void break_access(struct made *made)
 {
-    some_area(made)->access = ONE_OF(0, 2, 4, 5, 7, 0x0100, 0x0101, 0x0103, 0x0300, 0xFFFF);
+    some_area(made)->access = ONE_OF(0, 0, 0, 4, 4, 4, 5, 6, 7, 0x0101, 0x0102, 0x0103, 0x0200,
+                                     0x0300, 0xFFFF);
 }
 
 /* An area with first one above last has no address and no place, so that no
@@ -150,7 +153,7 @@ static void insert_empty_area(struct made *made)
     made->areas[at].first = first;
     made->areas[at].last = first - 1 - below(first < 3 ? 1 : 3);
     made->areas[at].place = place;
-    made->areas[at].access = ONE_OF(1, 3);
+    made->areas[at].access = ONE_OF(1, made->version == 2 ? 2 : 3, 3);
     made->areas_n++;
 }
 
@@ -210,6 +213,15 @@ static void break_clear_zero(struct made *made)
 {
     made->functions &= 13;
     made->clear = ONE_OF(1, 0x0300, 0x0100, 0x8000, 0xFFFF, some_area(made)->first);
+}
+
+/* Areas that are only written, in the version that does not know them. */
+static void break_write_only(struct made *made)
+{
+    struct made_area *area = some_area(made);
+    made->version = 1;
+    if (area->access == 3)
+        area->access = 2;
 }
 
 /* ---- Item rows ---- */
@@ -320,7 +332,7 @@ static void cover_other(struct made *made)
 {
     const struct made_area *area = some_area(made);
     uint32_t place = area->place + below(length_of(area));
-    if (area->access == 3)
+    if (area->access != 1)
         place = made->bank_words + ONE_OF(0, 1, 2, 0x1000);
     insert_item(made, below(3), place);
 }
@@ -330,10 +342,15 @@ static uint32_t item_end(const struct made_item *item)
     return item->place + (item->kind == 2 ? 2 : 1);
 }
 
-/* The last word of an area and the first of the next become one pair. */
+/* The last word of an area and the first of the next become one pair. In version 2
+ * these two are often only written. */
 static void join_over_areas(struct made *made)
 {
     uint32_t at = below(made->areas_n);
+    if (made->version == 2 && chance(30) && at > 0)
+        for (uint32_t i = at - 1; i <= at; i++)
+            if (made->areas[i].access == 3)
+                made->areas[i].access = 2;
     uint32_t edge = made->areas[at].place;
     for (uint32_t i = 1; i < made->items_n; i++) {
         struct made_item *before = &made->items[i - 1];
@@ -526,6 +543,7 @@ static const struct breaker breakers[RULE_COUNT] = {
     [RULE_LENGTHS_SUM] = { break_sum, NULL },
     [RULE_CLEAR_IN_AREA] = { break_clear_apart, NULL },
     [RULE_CLEAR_NOT_ZERO] = { break_clear_zero, NULL },
+    [RULE_WRITE_ONLY] = { break_write_only, NULL },
     [RULE_KIND] = { break_kind, NULL },
     [RULE_LOW_FIRST_WORD] = { NULL, break_low_word },
     [RULE_HIGH_FIRST_WORD] = { NULL, break_high_word },
@@ -561,16 +579,21 @@ static bool is_broken_so(enum second_rule rule, const uint8_t *bytes, size_t n)
     return second_broken_rule(bytes, n) == rule;
 }
 
+void make_changed(enum second_rule rule, struct made *made, uint8_t *bytes, size_t *n)
+{
+    make_sound(made);
+    struct made broken = *made;
+    if (breakers[rule].on_made != NULL)
+        breakers[rule].on_made(&broken);
+    *n = put_sheet(&broken, bytes);
+    if (breakers[rule].on_bytes != NULL)
+        breakers[rule].on_bytes(bytes, n);
+}
+
 bool make_broken(enum second_rule rule, struct made *made, uint8_t *bytes, size_t *n)
 {
     for (int tries = 0; tries < 2000; tries++) {
-        make_sound(made);
-        struct made broken = *made;
-        if (breakers[rule].on_made != NULL)
-            breakers[rule].on_made(&broken);
-        *n = put_sheet(&broken, bytes);
-        if (breakers[rule].on_bytes != NULL)
-            breakers[rule].on_bytes(bytes, n);
+        make_changed(rule, made, bytes, n);
         if (is_broken_so(rule, bytes, *n))
             return true;
     }

@@ -40,6 +40,17 @@ bool made_is_record(const struct made *made, uint32_t address)
     return records->is && records->first <= address && address - records->first < records->count;
 }
 
+bool made_has_access(const struct made *made, uint32_t address, uint32_t access)
+{
+    int area = made_area_of(made, address);
+    return area >= 0 && made->areas[area].access == access;
+}
+
+bool made_is_open(const struct made *made, uint32_t address, bool write)
+{
+    return made_area_of(made, address) >= 0 && !made_has_access(made, address, write ? 1 : 2);
+}
+
 /* ---- Values ---- */
 
 int64_t kind_least(uint32_t kind)
@@ -108,7 +119,7 @@ static void make_bounds(struct made_item *item)
         other = clamp(item->kind, one + between(0, 9));
     item->low = one < other ? one : other;
     item->high = one < other ? other : one;
-    if (chance(5)) {
+    if (chance(item->kind == 2 ? 16 : 5)) {
         item->low = kind_least(item->kind);
         item->high = kind_most(item->kind);
     }
@@ -151,28 +162,39 @@ static void fill_area(struct made *made, const struct made_area *area, uint32_t 
 static void fill_areas(struct made *made, uint32_t pairs)
 {
     for (uint32_t i = 0; i < made->areas_n; i++)
-        if (made->areas[i].access == 3)
+        if (made->areas[i].access != 1)
             fill_area(made, &made->areas[i], pairs);
 }
 
 /* ---- Addresses ---- */
 
-static uint32_t some_gap(void)
+static bool has_write_only(const struct made *made)
 {
-    if (chance(55))
+    for (uint32_t i = 0; i < made->areas_n; i++)
+        if (made->areas[i].access == 2)
+            return true;
+    return false;
+}
+
+/* None in so many of a hundred. */
+static uint32_t some_gap(uint32_t none)
+{
+    if (chance(none))
         return 0;
     if (chance(70))
         return (uint32_t)between(1, 4);
     return chance(80) ? below(300) : below(7000);
 }
 
+/* Where there are areas of access 2, what is right beside them matters most. */
 static uint32_t lay_with_gaps(struct made *made)
 {
     uint32_t next = 0;
+    uint32_t none = has_write_only(made) ? 85 : 55;
     for (uint32_t i = 0; i < made->areas_n; i++) {
         uint32_t length = made->areas[i].last - made->areas[i].first + 1;
         if (i > 0)
-            next += some_gap();
+            next += some_gap(none);
         made->areas[i].first = next;
         made->areas[i].last = next + length - 1;
         next += length;
@@ -251,7 +273,7 @@ static uint32_t some_clear(const struct made *made)
 
 static void choose_functions(struct made *made)
 {
-    made->functions = chance(75) ? 15 : below(16);
+    made->functions = chance(72) ? 15 : below(16);
     made->clear = 0;
     if ((made->functions & 2) == 0)
         return;
@@ -293,6 +315,9 @@ static uint32_t some_record_words(uint32_t count)
 uint32_t some_records_first(const struct made *made, uint32_t count)
 {
     const struct made_area *area = &made->areas[below(made->areas_n)];
+    bool beside = made_area_of(made, area->last + 1) >= 0;
+    if (area->access == 2 || beside)    /* rather one to read from into the records */
+        area = &made->areas[chance(50) ? below(made->areas_n) : made->areas_n - 1];
     switch (below(14)) {
     case 0: return 0;
     case 1: return 0x10000 - count;
@@ -346,6 +371,16 @@ static void shape_middle(struct made *made)
     for (uint32_t i = 0; i < areas; i++)
         add_area(made, 1 + below(20), chance(65) ? 3 : 1);
     fill_areas(made, 35);
+}
+
+/* Areas that are only written between such as can be read, now and then two of them
+ * one behind the other. */
+static void shape_mixed(struct made *made)
+{
+    uint32_t areas = 3 + below(4);
+    for (uint32_t i = 0; i < areas; i++)
+        add_area(made, 1 + below(4), i % 2 == 1 || chance(25) ? 2 : ONE_OF(1, 3));
+    fill_areas(made, 40);
 }
 
 /* Long runs for reading. */
@@ -414,6 +449,25 @@ static void shape_largest(struct made *made)
     fill_area(made, &made->areas[at + 1], 100);
 }
 
+/* ---- Versions ---- */
+
+/* Of the areas that can be written, none, some or all can no more be read. The items
+ * stay as they are. */
+static void close_to_reads(struct made *made)
+{
+    uint32_t percent = ONE_OF(20, 50, 50, 80, 100);
+    for (uint32_t i = 0; i < made->areas_n; i++)
+        if (made->areas[i].access == 3 && chance(percent))
+            made->areas[i].access = 2;
+}
+
+static void choose_version(struct made *made)
+{
+    made->version = has_write_only(made) || chance(55) ? 2 : 1;
+    if (made->version == 2 && !has_write_only(made) && chance(80))
+        close_to_reads(made);
+}
+
 static bool made_is_sound(const struct made *made)
 {
     return made->items_n >= 2 && made->items_n <= 64
@@ -423,14 +477,15 @@ static bool made_is_sound(const struct made *made)
 static bool try_shape(struct made *made)
 {
     static void (*const shapes[])(struct made *) = {
-        shape_small, shape_small, shape_small, shape_middle, shape_middle, shape_long_read,
-        shape_long_read, shape_long_write, shape_long_write, shape_least, shape_one_area,
-        shape_largest
+        shape_small, shape_small, shape_small, shape_middle, shape_middle, shape_mixed,
+        shape_mixed, shape_mixed, shape_long_read, shape_long_read, shape_long_read,
+        shape_long_write, shape_long_write, shape_least, shape_one_area, shape_largest
     };
     memset(made, 0, sizeof *made);
     shapes[below(sizeof shapes / sizeof shapes[0])](made);
     if (!made_is_sound(made) || !choose_address_and_rate(made))
         return false;
+    choose_version(made);
     lay_addresses(made);
     choose_functions(made);
     return true;
@@ -468,44 +523,76 @@ static const struct map_item as_items[] = {
     { 0x0124, 0, 0, 0x03E8 }
 };
 
+/* What AS-WE of bore 40 has more; the pairs have all numbers of two words. */
+static const struct map_area preset_area = { 0x0118, 0x011E, 2 };
+
+static const struct map_item preset_items[] = {
+    { 0x0118, 0, 0, 9 }, { 0x0119, 0, 0, 0x270F }, { 0x011A, 0, 0, 0x270F },
+    { 0x011B, 2, 0, INT64_C(0xFFFFFFFF) }, { 0x011D, 2, 0, INT64_C(0xFFFFFFFF) }
+};
+
 static uint32_t map_place(const struct made *made, uint32_t address)
 {
     const struct made_area *area = &made->areas[made_area_of(made, address)];
     return area->place + (address - area->first);
 }
 
-static void put_map(struct made *made, const struct map_area *areas, uint32_t areas_n,
-                    const struct map_item *items, uint32_t items_n)
+static void put_map_areas(struct made *made, const struct map_area *areas, uint32_t n)
 {
-    memset(made, 0, sizeof *made);
-    for (uint32_t i = 0; i < areas_n; i++) {
-        add_area(made, areas[i].last - areas[i].first + 1, areas[i].access);
-        made->areas[i].first = areas[i].first;
-        made->areas[i].last = areas[i].last;
+    for (; n > 0; areas++, n--) {
+        add_area(made, areas->last - areas->first + 1, areas->access);
+        made->areas[made->areas_n - 1].first = areas->first;
+        made->areas[made->areas_n - 1].last = areas->last;
     }
-    for (uint32_t i = 0; i < items_n; i++) {
-        add_item(made, items[i].kind, map_place(made, items[i].address));
-        made->items[i].low = items[i].low;
-        made->items[i].high = items[i].high;
+}
+
+static void put_map_items(struct made *made, const struct map_item *items, uint32_t n)
+{
+    for (; n > 0; items++, n--) {
+        add_item(made, items->kind, map_place(made, items->address));
+        made->items[made->items_n - 1].low = items->low;
+        made->items[made->items_n - 1].high = items->high;
     }
 }
 
 void make_ux(struct made *made)
 {
-    put_map(made, ux_areas, 2, ux_items, 18);
+    memset(made, 0, sizeof *made);
+    put_map_areas(made, ux_areas, 2);
+    put_map_items(made, ux_items, 18);
+    made->version = 1;
     made->functions = 15;
     made->clear = 0x0300;
     made->rate_place = map_place(made, 0x010D);
     made->address_place = map_place(made, 0x010E);
 }
 
-void make_as_we(struct made *made, uint32_t bore)
+static void put_as_we(struct made *made, uint32_t bore, bool presets)
 {
-    put_map(made, as_areas, 5, as_items, 22);
+    memset(made, 0, sizeof *made);
+    put_map_areas(made, as_areas, 3);
+    if (presets)
+        put_map_areas(made, &preset_area, 1);
+    put_map_areas(made, as_areas + 3, 2);
+    put_map_items(made, as_items, 20);
+    if (presets)
+        put_map_items(made, preset_items, 5);
+    put_map_items(made, as_items + 20, 2);
     made->items[10].high = bore == 40 ? 0x10 : bore == 50 ? 0x1E : 0x3C;
+    made->version = presets ? 2 : 1;
     made->functions = 13;
     made->rate_place = map_place(made, 0x0107);
     made->address_place = map_place(made, 0x0108);
+}
+
+void make_as_we(struct made *made, uint32_t bore)
+{
+    put_as_we(made, bore, bore == 40);
+}
+
+void make_plain_as_we_40(struct made *made)
+{
+    put_as_we(made, 40, false);
 }
 
 /* The record area of the makers' newer meters, on AS-WE's map. */
@@ -519,18 +606,20 @@ static void add_history(struct made *made)
 
 void make_sound(struct made *made)
 {
-    uint32_t sort = below(10);
-    if (sort == 0) {
+    uint32_t sort = below(100);
+    if (sort < 9) {
         make_ux(made);
-    } else if (sort == 1) {
-        make_as_we(made, ONE_OF(40, 50, 80));
+    } else if (sort < 18) {
+        make_as_we(made, ONE_OF(40, 40, 50, 80));
+    } else if (sort < 20) {
+        make_plain_as_we_40(made);
     } else {
         while (!try_shape(made))
             ;
     }
-    if (sort == 1 && chance(6))
+    if (9 <= sort && sort < 20 && chance(6))
         add_history(made);
-    else if (chance(58))
+    else if (chance(65))
         add_records(made);
 }
 
@@ -545,8 +634,8 @@ static void put_bound(const struct made_item *item, uint8_t *words, int64_t boun
 static void put_header(const struct made *made, uint8_t *bytes)
 {
     const uint32_t header[12] = {
-        1, made->areas_n, 12, made->items_n, 12 + 4 * made->areas_n, made->bank_words,
-        made->functions,
+        made->version, made->areas_n, 12, made->items_n, 12 + 4 * made->areas_n,
+        made->bank_words, made->functions,
         12 + 4 * made->areas_n + 6 * made->items_n + (made->records.is ? 3 : 0),
         made->address_place, made->rate_place, made->clear, made->records.is ? 1 : 0
     };
@@ -601,6 +690,8 @@ bool spoil_item(const struct made *made, uint8_t *bank)
 {
     const struct made_item *item = &made->items[below(made->items_n)];
     int64_t value;
+    for (int tries = 0; tries < 6 && item->kind != 2 && chance(75); tries++)
+        item = &made->items[below(made->items_n)];
     if (!value_outside(item, &value))
         return false;
     put_value(item, bank, value);

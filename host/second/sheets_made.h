@@ -33,13 +33,15 @@ struct made_records {
 /* A sheet before it is put into words; one area and a few items more than 01
  * allows, so that those limits can be broken. */
 struct made {
+    uint32_t version;
     uint32_t areas_n, items_n, bank_words, functions, address_place, rate_place, clear;
     struct made_records records;
     struct made_area areas[10];
     struct made_item items[70];
 };
 
-/* A sound sheet of some shape, often with a record area. */
+/* A sound sheet of some shape, often with a record area, and of version 2 often with
+ * areas that are only written. */
 void make_sound(struct made *made);
 
 /* Where a record area of so many records could begin: next to an area or the
@@ -47,9 +49,11 @@ void make_sound(struct made *made);
 uint32_t some_records_first(const struct made *made, uint32_t count);
 
 /* The two makers' maps; the high bound of 0109 of AS-WE goes by the bore,
- * as rule M22 has it. */
+ * as rule M22 has it, and bore 40 alone has the presets of its totals. The last is
+ * that of bore 40 as it was before it had them. */
 void make_ux(struct made *made);
 void make_as_we(struct made *made, uint32_t bore);
+void make_plain_as_we_40(struct made *made);
 
 /* The sheet in bytes; the number of bytes is handed back. */
 size_t put_sheet(const struct made *made, uint8_t *bytes);
@@ -58,22 +62,29 @@ size_t put_sheet(const struct made *made, uint8_t *bytes);
  * made from is left in made. False if none was found. */
 bool make_broken(enum second_rule rule, struct made *made, uint8_t *bytes, size_t *n);
 
+/* A sound sheet with one thing changed that can break this rule; whether it does is
+ * not asked of what is compared. The sound one is left in made. */
+void make_changed(enum second_rule rule, struct made *made, uint8_t *bytes, size_t *n);
+
 /* Whether a sheet can break the rule and no other. */
 bool can_break_alone(enum second_rule rule);
 
 /* A sound bank with noise in the read-only words. */
 void make_bank(const struct made *made, uint8_t *bank);
 
-/* Puts one item just outside one of its bounds; false if its range is all that
- * its words can hold on that side. */
+/* Puts one item, rather a pair, just outside one of its bounds; false if its range is
+ * all that its words can hold on that side. */
 bool spoil_item(const struct made *made, uint8_t *bank);
 
 /* The area or item that an address or place lies in, -1 if in none. */
 int made_area_of(const struct made *made, uint32_t address);
 int made_item_of(const struct made *made, uint32_t place);
 
-/* Whether an address is a record's. */
+/* Whether an address is a record's; whether it is in an area of this access, and
+ * whether in one that a write, or else a read, can have. */
 bool made_is_record(const struct made *made, uint32_t address);
+bool made_has_access(const struct made *made, uint32_t address, uint32_t access);
+bool made_is_open(const struct made *made, uint32_t address, bool write);
 
 /* The least and the largest value that the words of a kind can hold. */
 int64_t kind_least(uint32_t kind);
