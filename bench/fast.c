@@ -107,8 +107,8 @@ static inline int records_sound(const struct records *records)
 /* The access of an area as two bits: 1 where it can be read, 2 where it can be written. */
 enum { READABLE = 1, WRITABLE = 2 };
 
-/* Write only, 2, is open to version 2 alone, so that the version itself is an access that may be; the others take one
- * comparison. */
+/* Access 1 and 3 take one comparison. Access 2 is for version 2 alone, so it is right where it is the version itself; in
+ * version 1 that adds nothing. */
 static inline int access_sound(uint32_t access, uint32_t version)
 {
     return (access | WRITABLE) == (READABLE | WRITABLE) || access == version;

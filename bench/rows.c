@@ -240,7 +240,7 @@ static void use_sheet(struct row *row, void (*make)(struct made *, uint32_t), ui
     row->bank_n = 2 * (size_t)made.places + 2;
 }
 
-static void use_made(struct row *row, const uint8_t *sheet, size_t sheet_n, size_t bank_n)
+static void use_makers(struct row *row, const uint8_t *sheet, size_t sheet_n, size_t bank_n)
 {
     memcpy(row->sheet, sheet, sheet_n);
     row->sheet_n = sheet_n;
@@ -249,13 +249,13 @@ static void use_made(struct row *row, const uint8_t *sheet, size_t sheet_n, size
 
 static void use_ux(struct row *row)
 {
-    use_made(row, cedarskein_ux_sheet, sizeof cedarskein_ux_sheet, CEDARSKEIN_UX_BANK_SIZE);
+    use_makers(row, cedarskein_ux_sheet, sizeof cedarskein_ux_sheet, CEDARSKEIN_UX_BANK_SIZE);
 }
 
 /* The sheet of version 2, whose presets from 0118 on are only written. */
 static void use_presets(struct row *row)
 {
-    use_made(row, cedarskein_aswe_40_sheet, sizeof cedarskein_aswe_40_sheet, CEDARSKEIN_ASWE_40_BANK_SIZE);
+    use_makers(row, cedarskein_aswe_40_sheet, sizeof cedarskein_aswe_40_sheet, CEDARSKEIN_ASWE_40_BANK_SIZE);
 }
 
 /* The UX sheet with records at 0400, and its ring, full: the newest record lies in the middle. */
@@ -527,5 +527,9 @@ int row_make(struct row *row, const char *name)
         row->called = WHY;
         row->missed_side = UNTOLD_SIDE;
     }
-    return fast_bank_fresh(row->sheet, row->sheet_n, row->bank, row->bank_n) == CEDARSKEIN_DONE;
+    if (fast_bank_fresh(row->sheet, row->sheet_n, row->bank, row->bank_n) != CEDARSKEIN_DONE)
+        return 0;
+    if (row->called == BANK_FRESH)  /* what is to be made fresh is not so before */
+        memset(row->bank, 0xA5, row->bank_n);
+    return 1;
 }
