@@ -50,7 +50,8 @@ extern const char *const row_names[];   /* ends with NULL */
 
 const struct side *side_named(const char *name);
 
-/* Makes a row ready by its name: its bank fresh, its ring full, its answer buffer all zero. 0 if there is none of this name. */
+/* Makes a row ready by its name: its bank fresh, but where the call is to make it so, its ring full, its answer buffer all zero. 0 if there is
+ * none of this name. */
 int row_make(struct row *row, const char *name);
 
 void row_call(const struct side *side, struct row *row);
