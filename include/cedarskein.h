@@ -61,8 +61,12 @@
  *
  *   The firmware finds what was written in the bank, at the register's place. It looks after each frame that was answered
  *   with 0, error replies too, and takes over what it has not taken over yet. The bank shows the value and not the frame:
- *   whoever must notice the same value written twice compares the frame's addresses with the area's. To write the low bound
- *   back once a value is taken over is allowed, where no other task uses the bank meanwhile.
+ *   whoever must act on the same value written twice looks at the frame too. A write whose reply is no error stored all its
+ *   words, one with error 3 those ahead of the first bad item, and one with error 1 or 2 none.
+ *
+ *   Once a value is taken over, its low bound may be written back into the bank, where no other task uses the bank
+ *   meanwhile. These registers are among the bytes that must last: then write both copies (see "A power cut"), or a cut
+ *   brings the value back, and the firmware would take it over twice.
  *
  * The next station and the next rate
  *
@@ -182,7 +186,8 @@
  *     the query itself. Switch that echo off, or take it off what comes.
  *   - After no answer, or one that is refused, a write may have been carried out all the same. To ask again is safe: the
  *     same write, done twice, leaves what it left once. With error 3 a write may have stored what stands ahead of the first
- *     bad item.
+ *     bad item. A preset is another matter: a meter that takes it over at once takes it over twice, and loses what it
+ *     counted in between; and no read shows whether the first was carried out.
  *   - A write of the station or the rate is answered from the old station at the old rate. From then on the meter has the
  *     new ones, and at the old ones it is silent, to the same write too.
  *

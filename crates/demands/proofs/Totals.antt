@@ -106,31 +106,29 @@ module _ (bank ring : List ℕ) (bank-bytes : Bytes bank) where
     pub taken : TakenWithin given at v 2 0 0xFFFFFFFF value
     pub inside : Within 2 0 0xFFFFFFFF value
 
+  -- of either half of such a pair, with the other one as the bank has it
+  module _ (first place v : ℕ) (printed : AsPrinted given (preset (pair first 0x0 0xFFFFFFFF))) (small : v < 65536) where
+    upper-taken : WritableAt asweSheet (first + 1) (place + 1) → AlwaysTaken first v
+    upper-taken next =
+        record {
+          value = 65536 * v + word bank (2 * (place + 1));
+          taken = printed .ofUpper refl v (place + 1) small next;
+          inside = whole-range small (word-small bank bank-bytes (2 * (place + 1)));
+        }
+
+    lower-taken : WritableAt asweSheet first place → AlwaysTaken (first + 1) v
+    lower-taken front =
+        record {
+          value = 65536 * word bank (2 * place) + v;
+          taken = printed .ofLower refl v place small front;
+          inside = whole-range (word-small bank bank-bytes (2 * place)) small;
+        }
+
   half-taken : {at place : ℕ} (v : ℕ) → Half at place → v < 65536 → AlwaysTaken at v
-  half-taken v secondUpper small =
-      record {
-        value = 65536 * v + word bank 48;
-        taken = second-printed .ofUpper refl v 24 small (half-writable secondLower);
-        inside = whole-range small (word-small bank bank-bytes 48);
-      }
-  half-taken v secondLower small =
-      record {
-        value = 65536 * word bank 46 + v;
-        taken = second-printed .ofLower refl v 23 small (half-writable secondUpper);
-        inside = whole-range (word-small bank bank-bytes 46) small;
-      }
-  half-taken v reverseUpper small =
-      record {
-        value = 65536 * v + word bank 52;
-        taken = reverse-printed .ofUpper refl v 26 small (half-writable reverseLower);
-        inside = whole-range small (word-small bank bank-bytes 52);
-      }
-  half-taken v reverseLower small =
-      record {
-        value = 65536 * word bank 50 + v;
-        taken = reverse-printed .ofLower refl v 25 small (half-writable reverseUpper);
-        inside = whole-range (word-small bank bank-bytes 50) small;
-      }
+  half-taken v secondUpper small = upper-taken 0x011B 23 v second-printed small (half-writable secondLower)
+  half-taken v secondLower small = lower-taken 0x011B 23 v second-printed small (half-writable secondUpper)
+  half-taken v reverseUpper small = upper-taken 0x011D 25 v reverse-printed small (half-writable reverseLower)
+  half-taken v reverseLower small = lower-taken 0x011D 25 v reverse-printed small (half-writable reverseUpper)
 
   -- the address of such a 06
   half-address : {at place : ℕ} (v : ℕ) → Half at place → address (writeOne given at v) 0 ≡ at
