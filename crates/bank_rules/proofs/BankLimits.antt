@@ -72,6 +72,10 @@ withPresets = bytesOf (changed 0 sheetWords (at 0 2 ∷ presets))
 abbrev allPresets : List ℕ
 allPresets = bytesOf (changed 0 sheetWords (at 0 2 ∷ at 15 2 ∷ presets))
 
+-- and with the last area right behind 0025
+abbrev besidePresets : List ℕ
+besidePresets = bytesOf (changed 0 sheetWords (at 0 2 ∷ presets ++ (at 36 0x0026 ∷ at 37 0x0027 ∷ [])))
+
 abbrev presetsInVersionOne : List ℕ
 presetsInVersionOne = bytesOf (changed 0 sheetWords presets)
 
@@ -227,6 +231,9 @@ table =
     ∷ post withPresets (bank []) 0x0024 (0x12 ∷ 0x34 ∷ []) 0 (bank (at 9 0x1234 ∷ []))  -- up to it
     ∷ post withPresets (bank []) 0x0010 (0 ∷ 5 ∷ []) 6 (bank [])  -- access 3 beside it
     ∷ post presetsInVersionOne (bank []) 0x0024 (0x12 ∷ 0x34 ∷ []) 2 (bank [])
+    ∷ post withPresets (bank (at 10 0x000A ∷ [])) 0x0020 (1 ∷ 2 ∷ []) 4 (bank (at 10 0x000A ∷ []))  -- with a preset out of its range
+    ∷ post besidePresets (bank []) 0x0025 (1 ∷ 2 ∷ 3 ∷ 4 ∷ []) 6 (bank [])  -- from access 2 on into access 1
+    ∷ post besidePresets (bank []) 0x0026 (0x12 ∷ 0x34 ∷ []) 0 (bank (at 11 0x1234 ∷ []))  -- behind it
     ∷ check withRecord (bank []) 0  -- with a record in the gap
     ∷ post withRecord (bank []) 0x0023 (1 ∷ 2 ∷ []) 6 (bank [])  -- at the record
     ∷ post withRecord (bank []) 0x0022 (1 ∷ 2 ∷ 3 ∷ 4 ∷ []) 6 (bank [])  -- into it
@@ -250,6 +257,7 @@ table =
     ∷ set-mark sheet (bank []) 1 0 (bank [])
     ∷ set-mark sheet (bank []) 2 7 (bank [])
     ∷ set-mark withPresets (bank []) 0 0 (bank (at 13 0 ∷ []))
+    ∷ set-mark withPresets (bank (at 10 0x000A ∷ [])) 0 4 (bank (at 10 0x000A ∷ []))  -- with a preset out of its range
     ∷ set-mark sheet (bank []) 0x10000 7 (bank [])  -- a mark is not cut to sixteen bits
     ∷ set-mark broken (bank []) 2 2 (bank [])
     ∷ set-mark sheet (take 27 (bank [])) 2 3 (take 27 (bank []))

@@ -26,7 +26,7 @@ pub record Tells (before : List ℕ) (told : ReplyTold) (words : ℕ) : Type 0 w
   pub beyond : (k : ℕ) → 2 * words ≤ k → byte (told .buffer) k ≡ byte before k
 
 -- what is told of the reply to an order's query, by what the meter makes of it: its error code; for a read the bank's words at the addresses, each of which
--- has a place; for a record the record's words; for the others done
+-- can be read; for a record the record's words; for the others done
 pub data Heard (given : Lent) (frame before : List ℕ) (told : ReplyTold) : Order → Type 0 where
   erred : {order : Order} (code : ℕ) → Gets given frame (error code) → 1 ≤ code → code ≤ 3 → told ≡ replyTold 0 0 code before
       → Heard given frame before told order

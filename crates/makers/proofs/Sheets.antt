@@ -143,7 +143,8 @@ pub functions-printed : (functions (sheetOf ux) ∷ functions (sheetOf aswe40) �
 unfolding sheetOf wordAt
 functions-printed = refl
 
-pub clears-printed : (clearAddress (sheetOf ux) ∷ clearAddress (sheetOf aswe40) ∷ clearAddress (sheetOf (aswe bore50)) ∷ []) ≡ 0x0300 ∷ 0x0000 ∷ 0x0000 ∷ []
+pub clears-printed : (clearAddress (sheetOf ux) ∷ clearAddress (sheetOf aswe40) ∷ clearAddress (sheetOf (aswe bore50)) ∷ clearAddress (sheetOf (aswe bore80)) ∷ [])
+    ≡ 0x0300 ∷ 0x0000 ∷ 0x0000 ∷ 0x0000 ∷ []
 unfolding sheetOf wordAt
 clears-printed = refl
 
@@ -167,7 +168,7 @@ pub runs-cut : runsOf (plain 0x10 0 1 ∷ pair 0x11 0 1 ∷ preset (plain 0x13 0
 unfolding runsOf
 runs-cut = refl
 
--- the words of an item's row, each bound upper word first: the makers' bounds are low, these are not
+-- the words of an item's row, each bound upper word first: the makers' bounds are low, or the same in both words; these are not
 abbrev bounded : ℕ → ℕ → Item
 bounded low high = record { kind = 2; place = 7; low = low; high = high }
 

@@ -49,6 +49,13 @@ three = sheetOf 3 1
 abbrev broken : List ℕ
 broken = changedSheet 3 1 (at 0 3 ∷ [])
 
+-- it with all registers of access 2, in version 2 and in version 1
+abbrev hidden : List ℕ
+hidden = changedSheet 3 1 (at 0 2 ∷ at 15 2 ∷ [])
+
+abbrev hiddenEarly : List ℕ
+hiddenEarly = changedSheet 3 1 (at 15 2 ∷ [])
+
 abbrev twoAreas : List ℕ
 twoAreas = changedSheet 3 1 (at 11 2 ∷ [])
 
@@ -105,6 +112,8 @@ table =
     ∷ check (sheetOf 2 2) (ring 0 0 (0 ∷ 0 ∷ 0 ∷ [])) 8
     ∷ check (sheetOf 2 2) (ring 0 0 (0 ∷ 0 ∷ 0 ∷ 0 ∷ 0 ∷ [])) 8
     ∷ check (sheetOf 6600 47) empty 8  -- the largest area
+    ∷ check hidden empty 0  -- beside areas of access 2, in version 2
+    ∷ check hiddenEarly empty 2  -- in version 1
     -- no record area: 0 bytes
     ∷ check without [] 0
     ∷ check without (0 ∷ []) 8
@@ -141,6 +150,8 @@ table =
     ∷ check (sheetOf 3 48) [] 2  -- one more than there may be
     -- adding: to place 0 of an empty ring, else right behind the newest, and past the last place to 0 again, over the oldest
     ∷ adds empty (ring 0 1 (0x1234 ∷ 0xBBBB ∷ 0xCCCC ∷ []))
+    ∷ add hidden empty (0x12 ∷ 0x34 ∷ []) 0 (ring 0 1 (0x1234 ∷ 0xBBBB ∷ 0xCCCC ∷ []))  -- beside areas of access 2, in version 2
+    ∷ add hiddenEarly empty (0x12 ∷ 0x34 ∷ []) 2 empty  -- in version 1
     ∷ adds (ring 0 1 held) (ring 1 2 (0xAAAA ∷ 0x1234 ∷ 0xCCCC ∷ []))
     ∷ adds (ring 1 2 held) (ring 2 3 (0xAAAA ∷ 0xBBBB ∷ 0x1234 ∷ []))
     ∷ adds full (ring 0 3 (0x1234 ∷ 0xBBBB ∷ 0xCCCC ∷ []))

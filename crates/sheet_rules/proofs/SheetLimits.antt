@@ -218,7 +218,7 @@ table =
     ∷ broken-with base (at (access 2) 4 ∷ [])  -- 4
     ∷ broken-with base (at (access 2) 0x0101 ∷ [])  -- 0101
     ∷ broken-with base (at 0 2 ∷ at (access 2) 0 ∷ [])  -- 0, in version 2
-    ∷ broken-with base (at 0 2 ∷ at (access 1) 4 ∷ [])  -- 4, in version 2
+    ∷ broken-with base (at 0 2 ∷ at (access 2) 4 ∷ [])  -- 4, in version 2
     ∷ broken-with base (at 0 2 ∷ at (access 1) 0x0102 ∷ [])  -- 0102, in version 2
     -- access 2, in sheets of version 2 alone: areas 0 and 1 have items, and area 0 has the address and the rate
     ∷ broken-with base (at (access 1) 2 ∷ [])  -- area 1, in version 1
@@ -230,6 +230,10 @@ table =
     ∷ sound-with base (at 0 2 ∷ at (access 0) 2 ∷ at (access 1) 2 ∷ [])  -- both
     ∷ broken-with base (at (access 0) 2 ∷ at (access 1) 2 ∷ [])  -- both, in version 1
     ∷ sound-with (recorded 0x0400 6600 22) (at 0 2 ∷ at (access 1) 2 ∷ [])  -- with a record area
+    ∷ sound-with (recorded 0x0015 11 1) (at 0 2 ∷ at (access 1) 2 ∷ [])  -- which ends in front of area 1
+    ∷ broken-with (recorded 0x0015 12 1) (at 0 2 ∷ at (access 1) 2 ∷ [])  -- which shares its first address
+    ∷ sound-with (recorded 0x0022 1 1) (at 0 2 ∷ at (access 1) 2 ∷ [])  -- which begins behind it
+    ∷ broken-with (recorded 0x0021 1 1) (at 0 2 ∷ at (access 1) 2 ∷ [])  -- which shares its last address
     ∷ broken-with (recorded 0x0400 6600 22) (at (access 1) 2 ∷ [])  -- with a record area, in version 1
     -- first address and last address
     ∷ sound-with base (at (first 2) 0x0031 ∷ at 5 8 ∷ [])  -- equal
@@ -263,6 +267,10 @@ table =
     ∷ broken-with base (at 10 0x0030 ∷ [])  -- its first address
     ∷ broken-with base (at 10 0x0031 ∷ [])  -- its last address
     ∷ sound-with base (at 10 0x0032 ∷ [])  -- behind it
+    ∷ sound-with base (at 0 2 ∷ at (access 1) 2 ∷ at 10 0x001F ∷ [])  -- in front of area 1, of access 2
+    ∷ broken-with base (at 0 2 ∷ at (access 1) 2 ∷ at 10 0x0020 ∷ [])  -- its first address
+    ∷ broken-with base (at 0 2 ∷ at (access 1) 2 ∷ at 10 0x0021 ∷ [])  -- its last address
+    ∷ sound-with base (at 0 2 ∷ at (access 1) 2 ∷ at 10 0x0022 ∷ [])  -- behind it
     ∷ sound-with base (at 10 0x0000 ∷ [])  -- 0000, in no area
     ∷ sound-with base (at 10 0xFFFF ∷ [])  -- FFFF, in no area
     ∷ broken-with base (at (first 0) 0x0000 ∷ at (last 0) 0x0004 ∷ at 10 0 ∷ [])  -- 0000, in an area
@@ -316,6 +324,7 @@ table =
     ∷ sound-with base (at (lowUpper 3) 0x0000 ∷ at (low 3) 0x0000 ∷ at (highUpper 3) 0xFFFF ∷ at (high 3) 0xFFFF ∷ [])  -- all 32 bits
     -- items ascend
     ∷ broken-with base (at (place 4) 6 ∷ at (place 5) 5 ∷ [])  -- the last two changed about
+    ∷ broken-with base (at 0 2 ∷ at (access 1) 2 ∷ at (place 4) 6 ∷ at (place 5) 5 ∷ [])  -- within an area of access 2
     -- items cover each place of an access 3 area once
     ∷ broken-with (another 6) []  -- place 6 twice
     ∷ broken-with base (at (kind 2) 2 ∷ [])  -- place 3 twice, by two pairs
@@ -342,6 +351,9 @@ table =
     ∷ sound-with base (at 0 2 ∷ at (access 1) 2 ∷ at (last 0) 0x0012 ∷ at (first 1) 0x001E ∷ at (areaPlace 1) 3 ∷ [])  -- within area 1 of access 2
     ∷ broken-with base (at 0 2 ∷ at (access 1) 2 ∷ at (last 0) 0x0013 ∷ at (first 1) 0x0014 ∷ at (last 1) 0x0016 ∷ at (areaPlace 1) 4 ∷ [])  -- one in each, of access 3 and 2, which touch
     ∷ broken-with base (at 0 2 ∷ at (access 0) 2 ∷ at (access 1) 2 ∷ at (last 0) 0x0013 ∷ at (first 1) 0x0014 ∷ at (last 1) 0x0016 ∷ at (areaPlace 1) 4 ∷ [])  -- both of access 2
+    ∷ broken-with base (at 0 2 ∷ at (access 0) 2 ∷ at (last 0) 0x0013 ∷ at (first 1) 0x0014 ∷ at (last 1) 0x0016 ∷ at (areaPlace 1) 4 ∷ [])  -- of access 2 and 3, which touch
+    ∷ broken-with base (at 0 2 ∷ at (access 1) 2 ∷ at (last 0) 0x0013 ∷ at (first 1) 0x001F ∷ at (areaPlace 1) 4 ∷ [])  -- of access 3 and 2, with a gap
+    ∷ broken-with base (at 0 2 ∷ at (access 0) 2 ∷ at (access 1) 2 ∷ at (last 0) 0x0013 ∷ at (first 1) 0x001F ∷ at (areaPlace 1) 4 ∷ [])  -- both of access 2, with a gap
     -- address and rate at different places
     ∷ broken-with base (at 8 1 ∷ [])  -- both at the rate's
     ∷ broken-with base (at 9 0 ∷ at (low 0) 0 ∷ at (high 0) 1 ∷ [])  -- both at the address's

@@ -70,12 +70,10 @@ table =
     ∷ broken-with (at 15 1 ∷ [])
     ∷ broken-with (at 15 4 ∷ [])
     ∷ broken-with (at 0 2 ∷ at 15 0 ∷ [])
-    ∷ broken-with (at 0 2 ∷ at 15 1 ∷ [])
     ∷ broken-with (at 0 2 ∷ at 15 4 ∷ [])
     -- rule S30
     ∷ broken-with (at 15 2 ∷ [])
     ∷ sound-with (at 0 2 ∷ at 15 2 ∷ [])
-    ∷ broken-with (at 0 3 ∷ at 15 2 ∷ [])
     -- rule S41
     ∷ sound-with (at 28 0 ∷ at 31 0 ∷ [])
     ∷ broken-with (at 28 3 ∷ at 31 0 ∷ [])

@@ -71,11 +71,11 @@ unfolding accesses each
 accesses-fit = refl
 
 -- 0010 to 0013 with access 3 and 0014 and 0015 with access 1 are neighbours; 0016 is a gap; 0017 and 0018 with access 3, 0019 with access 2, 001A with access 3 and
--- 001B with access 1 are neighbours
+-- 001B with access 1 are neighbours; 0020 with access 1, 0021 with access 2 and 0022 with access 1 are too
 abbrev someAreas : List Area
 someAreas =
     area 0x0010 0x0013 0 3 ∷ area 0x0014 0x0015 4 1 ∷ area 0x0017 0x0018 6 3 ∷ area 0x0019 0x0019 8 2 ∷ area 0x001A 0x001A 9 3
-    ∷ area 0x001B 0x001B 10 1 ∷ area 0xFFFE 0xFFFF 11 1 ∷ []
+    ∷ area 0x001B 0x001B 10 1 ∷ area 0x0020 0x0020 11 1 ∷ area 0x0021 0x0021 12 2 ∷ area 0x0022 0x0022 13 1 ∷ area 0xFFFE 0xFFFF 14 1 ∷ []
 
 -- a purpose, an address, and the first one from it on that is not open
 pub record Reach : Type 0 where
@@ -93,10 +93,11 @@ pub runs : List Reach
 runs =
     from Read 0x000F 0x000F ∷ from Read 0x0010 0x0016 ∷ from Read 0x0013 0x0016 ∷ from Read 0x0014 0x0016 ∷ from Read 0x0015 0x0016
     ∷ from Read 0x0016 0x0016 ∷ from Read 0x0017 0x0019 ∷ from Read 0x0018 0x0019 ∷ from Read 0x0019 0x0019 ∷ from Read 0x001A 0x001C ∷ from Read 0x001B 0x001C
+    ∷ from Read 0x0020 0x0021 ∷ from Read 0x0021 0x0021 ∷ from Read 0x0022 0x0023
     ∷ from Read 0xFFFE 0x10000 ∷ from Read 0xFFFF 0x10000 ∷ from Read 0x10000 0x10000
     ∷ from Write 0x000F 0x000F ∷ from Write 0x0010 0x0014 ∷ from Write 0x0013 0x0014 ∷ from Write 0x0014 0x0014 ∷ from Write 0x0015 0x0015
     ∷ from Write 0x0016 0x0016 ∷ from Write 0x0017 0x001B ∷ from Write 0x0018 0x001B ∷ from Write 0x0019 0x001B ∷ from Write 0x001A 0x001B ∷ from Write 0x001B 0x001B
-    ∷ from Write 0xFFFF 0xFFFF ∷ []
+    ∷ from Write 0x0020 0x0020 ∷ from Write 0x0021 0x0022 ∷ from Write 0x0022 0x0022 ∷ from Write 0xFFFF 0xFFFF ∷ []
 
 -- every row is right
 pub runs-reach : each reaches runs ≡ true

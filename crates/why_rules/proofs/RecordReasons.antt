@@ -20,9 +20,9 @@ use Rattle.bank_rules.specs.Calls.{lentWith}
 use Rattle.ring_rules.specs.Ring.{ringSound}
 use Rattle.ring_rules.specs.Calls.{ringFits}
 use Rattle.meter_rules.specs.Judgement.{lentAnswer}
-use Rattle.meter_rules.specs.Write.{badItem, someBad, stopIn, stopPlace}
+use Rattle.meter_rules.specs.Write.{badItem, someBad, stopIn, stopPlace, stopSide}
 use Rattle.meter_rules.proofs.FrameLimits.{small}
-use Rattle.meter_rules.proofs.RecordLimits.{history, freshBank, ringOf, full, partFull, empty}
+use Rattle.meter_rules.proofs.RecordLimits.{history, freshBank, presetHistory, presetHistoryBank, ringOf, full, partFull, empty}
 use Rattle.why_rules.specs.Facts.{firstShut}
 use Rattle.why_rules.specs.Reasons.{reasonOf, explanation}
 use Rattle.why_rules.proofs.ReasonCases.{tellsSo}
@@ -37,19 +37,23 @@ pub record Row : Type 0 where
   pub address : ℕ
   pub side : ℕ
 
--- number 0: the words of the ring, the frame, the reason and the address; no side
-abbrev says : List ℕ → List ℕ → ℕ → ℕ → Row
-says ring frame reason address =
+-- number 0: the sheet and the bank, the words of the ring, the frame, the reason, the address and the side
+abbrev tells : List ℕ → List ℕ → List ℕ → List ℕ → ℕ → ℕ → ℕ → Row
+tells sheet bank ring frame reason address side =
     record {
-      sheet = bytesOf history;
-      bank = bytesOf freshBank;
+      sheet = sheet;
+      bank = bank;
       ring = bytesOf ring;
       frame = frame;
       number = 0;
       reason = reason;
       address = address;
-      side = 0;
+      side = side;
     }
+
+-- at the sheet with the history; no side
+abbrev says : List ℕ → List ℕ → ℕ → ℕ → Row
+says ring frame reason address = tells (bytesOf history) (bytesOf freshBank) ring frame reason address 0
 
 -- a refusal: zeros
 abbrev refuses : ℕ → List ℕ → List ℕ → List ℕ → List ℕ → Row
@@ -147,9 +151,25 @@ table =
     ∷ refuses 2 (bytesOf (changed 0 history (at 0 3 ∷ []))) (bytesOf freshBank) [] (0x01 ∷ 0x03 ∷ 0x00 ∷ 0x04 ∷ 0x00 ∷ 0x01 ∷ 0xC5 ∷ 0xCB ∷ [])
     -- without a record area, and one byte of a ring
     ∷ refuses 8 (bytesOf (small .sheet)) (bytesOf (small .bank)) (0 ∷ []) (0x01 ∷ 0x03 ∷ 0x00 ∷ 0x04 ∷ 0x00 ∷ 0x01 ∷ 0xC5 ∷ 0xCB ∷ [])
+    -- beside a preset, in version 2: record 1
+    ∷ tells (bytesOf presetHistory) (bytesOf presetHistoryBank) full (0x01 ∷ 0x03 ∷ 0x00 ∷ 0x03 ∷ 0x00 ∷ 0x01 ∷ 0x74 ∷ 0x0A ∷ []) 0 0x0000 0
+    -- record 3
+    ∷ tells (bytesOf presetHistory) (bytesOf presetHistoryBank) full (0x01 ∷ 0x03 ∷ 0x00 ∷ 0x05 ∷ 0x00 ∷ 0x01 ∷ 0x94 ∷ 0x0B ∷ []) 0 0x0000 0
+    -- a read of the preset
+    ∷ tells (bytesOf presetHistory) (bytesOf presetHistoryBank) full (0x01 ∷ 0x03 ∷ 0x00 ∷ 0x02 ∷ 0x00 ∷ 0x01 ∷ 0x25 ∷ 0xCA ∷ []) 8 0x0002 0
+    -- and on into the records
+    ∷ tells (bytesOf presetHistory) (bytesOf presetHistoryBank) full (0x01 ∷ 0x03 ∷ 0x00 ∷ 0x02 ∷ 0x00 ∷ 0x02 ∷ 0x65 ∷ 0xCB ∷ []) 8 0x0002 0
+    -- a write from the preset on into the records
+    ∷ tells (bytesOf presetHistory) (bytesOf presetHistoryBank) full (0x01 ∷ 0x10 ∷ 0x00 ∷ 0x02 ∷ 0x00 ∷ 0x02 ∷ 0x04 ∷ 0x00 ∷ 0x09 ∷ 0x00 ∷ 0x09 ∷ 0x62 ∷ 0x72 ∷ []) 8 0x0003 0
+    -- a write to a record
+    ∷ tells (bytesOf presetHistory) (bytesOf presetHistoryBank) full (0x01 ∷ 0x06 ∷ 0x00 ∷ 0x03 ∷ 0x00 ∷ 0x00 ∷ 0x79 ∷ 0xCA ∷ []) 8 0x0003 0
+    -- a preset that is too high
+    ∷ tells (bytesOf presetHistory) (bytesOf presetHistoryBank) full (0x01 ∷ 0x06 ∷ 0x00 ∷ 0x02 ∷ 0x00 ∷ 0x0A ∷ 0xA8 ∷ 0x0D ∷ []) 10 0x0002 2
+    -- the same sheet in version 1
+    ∷ refuses 2 (bytesOf (changed 0 presetHistory (at 0 1 ∷ []))) (bytesOf presetHistoryBank) (bytesOf full) (0x01 ∷ 0x03 ∷ 0x00 ∷ 0x03 ∷ 0x00 ∷ 0x01 ∷ 0x74 ∷ 0x0A ∷ [])
     ∷ []
 
 -- every row is right
 pub record-reasons : each right table ≡ true
-unfolding table right changed bytesOf explanation lentAnswer ringFits ringSound recordArea reasonOf firstCase firstShut allOpen addressOf stopPlace stopIn badItem someBad goodBy bankSound valueOf sound headerSound areasSound itemsSound settingsSound recordsSound each some upFrom samePlaces itemPlaces coveredPlaces placesFollow areasAscend lengthsSum areas items liesIn wordAt withWord inRange
+unfolding table right changed bytesOf explanation lentAnswer ringFits ringSound recordArea reasonOf firstCase firstShut allOpen addressOf stopPlace stopSide stopIn badItem someBad goodBy bankSound valueOf sound headerSound areasSound itemsSound settingsSound recordsSound each some upFrom samePlaces itemPlaces coveredPlaces placesFollow areasAscend lengthsSum areas items liesIn wordAt withWord inRange
 record-reasons = refl
