@@ -12,6 +12,7 @@
 #include "noise.h"
 #include "orders_made.h"
 #include "orders_met.h"
+#include "presets_met.h"
 #include "records_met.h"
 #include "rings_made.h"
 #include "second.h"
@@ -68,10 +69,10 @@ static void differs(const struct call *call, const char *what)
 
 /* Rules that have several limits, or hold for several accesses. */
 static const enum second_rule several[] = {
-    RULE_VERSION, RULE_ACCESS, RULE_PLACE_MISSING, RULE_PLACE_TWICE, RULE_PAIR_TWO_AREAS,
-    RULE_RECORD_COUNT, RULE_RECORD_WORDS, RULE_RECORDS_END, RULE_RECORDS_SHARE,
-    RULE_CLEAR_IN_RECORDS, RULE_PLACE_MISSING, RULE_PLACE_TWICE, RULE_PLACE_TWICE,
-    RULE_PAIR_TWO_AREAS, RULE_PAIR_TWO_AREAS, RULE_PAIR_TWO_AREAS
+    RULE_VERSION, RULE_ACCESS, RULE_CLEAR_IN_AREA, RULE_PLACE_MISSING, RULE_PLACE_TWICE,
+    RULE_PAIR_TWO_AREAS, RULE_RECORD_COUNT, RULE_RECORD_WORDS, RULE_RECORDS_END,
+    RULE_RECORDS_SHARE, RULE_CLEAR_IN_RECORDS, RULE_PLACE_MISSING, RULE_PLACE_TWICE,
+    RULE_PLACE_TWICE, RULE_PAIR_TWO_AREAS, RULE_PAIR_TWO_AREAS, RULE_PAIR_TWO_AREAS
 };
 
 enum { SEVERAL = sizeof several / sizeof several[0], ALL_RULES = RULE_COUNT - (RULE_NONE + 1) };
@@ -102,7 +103,7 @@ static void break_next_rule(void)
 /* One thing is changed for any rule, whatever the second statement says of it. */
 static void change_sheet(void)
 {
-    enum second_rule rule = chance(50) ? several[below(SEVERAL)] : rule_at(below(ALL_RULES));
+    enum second_rule rule = chance(70) ? several[below(SEVERAL)] : rule_at(below(ALL_RULES));
     make_changed(rule, &subject.made, subject.sheet, &subject.sheet_n);
 }
 
@@ -239,7 +240,7 @@ static void make_subject_sheet(void)
         poke_records();
     else if (sort < 56)
         poke_version();
-    else if (sort < 59)
+    else if (sort < 60)
         change_sheet();
     subject.broken = second_broken_rule(subject.sheet, subject.sheet_n);
 }
@@ -577,14 +578,16 @@ static bool is_refused_as_made(const struct call *call, const struct outcome *ou
         && !(call->sort == CALL_ADD_RECORD && !subject.made.records.is);
 }
 
-/* Makes the call on both sides, holds it to what is known of stations, of records,
- * of the sides of a range and of orders, and counts it. */
+/* Makes the call on both sides, holds it to what is known of stations, of presets, of
+ * records, of the sides of a range and of orders, and counts it. */
 static struct outcome make_call(const struct call *call)
 {
     struct outcome outcome;
     if (!same_on_both_sides(call, &outcome))
         differs(call, NULL);
     const char *breach = station_breach(call, &outcome);
+    if (breach == NULL)
+        breach = preset_breach(call, &outcome);
     if (breach == NULL)
         breach = record_breach(call, &outcome);
     if (breach == NULL)
@@ -597,6 +600,7 @@ static struct outcome make_call(const struct call *call)
         differs(call, breach);
     count_call(call, &outcome);
     count_stations(&counts, call, &outcome);
+    count_presets(&counts, call, &outcome);
     count_records(&counts, call, &outcome);
     count_sides(&counts, call, &outcome);
     count_orders(&counts, call, &outcome);
@@ -1187,7 +1191,7 @@ static bool some_order_call(bool sound)
 static bool some_preset_call(bool sound)
 {
     uint32_t frames = 1 + below(4);
-    if (!sound || !chance(12) || !is_room_for(2) || !call_preset())
+    if (!sound || !chance(14) || !is_room_for(2) || !call_preset())
         return false;
     while (--frames > 0 && is_room_for(2))
         call_preset();

@@ -170,6 +170,88 @@ enum special {
     SPECIAL_COUNT
 };
 
+/* Versions, accesses, and registers that are only written, which are presets here. */
+enum preset_met {
+    PRESET_VERSION_1,               /* sheets that are taken */
+    PRESET_VERSION_2_PLAIN,
+    PRESET_VERSION_2,
+    PRESET_ALL_AREAS,
+    PRESET_STATION,
+    PRESET_RATE,
+    PRESET_AND_RECORDS,
+    PRESET_PAIR,
+    PRESET_ALL_BITS,
+    PRESET_ASWE_40,
+    PRESET_PLAIN_ASWE_40,
+    PRESET_NEXT_1_1,                /* for each access of two neighbours */
+    PRESET_NEXT_1_2,
+    PRESET_NEXT_1_3,
+    PRESET_NEXT_2_1,
+    PRESET_NEXT_2_2,
+    PRESET_NEXT_2_3,
+    PRESET_NEXT_3_1,
+    PRESET_NEXT_3_2,
+    PRESET_NEXT_3_3,
+    PRESET_VERSION_0,               /* sheets that are refused */
+    PRESET_VERSION_3,
+    PRESET_VERSION_LARGE,
+    PRESET_VERSION_OTHER,
+    PRESET_IN_VERSION_1,
+    PRESET_ACCESS_0,
+    PRESET_ACCESS_4,
+    PRESET_ACCESS_LARGE,
+    PRESET_PLACE_MISSING,
+    PRESET_PLACE_TWICE,
+    PRESET_PAIR_OVER_2_2,
+    PRESET_PAIR_OVER_2_3,
+    PRESET_BANK_TOO_LOW,
+    PRESET_BANK_TOO_HIGH,
+    PRESET_BANK_PAIR,
+    PRESET_FRESH_LOW,
+    PRESET_FRESH_STATION,
+    PRESET_FRESH_RATE,
+    PRESET_READ_ONE,                /* which address is shut: four, and four for why */
+    PRESET_READ_FIRST,
+    PRESET_READ_MIDDLE,
+    PRESET_READ_LAST,
+    PRESET_WHY_READ_ONE,
+    PRESET_WHY_READ_FIRST,
+    PRESET_WHY_READ_MIDDLE,
+    PRESET_WHY_READ_LAST,
+    PRESET_READ_NONE,
+    PRESET_READ_OVER_47,
+    PRESET_READ_UP_TO,
+    PRESET_READ_BEHIND,
+    PRESET_WRITE_ONE,
+    PRESET_WRITE_MANY,
+    PRESET_WRITE_2_TO_3,
+    PRESET_WRITE_3_TO_2,
+    PRESET_WRITE_2_TO_2,
+    PRESET_WRITE_2_TO_1,
+    PRESET_WRITE_2_TO_NONE,
+    PRESET_WRITE_1_TO_2,
+    PRESET_WHY_WRITE_BEYOND,
+    PRESET_UPPER_GOOD,
+    PRESET_UPPER_BAD,
+    PRESET_UPPER_ALL_BITS,
+    PRESET_LOWER_GOOD,
+    PRESET_LOWER_BAD,
+    PRESET_LOWER_ALL_BITS,
+    PRESET_BAD,
+    PRESET_STORED_AHEAD,
+    PRESET_WHY_TOO_LOW,
+    PRESET_WHY_TOO_HIGH,
+    PRESET_WHY_BEHIND,
+    PRESET_STATION_CHANGED,
+    PRESET_RATE_CHANGED,
+    PRESET_CLEAR,
+    PRESET_POST_AT,
+    PRESET_POST_INTO,
+    PRESET_POST_UP_TO,
+    PRESET_POST_ODD,
+    PRESET_MET_COUNT
+};
+
 /* Orders that were taken, and orders that are refused for one thing only. Those that
  * are there for each kind of order stand in the orders' order. */
 enum order_met {
@@ -295,6 +377,7 @@ struct counts {
     uint64_t rule_alone[RULE_COUNT];
     uint64_t rule_first[RULE_COUNT];
     uint64_t special[SPECIAL_COUNT];
+    uint64_t preset[PRESET_MET_COUNT];
     uint64_t order[2][ORDER_MET_COUNT];     /* of a query, and of a reply */
     uint64_t reply[REPLY_MET_COUNT];
     uint64_t reply_damage[DAMAGE_COUNT];

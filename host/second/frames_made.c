@@ -288,7 +288,7 @@ static size_t body_long_read(const struct made *made, uint8_t *frame)
     uint32_t start = some_address(made);
     for (int tries = 0; tries < 12 && run_length(made, start, false) < 48; tries++)
         start = made->areas[below(made->areas_n)].first + below(3);
-    return put_start(frame, 0x03, start & 0xFFFF, ONE_OF(46, 47, 47, 47, 47, 48, 48, 48, 49));
+    return put_start(frame, 0x03, start & 0xFFFF, ONE_OF(46, 47, 47, 47, 48, 48, 48, 49));
 }
 
 /* An area with a neighbour behind it, both of which can be written, or none of the
@@ -312,7 +312,7 @@ static size_t body_over_areas(const struct made *made, uint8_t *frame)
     uint32_t back = below(area->last - area->first + 1) % 4;
     uint32_t start = area->last - back;
     uint32_t count = back + 2 + below(2);
-    if (chance(30))
+    if (chance(36))
         return put_start(frame, 0x03, start, count);
     put_start(frame, 0x10, start, count);
     frame[6] = (uint8_t)(2 * count);
@@ -550,7 +550,7 @@ static size_t body_half_write_only(const struct made *made, const struct made_ar
     for (int tries = 0; tries < 12; tries++) {
         uint32_t at = below(area->last - area->first + 1);
         const struct made_item *item = &made->items[made_item_of(made, area->place + at)];
-        if (item->kind == 2 && item->place == area->place + at && chance(30))
+        if (item->kind == 2 && item->place == area->place + at && chance(20))
             at++;
         if (item->kind == 2)
             return put_start(frame, 0x06, area->first + at,
@@ -575,12 +575,12 @@ static size_t body_write_write_only(const struct made *made, const struct made_a
 static size_t body_of_write_only(const struct made *made, const struct made_area *area,
                                  uint8_t *frame)
 {
-    uint32_t sort = below(23);
+    uint32_t sort = below(25);
     if (sort < 8)
         return body_read_write_only(made, area, frame);
     if (sort < 15)
         return body_past_write_only(made, area, frame);
-    return sort < 19 ? body_half_write_only(made, area, frame)
+    return sort < 20 ? body_half_write_only(made, area, frame)
                      : body_write_write_only(made, area, frame);
 }
 
@@ -603,9 +603,9 @@ static make_body *some_body(void)
         body_over_areas, body_over_areas, body_over_areas, body_over_areas,
         body_address_then_bad, body_address_then_bad, body_address_then_bad,
         body_address_then_bad, body_address_then_bad, body_address_then_bad,
-        body_station, body_station, body_station, body_station, body_station, body_station,
+        body_address_then_bad, body_station, body_station, body_station, body_station, body_station, body_station,
         body_counts_off, body_counts_off, body_length_off, body_length_off, body_cut_write,
-        body_other_function, body_noise, body_too_long
+        body_cut_write, body_other_function, body_noise, body_too_long
     };
     return bodies[below(sizeof bodies / sizeof bodies[0])];
 }
@@ -828,9 +828,9 @@ static uint32_t post_address(const struct made *made)
         area = &made->areas[below(made->areas_n)];
     if (made->records.is && chance(50))
         return post_near_records(made);
-    if (chance(70) && post_near_write_only(made, &address))
+    if (chance(85) && post_near_write_only(made, &address))
         return address;
-    if (chance(40))
+    if (chance(50))
         return area_with_neighbour(made, false)->last;
     if (chance(8))
         return some_address(made) + ONE_OF(0x10000, 0xFFFF0000, 0x80000000);

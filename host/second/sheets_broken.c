@@ -342,20 +342,17 @@ static uint32_t item_end(const struct made_item *item)
     return item->place + (item->kind == 2 ? 2 : 1);
 }
 
-/* The last word of an area and the first of the next become one pair. In version 2
- * these two are often only written. */
-static void join_over_areas(struct made *made)
+/* The words on both sides of a place become one pair, if they are items of their own;
+ * not the address or the rate, which would break another rule. */
+static bool join_at(struct made *made, uint32_t edge)
 {
-    uint32_t at = below(made->areas_n);
-    if (made->version == 2 && chance(30) && at > 0)
-        for (uint32_t i = at - 1; i <= at; i++)
-            if (made->areas[i].access == 3)
-                made->areas[i].access = 2;
-    uint32_t edge = made->areas[at].place;
     for (uint32_t i = 1; i < made->items_n; i++) {
         struct made_item *before = &made->items[i - 1];
         const struct made_item *item = &made->items[i];
-        if (item->place != edge || item->kind == 2 || before->kind == 2 || item_end(before) != edge)
+        bool setting = before->place == made->address_place || before->place == made->rate_place
+            || edge == made->address_place || edge == made->rate_place;
+        if (item->place != edge || item->kind == 2 || before->kind == 2 || item_end(before) != edge
+            || setting)
             continue;
         before->kind = 2;
         before->low = 0;
@@ -363,6 +360,24 @@ static void join_over_areas(struct made *made)
         made->items_n--;
         memmove(&made->items[i], &made->items[i + 1],
                 (made->items_n - i) * sizeof made->items[0]);
+        return true;
+    }
+    return false;
+}
+
+/* The last word of an area and the first of the next become one pair. In version 2
+ * these areas are often only written. */
+static void join_over_areas(struct made *made)
+{
+    uint32_t at = 0;
+    bool joined = false;
+    for (int tries = 0; tries < 8 && !joined; tries++) {
+        at = below(made->areas_n);
+        joined = join_at(made, made->areas[at].place);
+    }
+    if (joined && made->version == 2 && chance(30)) {
+        made->areas[at - 1].access = 2;
+        made->areas[at].access = 2;
     }
 }
 
