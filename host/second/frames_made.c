@@ -594,7 +594,8 @@ static make_body *some_body(void)
         body_read, body_read, body_read, body_read, body_read,
         body_long_read, body_long_read, body_long_read, body_long_read, body_long_read,
         body_long_read, body_long_read, body_long_read, body_long_read, body_long_read,
-        body_long_read, body_clear, body_clear, body_clear,
+        body_long_read,
+        body_clear, body_clear, body_clear,
         body_write_one, body_write_one, body_write_one,
         body_half, body_half, body_half, body_half, body_half, body_half,
         body_write_many, body_write_many, body_write_many, body_write_many, body_write_many,
@@ -603,7 +604,8 @@ static make_body *some_body(void)
         body_over_areas, body_over_areas, body_over_areas, body_over_areas,
         body_address_then_bad, body_address_then_bad, body_address_then_bad,
         body_address_then_bad, body_address_then_bad, body_address_then_bad,
-        body_address_then_bad, body_station, body_station, body_station, body_station, body_station, body_station,
+        body_address_then_bad,
+        body_station, body_station, body_station, body_station, body_station, body_station,
         body_counts_off, body_counts_off, body_length_off, body_length_off, body_cut_write,
         body_cut_write, body_other_function, body_noise, body_too_long
     };

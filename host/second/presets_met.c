@@ -377,9 +377,11 @@ static void met(struct counts *counts, enum preset_met preset, bool holds)
 static void count_neighbours(struct counts *counts, const struct call *call)
 {
     for (size_t row = 12; row + 4 < items_begin(call); row += 4) {
-        uint32_t which = 3 * (word(call, row + 3) - 1) + word(call, row + 7) - 1;
-        met(counts, (enum preset_met)(PRESET_NEXT_1_1 + which),
-            word(call, row + 1) + 1 == word(call, row + 4));
+        uint32_t first = word(call, row + 3) - 1;
+        uint32_t next = word(call, row + 7) - 1;
+        if (first < 3 && next < 3)
+            met(counts, (enum preset_met)(PRESET_NEXT_1_1 + 3 * first + next),
+                word(call, row + 1) + 1 == word(call, row + 4));
     }
 }
 
@@ -525,7 +527,7 @@ static void count_refused_bank(struct counts *counts, const struct call *call)
         uint64_t value = value_in(call, before, item);
         bool low = value < low_of(call, item);
         uint8_t bank[BANK_ROOM];
-        if ((!low && value <= high_of(call, item))
+        if ((!low && value <= high_of(call, item)) || last_place(call, item) >= word(call, 5)
             || access_of_place(call, word(call, item + 1)) != 2)
             continue;
         memcpy(bank, before, call->part_n[PART_BANK]);
