@@ -16,7 +16,7 @@ use Rattle.meter_rules.specs.Steps.{judgedFrame}
 use Rattle.frame.specs.Reply.{leastBuffer}
 use Rattle.meter_rules.specs.Answer.{frameCheck, actedOn, answerOutcome}
 use Rattle.plain.specs.Numbers.{Bytes, byte, word}
-use Rattle.plain.specs.Sheet.{LiesAt, WritableAt}
+use Rattle.plain.specs.Sheet.{LiesAt}
 use Rattle.plain.specs.Frame as fates
 use Rattle.plain.specs.Frame.{Fate, silence, good, Gets, Within, address}
 use Rattle.plain.specs.Stations.{Station, KeptBack}
@@ -78,9 +78,9 @@ module _ (given : Lent) (frame buffer : List ℕ) (accepted : Accepted given buf
     read-only-kept {address} {place} lies =
         read-only.read-only-kept given frame (accepted .sheetSound) lies (frame-leaves .words place)
 
-    -- a word that is not as before lies in an area of access 2 or 3, at an address of the frame, or is the mark
+    -- a word that is not as before is one that a write goes to, at an address of its run in an area of access 2 or 3, or the mark of a clear
     pub changed-writable : {place : ℕ} → (word (left .bank) (2 * place) ≡ word (given .bank) (2 * place) → ⊥)
-        → ((k : ℕ) × WritableAt (given .sheet) (address frame k) place) ⊎ (place ≡ word (given .sheet) 10)
+        → (((byte frame 1 ≡ 0x06) ⊎ (byte frame 1 ≡ 0x10)) × ((k : ℕ) × fates.Goes (given .sheet) frame k place)) ⊎ ((byte frame 1 ≡ 0x05) × (place ≡ word (given .sheet) 10))
     changed-writable {place} other =
         read-only.changed-writable given frame (accepted .sheetSound) (frame-leaves .words place) other
 

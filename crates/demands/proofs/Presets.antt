@@ -1,6 +1,6 @@
 -- Reading and writing by the access of an area, over the calls themselves: a good read is of addresses that can be read, a good write of ones that can be
 -- written, and leaves each word as sent; what is written in an area of access 2 changes no read. Assumes nothing.
-use mathlib.Core.Path.{_≡_, sym, ap, ap₂, _∙_}
+use mathlib.Core.Path.{_≡_, refl, sym, ap, ap₂, subst, _∙_}
 use mathlib.Core.Bool.{true}
 use mathlib.Core.List.{List}
 use mathlib.Core.Logic.{_⊎_, inl, inr}
@@ -8,24 +8,30 @@ use Prim.Native.Nat.{ℕ, _*_, _<_}
 use native.Mathlib.Omega.{arith}
 use Rattle.sheet_rules.specs.Rules.{sound}
 use Rattle.sheet_rules.proofs.Addresses.{place-address}
+use Rattle.sheet_rules.specs.declared.Item.{Item}
 use Rattle.bank_rules.specs.Calls.{Lent}
+use Rattle.bank_rules.proofs.Held.{holds-first, holder-alone}
 use Rattle.plain.specs.Numbers.{byte, word}
-use Rattle.plain.specs.Sheet.{LiesAt, WritableAt}
+use Rattle.plain.specs.Sheet.{ItemRow, LiesAt, WritableAt}
 use Rattle.plain.specs.Records.{AtRecord}
 use Rattle.plain.specs.Frame as fates
-use Rattle.plain.specs.Frame.{good, error, Gets, Whole, OurStation, Allowed, RightLength, RightCount, Readable, Writable, registers, address, sentWord}
+use Rattle.plain.specs.Frame.{good, error, Gets, Whole, OurStation, Allowed, RightLength, RightCount, Readable, Writable, registers, address, sentWord, Touches, ValueWouldBe, Within}
 use Rattle.plain.specs.Left as plain
-use Rattle.plain.specs.Left.{Left, Stored, WordLeft}
+use Rattle.plain.specs.Left.{Left, LetThrough, Stored, WordLeft}
+use Rattle.plain.specs.Why as why
+use Rattle.plain.specs.Why.{Why}
 use Rattle.plain.specs.Alike.{withBank, AgreeOutside}
-use Rattle.plain.proofs.Rows.{plain-lies}
+use Rattle.plain.proofs.Rows.{plain-lies, row-item}
+use Rattle.plain.proofs.Registers.{lies-once}
+use Rattle.plain.proofs.FullPairs.{full-pair-within, full-pair-never-bad}
 use Rattle.plain.proofs.Alike.{access-once, leaves-alike, why-alike}
 use Rattle.plain.proofs.ReadOnly.{one-access}
 use Rattle.cedarskein.specs.Door.{Handed, Said, said}
 use Rattle.demands.specs.Seen.{Accepted, leftBy, Replied, HandedAlike}
 use Rattle.demands.specs.Reasons.{Errs}
-use Rattle.demands.proofs.Calls.{Answers, Explains, answers-bytes}
+use Rattle.demands.proofs.Calls.{Answers, Explains, answers-bytes, explains-bytes}
 use Rattle.demands.proofs.Frames.{frame-leaves, leaves-once}
-use Rattle.demands.proofs.Reasons.{seen-gets, why-true, why-once}
+use Rattle.demands.proofs.Reasons.{seen-gets, told-sound, why-true, why-once}
 
 module _ (given : Lent) (frame buffer : List ℕ) (accepted : Accepted given buffer) {left : Handed} (call : Answers given frame buffer left) where
   keeps : sound (given .sheet) ≡ true
@@ -62,7 +68,7 @@ module _ (given : Lent) (frame buffer : List ℕ) (accepted : Accepted given buf
           go (inl e) = omega (arith, e, same)
           go (inr e) = omega (arith, e, same)
 
-  -- ---- and each address of a write in one of access 2 or 3
+  -- ---- rule J61: where a write gets a reply, each of its addresses lies in an area of access 2 or 3
 
   module _ (writing : (byte frame 1 ≡ 0x06) ⊎ (byte frame 1 ≡ 0x10)) where
     not-clear : byte frame 1 ≡ 0x05 → ⊥
@@ -156,3 +162,51 @@ why-alike-told given bank frame agree reads {told} {other} call call-too taken t
     let found = why-once given frame call taken (why-alike given bank agree frame reads (why-true (withBank given bank) frame call-too taken-too)) in
     ap₂ (λ (number reason : ℕ). said number reason (told .address) (told .side)) (taken ∙ sym taken-too) (sym (found .0))
     ∙ ap₂ (λ (at side : ℕ). said (other .number) (other .reason) at side) (sym (found .1)) (sym (found .2))
+
+-- ---- rule K13, over the calls: pairs over all 32 bits
+
+-- a write that steps 1 to 6 let through, and that touches such pairs alone, gets a reply without error, whatever is sent and whatever the bank holds
+pub full-pairs-taken : (given : Lent) (frame buffer : List ℕ) → Accepted given buffer → {left : Handed} → Answers given frame buffer left → LetThrough given frame
+    → ((kind place low high : ℕ) → ItemRow (given .sheet) kind place low high → Touches (given .sheet) frame kind place → (kind ≡ 2) × (low ≡ 0) × (high ≡ 0xFFFFFFFF))
+    → Replied left
+full-pairs-taken given frame buffer accepted call through alone =
+    seen-gets given frame buffer accepted call good .1
+    (fates.allRight (through .whole) (through .ours) (through .allowed) (through .long) (through .counted) (through .addressed)
+    record { ofClear = λ is. absurd (not-clear given frame buffer accepted call (through .writes) is); ofItems = λ is kind place low high value row touches would. within row touches would })
+  where
+    within : {kind place low high value : ℕ} → ItemRow (given .sheet) kind place low high → Touches (given .sheet) frame kind place
+        → ValueWouldBe given frame place value kind → Within kind low high value
+    within {kind} {place} {low} {high} {value} row touches would =
+        let full = alone kind place low high row touches in
+        subst (λ (n : ℕ). Within n low high value) (sym (full .0))
+        (subst (λ (n : ℕ). Within 2 n high value) (sym (full .1))
+        (subst (λ (n : ℕ). Within 2 0 n value) (sym (full .2))
+        (full-pair-within given frame (answers-bytes call .1) (answers-bytes call .3) (subst (ValueWouldBe given frame place value) (full .0) would))))
+
+-- and no call for the reason tells of such a pair that it is bad
+pub full-pair-never-told : (given : Lent) (frame : List ℕ) {told : Said} → Explains given frame told → told .number ≡ 0 → {place : ℕ}
+    → ItemRow (given .sheet) 2 place 0 0xFFFFFFFF → WritableAt (given .sheet) (told .address) place → told .reason ≡ 10 → ⊥
+full-pair-never-told given frame {told} call taken {place} row there is = go (why-true given frame call taken) is there
+  where
+    sheet-sound : sound (given .sheet) ≡ true
+    sheet-sound = told-sound given frame call taken
+
+    go : {reason at side : ℕ} → Why given frame reason at side → reason ≡ 10 → WritableAt (given .sheet) at place → ⊥
+    go (why.byNone gets) e at = omega (arith, e)
+    go (why.byTooShort f) e at = omega (arith, e)
+    go (why.byTooLong f) e at = omega (arith, e)
+    go (why.byCheck least most f) e at = omega (arith, e)
+    go (why.byStation whole f) e at = omega (arith, e)
+    go (why.byFunction whole our f) e at = omega (arith, e)
+    go (why.byBodyLength so-far f) e at = omega (arith, e)
+    go (why.byCount so-far long f) e at = omega (arith, e)
+    go (why.byAddress so-far first) e at = omega (arith, e)
+    go (why.byClearValue so-far right is-clear f) e at = omega (arith, e)
+    go (why.byItem so-far right first) e at =
+        let same : first .place ≡ place = lies-once (given .sheet) sheet-sound (first .itsAddress .lies) (at .lies) in
+        let one : Item = record { kind = first .kind; place = first .place; low = first .low; high = first .high } in
+        let pair : Item = record { kind = 2; place = place; low = 0; high = 0xFFFFFFFF } in
+        let alone : one ≡ pair =
+        holder-alone (given .sheet) sheet-sound place (row-item (given .sheet) (first .row)) (holds-first one place same) (row-item (given .sheet) row) (holds-first pair place refl) in
+        full-pair-never-bad given frame (explains-bytes call .1) (explains-bytes call .3) first
+        (ap (λ (i : Item). i .kind) alone) (ap (λ (i : Item). i .low) alone) (ap (λ (i : Item). i .high) alone)

@@ -1,7 +1,7 @@
 -- The reason over the calls themselves: what is told is true in plain numbers, nothing else is, and it agrees with what the call that answers the
 -- frame does. Of a damaged frame it is the check that is told. That nothing is refused is supposed by the call's own number, 0. Assumes nothing.
 use mathlib.Core.Path.{_≡_, refl, sym, ap, ap₂, subst, _∙_}
-use mathlib.Core.Bool.{not, cond}
+use mathlib.Core.Bool.{true, not, cond}
 use mathlib.Core.List.{List, []}
 use mathlib.Core.Logic.{_↔_}
 use Prim.Native.Nat.{ℕ, _≤_}
@@ -11,6 +11,7 @@ use Rattle.lists.specs.Cases.{firstCase, mapped, InOrder}
 use Rattle.refusals.specs.declared.Answer.{Answer}
 use Rattle.refusals.specs.declared.Answer.the-variants.{Done, Refused}
 use Rattle.refusals.proofs.Numbers.{refusal-from-two}
+use Rattle.sheet_rules.specs.Rules.{sound}
 use Rattle.bank_rules.specs.Calls.{Lent}
 use Rattle.bank_rules.proofs.Changes.{Passed}
 use Rattle.meter_rules.specs.Judgement.{lentAnswer}
@@ -54,6 +55,10 @@ module _ (given : Lent) (frame : List ℕ) {told : Said} (call : Explains given 
 
   sheet-bytes : Bytes (given .sheet)
   sheet-bytes = explains-bytes call .0
+
+  -- so the sheet is sound
+  pub told-sound : sound (given .sheet) ≡ true
+  told-sound = explained .passed .right
 
   -- rule Y1: the reason that is told is handed back by the facts in their order
   pub why-in-order : InOrder (told .reason) [] (mapped reasonNumber (facts given frame))

@@ -1,4 +1,5 @@
--- A write that is done, then a read at the station that the bank then has, gives the values written. Assumes nothing.
+-- A write that is done, then a read at the station that the bank then has, of as many of the addresses written as may be, in a run, all of which can be read: it gives
+-- the values written. Assumes nothing.
 use mathlib.Core.Path.{_≡_, refl, sym, ap, ap₂, subst, _∙_}
 use mathlib.Core.Bool.{Bool, true, false, not, cond, true≢false, false≢true}
 use mathlib.Core.List.{List}
@@ -172,10 +173,10 @@ module _ (given : Lent) (keeps : sound (given .sheet) ≡ true) (start count sta
 
 -- ---- both exchanges
 
--- so many values in the first bytes of the buffer, each as it was written
-pub record ReadsBack (asked : Asked) (out : List ℕ) (heard : ReplyTold) : Type 0 where
-  pub told : Tells out heard (addressCount (asked .order) (asked .values))
-  pub same : (k : ℕ) → k < addressCount (asked .order) (asked .values) → word (heard .buffer) (2 * k) ≡ writtenValue (asked .order) (asked .values) k
+-- so many values in the first bytes of the buffer, each as it was written, but for so many in front that are not read
+pub record ReadsBack (asked : Asked) (skipped count : ℕ) (out : List ℕ) (heard : ReplyTold) : Type 0 where
+  pub told : Tells out heard count
+  pub same : (k : ℕ) → k < count → word (heard .buffer) (2 * k) ≡ writtenValue (asked .order) (asked .values) (skipped + k)
 
 suits-write : (sheet : List ℕ) (order : Order) → writesTo order ≡ true → suits sheet order ≡ true
 suits-write sheet (Read start count) writes = absurd (false≢true writes)
@@ -231,12 +232,12 @@ module _ (given : Lent) (asked : Asked) {left : Handed} {heard : ReplyTold} (fir
             ∙ value-sent (asked .station) (asked .values) (asked .order) has writes k less,
       )
 
-  -- the read, at the station that the bank has now, where 03 is allowed and the addresses can be read
-  module _ (stationed : ℕ) (sent : List ℕ) (there : stationed ≡ bankStation (afterwards given left)) (allowed : Set (word (given .sheet) 12) 1)
-      (readable : (k : ℕ) → k < many → Readable (given .sheet) (start + k)) {last : Handed} {back : ReplyTold}
-      (second : Exchanged (afterwards given left) (ask (Read start many) stationed sent) last back) where
+  -- the read of a run within the one that was written, at the station that the bank has now, where 03 is allowed and its addresses can be read
+  module _ (skipped count : ℕ) (inside : skipped + count ≤ many) (stationed : ℕ) (sent : List ℕ) (there : stationed ≡ bankStation (afterwards given left))
+      (allowed : Set (word (given .sheet) 12) 1) (readable : (k : ℕ) → k < count → Readable (given .sheet) (start + skipped + k)) {last : Handed} {back : ReplyTold}
+      (second : Exchanged (afterwards given left) (ask (Read (start + skipped) count) stationed sent) last back) where
     abbrev again : Asked
-    again = ask (Read start many) stationed sent
+    again = ask (Read (start + skipped) count) stationed sent
 
     has-again : noFrame again ≡ false
     has-again = has-frame again (second .room) (second .asking) (second .built)
@@ -244,9 +245,17 @@ module _ (given : Lent) (asked : Asked) {left : Handed} {heard : ReplyTold} (fir
     good-again : Gets (afterwards given left) (queryIn (second .told)) good
     good-again =
         subst (λ (f : List ℕ). Gets (afterwards given left) f good) (sym (sent-is again (second .room) (second .asking) (second .built)))
-        (read-good (afterwards given left) (first .accepted .sheetSound) start many stationed sent has-again readable there allowed)
+        (read-good (afterwards given left) (first .accepted .sheetSound) (start + skipped) count stationed sent has-again readable there allowed)
 
-    from-heard : Heard (afterwards given left) (queryIn (second .told)) (second .out) back (Read start many) → ReadsBack asked (second .out) back
+    value-again : (k : ℕ) → k < count
+        → (place : ℕ) × WritableAt (given .sheet) (start + skipped + k) place
+        × (word (left .bank) (2 * place) ≡ writtenValue (asked .order) (asked .values) (skipped + k))
+    value-again k less =
+        let kept = value-kept (skipped + k) (omega (arith, less, inside)) in
+        (kept .0, subst (λ (a : ℕ). WritableAt (given .sheet) a (kept .0)) (let same : start + (skipped + k) ≡ start + skipped + k = omega arith in same) (kept .1), kept .2)
+
+    from-heard : Heard (afterwards given left) (queryIn (second .told)) (second .out) back (Read (start + skipped) count)
+        → ReadsBack asked skipped count (second .out) back
     from-heard (erred code fails least most told) =
         absurd
         (let same : good ≡ error code =
@@ -255,13 +264,13 @@ module _ (given : Lent) (asked : Asked) {left : Handed} {heard : ReplyTold} (fir
     from-heard (values fine told places words) =
         record {
           told = told;
-          same = λ k less. let kept = value-kept k less in words k (kept .0) (kept .1 .access) less (kept .1 .lies) ∙ kept .2;
+          same = λ k less. let kept = value-again k less in words k (kept .0) (kept .1 .access) less (kept .1 .lies) ∙ kept .2;
         }
     from-heard (done brings fine told) = absurd (true≢false brings)
 
     -- rule Q53
-    pub read-back : ReadsBack asked (second .out) back
+    pub read-back : ReadsBack asked skipped count (second .out) back
     read-back =
         from-heard
         (heard-as-sent (afterwards given left) again second there
-        (ap not (starts-outside (afterwards given left) (first .accepted .sheetSound) start many stationed sent has-again readable)))
+        (ap not (starts-outside (afterwards given left) (first .accepted .sheetSound) (start + skipped) count stationed sent has-again readable)))

@@ -1,5 +1,5 @@
--- What follows from what a call leaves: a word that lies in an access 1 area is as before, and a word that is not as before lies in an area of access 2 or 3
--- or is the mark. Assumes nothing.
+-- What follows from what a call leaves: a word that lies in an access 1 area is as before, and a word that is not as before is one that a write goes to, which lies in
+-- an area of access 2 or 3, or the mark of a clear. Assumes nothing.
 use mathlib.Core.Path.{_≡_, sym, ap, _∙_}
 use mathlib.Core.Bool.{true}
 use mathlib.Core.Logic.{_⊎_, inl, inr}
@@ -12,9 +12,9 @@ use Rattle.sheet_rules.specs.Rules.{sound}
 use Rattle.sheet_rules.specs.Lookup.{liesIn}
 use Rattle.sheet_rules.proofs.Addresses.{place-address, lies-below}
 use Rattle.bank_rules.specs.Calls.{Lent}
-use Rattle.plain.specs.Numbers.{word}
-use Rattle.plain.specs.Sheet.{LiesAt, WritableAt}
-use Rattle.plain.specs.Frame.{address}
+use Rattle.plain.specs.Numbers.{byte, word}
+use Rattle.plain.specs.Sheet.{LiesAt}
+use Rattle.plain.specs.Frame.{Goes}
 use Rattle.plain.specs.Left as left
 use Rattle.plain.specs.Left.{WordLeft}
 use Rattle.plain.proofs.Rows.{word-same, plain-lies}
@@ -43,7 +43,7 @@ module _ (given : Lent) (frame : List ℕ) (keeps : sound (given .sheet) ≡ tru
   read-only-kept lies (left.asBefore none unclear is) = is
 
   pub changed-writable : {w : ℕ} → WordLeft given frame place w → (w ≡ word (given .bank) (2 * place) → ⊥)
-      → ((k : ℕ) × WritableAt (given .sheet) (address frame k) place) ⊎ (place ≡ word (given .sheet) 10)
-  changed-writable (left.stored k stored is) other = inl (k, stored .goes .1)
-  changed-writable (left.cleared clears is) other = inr (clears .2)
+      → (((byte frame 1 ≡ 0x06) ⊎ (byte frame 1 ≡ 0x10)) × ((k : ℕ) × Goes (given .sheet) frame k place)) ⊎ ((byte frame 1 ≡ 0x05) × (place ≡ word (given .sheet) 10))
+  changed-writable (left.stored k stored is) other = inl (stored .through .writes, (k, stored .goes))
+  changed-writable (left.cleared clears is) other = inr (clears .1, clears .2)
   changed-writable (left.asBefore none unclear is) other = absurd (other is)
