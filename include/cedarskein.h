@@ -56,8 +56,8 @@
  *
  *   An area's access is 1 (read only), 2 (write only) or 3 (read and write); 2 needs a sheet of version 2. The registers of
  *   an access 2 area are items, judged and stored like those of access 3, and a master writes both by 06 and 10. A read that
- *   touches one gets error 02: what a master wrote there is not sent to any other. The AS-WE 40 has the presets of its
- *   totals there, 0118 to 011E.
+ *   touches one gets error 02: what a master wrote there is never sent out. The AS-WE 40 has the presets of its totals
+ *   there, 0118 to 011E.
  *
  *   The firmware finds what was written in the bank, at the register's place. It looks after each frame that was answered
  *   with 0, error replies too, and takes over what it has not taken over yet. The bank shows the value and not the frame:
@@ -134,7 +134,8 @@
  *
  *   The AS-WE 40's sheet is of version 2 now and has seven registers more, 0118 to 011E; those of bores 50 and 80 did not
  *   change. Its bank has 92 bytes in place of 78, and with the new sheet a bank of the old one is 3 from every call on a
- *   bank. A board that keeps its old sheet goes on as before. One that takes the new sheet carries its bank over, once:
+ *   bank. A board that keeps its old sheet goes on as before. One that takes the new sheet carries its bank over, once, and
+ *   only a bank of the AS-WE 40: those of bores 50 and 80 have 78 bytes too, and nothing in them tells which bore it is.
  *
  *     places of the old bank   of the new bank
  *     0 to 19                  0 to 19           the settings 00FF to 0116

@@ -51,11 +51,11 @@
 #define CEDARSKEIN_ASWE_HISTORY_INTERVAL 0x0113 /* word; one step is 5 min */
 #define CEDARSKEIN_ASWE_PULSE_FORM 0x0115 /* word; 0: 1000 ms, 1: 500 ms, 2: 250 ms, 3: 125 ms, 4: 50 ms, 5: on for half the time */
 #define CEDARSKEIN_ASWE_PRESSURE_READINGS_AVERAGED 0x0116 /* word */
-#define CEDARSKEIN_ASWE_PRESET_VOLUME_UPPER_DIGIT 0x0118 /* word; one step is 10000000 m3 */
-#define CEDARSKEIN_ASWE_PRESET_VOLUME_MIDDLE_DIGITS 0x0119 /* word; one step is 1000 m3 */
-#define CEDARSKEIN_ASWE_PRESET_VOLUME_LOWER_DIGITS 0x011A /* word; one step is 0.1 m3 */
-#define CEDARSKEIN_ASWE_PRESET_SECOND_VOLUME 0x011B /* pair; one step is 0.1 m3 */
-#define CEDARSKEIN_ASWE_PRESET_REVERSE_VOLUME 0x011D /* pair; one step is 0.1 m3 */
+#define CEDARSKEIN_ASWE_PRESET_VOLUME_UPPER_DIGIT 0x0118 /* word, written and never read; one step is 10000000 m3 */
+#define CEDARSKEIN_ASWE_PRESET_VOLUME_MIDDLE_DIGITS 0x0119 /* word, written and never read; one step is 1000 m3 */
+#define CEDARSKEIN_ASWE_PRESET_VOLUME_LOWER_DIGITS 0x011A /* word, written and never read; one step is 0.1 m3 */
+#define CEDARSKEIN_ASWE_PRESET_SECOND_VOLUME 0x011B /* pair, written and never read; one step is 0.1 m3 */
+#define CEDARSKEIN_ASWE_PRESET_REVERSE_VOLUME 0x011D /* pair, written and never read; one step is 0.1 m3 */
 #define CEDARSKEIN_ASWE_REFERENCE_TEMPERATURE 0x0123 /* signed word; one step is 0.1 degC */
 #define CEDARSKEIN_ASWE_REFERENCE_PRESSURE 0x0124 /* word; one step is 0.01 kPa gauge */
 #define CEDARSKEIN_ASWE_ACTUAL_FLOW 0x01FF /* signed pair; one step is 0.01 m3/h */

@@ -24,8 +24,8 @@ LIST = "tools/registers.txt"
 # the kinds of the sheet's items by their number, and all kinds with their words and their sign
 ITEM_KINDS = ("word", "signed word", "pair")
 KINDS = {"word": (1, False), "signed word": (1, True), "pair": (2, False), "signed pair": (2, True), "triple": (3, False), "clear": (1, False)}
-READ_ONLY, CLEAR_ALLOWED = 1, 2
-ACCESS = {2: "write", 3: "read and write"}
+READ_ONLY, WRITE_ONLY, CLEAR_ALLOWED = 1, 2, 2
+ACCESS = {WRITE_ONLY: "write", 3: "read and write"}
 
 
 class Wrong(Exception):
@@ -236,9 +236,9 @@ value times one step; degC is degrees Celsius.
 
 - Settings are read by function 03 and written by 06 and 10. A value out of its range gets error 03.
 - Presets, whose access is write, are written by 06 and 10 and never read: a 03 that touches one gets error 02. What was written stands in the bank, where
-  the firmware finds it. The upper digit, the middle and the lower digits of the preset volume are plain numbers that make up one volume, the forward one
-  that the meter's display shows; the preset second volume is the forward one that it does not show (003: which is the actual and which the compensated
-  volume goes by the meter's specification).
+  the firmware finds it. The upper digit, the middle and the lower digits of the preset volume make up one volume, the forward one that the meter's
+  display shows. They are plain numbers, not packed digits: 12345678.9 m3 is 0001, 2345 (hexadecimal 0929) and 6789 (1A85). The preset second volume is the
+  forward one that the display does not show (003: which is the actual and which the compensated volume goes by the meter's specification).
 - Readings are read by 03. They may be all that their kind can hold: the firmware posts them, and the library does not judge them.
 - The clear is function 05 at this address with the value 0. It sets the alarm mark to 0.
 - The volume alarm limit of UX15/25 is for the volume of one hour (001, 5.2). What each error bit means stands in the makers' figures alone. 003 prints
@@ -278,9 +278,10 @@ def remark_of(register):
     row = register.row
     if register.kind == "clear":
         return "function 05"
+    kind = register.kind + (", written and never read" if register.access == ACCESS[WRITE_ONLY] else "")
     if row.values:
-        return f"{register.kind}; {meaning_of(register)}"
-    return register.kind + (f"; one step is {row.step} {row.unit}".rstrip() if row.unit or row.step != 1 else "")
+        return f"{kind}; {meaning_of(register)}"
+    return kind + (f"; one step is {row.step} {row.unit}".rstrip() if row.unit or row.step != 1 else "")
 
 
 def header(meters, tables):
