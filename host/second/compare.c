@@ -859,17 +859,24 @@ static void call_why(void)
     keep_ring(&call, &answer, own_ring);
 }
 
-/* A write at an end of an item's range is asked about, and sometimes answered. */
-static void call_end(void)
+/* A call for the reason, lent a copy of the subject's bank and room for a frame. */
+static struct call new_why(uint8_t *bank, uint8_t *frame)
 {
-    static uint8_t bank[BANK_ROOM], frame[FRAME_ROOM];
     struct call call = new_call(CALL_WHY);
     memcpy(bank, subject.bank, subject.bank_n);
     call.part[PART_BANK] = bank;
     call.part_n[PART_BANK] = subject.bank_n;
     lend_ring(&call);
-    call.part_n[PART_BYTES] = make_end_write(&subject.made, bank, frame);
     call.part[PART_BYTES] = frame;
+    return call;
+}
+
+/* A write at an end of an item's range is asked about, and sometimes answered. */
+static void call_end(void)
+{
+    static uint8_t bank[BANK_ROOM], frame[FRAME_ROOM];
+    struct call call = new_why(bank, frame);
+    call.part_n[PART_BYTES] = make_end_write(&subject.made, bank, frame);
     if (call.part_n[PART_BYTES] == 0)
         return;
     struct outcome why = make_call(&call);
@@ -890,13 +897,8 @@ static void call_ends(void)
 static bool call_preset(void)
 {
     static uint8_t bank[BANK_ROOM], frame[FRAME_ROOM];
-    struct call call = new_call(CALL_WHY);
-    memcpy(bank, subject.bank, subject.bank_n);
-    call.part[PART_BANK] = bank;
-    call.part_n[PART_BANK] = subject.bank_n;
-    lend_ring(&call);
+    struct call call = new_why(bank, frame);
     call.part_n[PART_BYTES] = make_preset_frame(&subject.made, bank, frame);
-    call.part[PART_BYTES] = frame;
     if (call.part_n[PART_BYTES] == 0)
         return false;
     struct outcome why = make_call(&call);
