@@ -59,14 +59,16 @@
  *   touches one gets error 02: what a master wrote there is never sent out. The AS-WE 40 has the presets of its totals
  *   there, 0118 to 011E.
  *
- *   The firmware finds what was written in the bank, at the register's place. It looks after each frame that was answered
- *   with 0, error replies too, and takes over what it has not taken over yet. The bank shows the value and not the frame:
- *   whoever must act on the same value written twice looks at the frame too. A write whose reply is no error stored all its
- *   words, one with error 3 those ahead of the first bad item, and one with error 1 or 2 none.
+ *   The firmware finds what was written in the bank, at the register's place. The bank shows the value and not the frame: a
+ *   total that is preset to the value that the bank has already, 0 too, changes no word. So take a preset over by the frame:
+ *   after a call that answered 0 to a 06 or 10 for such a register. A write whose reply is no error stored all its words,
+ *   one with error 3 those ahead of the first bad item, and one with error 1 or 2 none. A total that is in several
+ *   registers, as that of 0118 to 011A, or a pair of which a master sends one half, is half new and half old until all its
+ *   words are there: take it over after one 10 without error for all of them, or when the last of them has come.
  *
- *   Once a value is taken over, its low bound may be written back into the bank, where no other task uses the bank
- *   meanwhile. These registers are among the bytes that must last: then write both copies (see "A power cut"), or a cut
- *   brings the value back, and the firmware would take it over twice.
+ *   These registers are among the bytes that must last, and a restart finds in the bank what was written last, whether it
+ *   was taken over or not. Where that matters, keep beside the copies whether it was: mark it as waiting before the reply is
+ *   sent, and as taken over in one store with the total itself, or a cut between the two takes it over twice.
  *
  * The next station and the next rate
  *
@@ -134,8 +136,10 @@
  *
  *   The AS-WE 40's sheet is of version 2 now and has seven registers more, 0118 to 011E; those of bores 50 and 80 did not
  *   change. Its bank has 92 bytes in place of 78, and with the new sheet a bank of the old one is 3 from every call on a
- *   bank. A board that keeps its old sheet goes on as before. One that takes the new sheet carries its bank over, once, and
- *   only a bank of the AS-WE 40: those of bores 50 and 80 have 78 bytes too, and nothing in them tells which bore it is.
+ *   bank. A board that keeps its old sheet, of 328 bytes, goes on as before; cedarskein_sheets.h and sheets/ have the new
+ *   one, so that a board which takes it from there changes with the update. One that takes the new sheet carries its bank
+ *   over, once, and only a bank of the AS-WE 40: those of bores 50 and 80 have 78 bytes too, and nothing in them tells which
+ *   bore it is.
  *
  *     places of the old bank   of the new bank
  *     0 to 19                  0 to 19           the settings 00FF to 0116
@@ -186,9 +190,9 @@
  *   - An adapter that hands a box its own bytes back makes a 05 or a 06 look done, though no meter answered: the reply is
  *     the query itself. Switch that echo off, or take it off what comes.
  *   - After no answer, or one that is refused, a write may have been carried out all the same. To ask again is safe: the
- *     same write, done twice, leaves what it left once. With error 3 a write may have stored what stands ahead of the first
- *     bad item. A preset is another matter: a meter that takes it over at once takes it over twice, and loses what it
- *     counted in between; and no read shows whether the first was carried out.
+ *     same write, done twice, leaves what it left once. Not so a preset (see "Registers that are only written"): a meter
+ *     that takes it over at once takes it over twice, and loses what it counted in between; and no read shows whether the
+ *     first was carried out. With error 3 a write may have stored what stands ahead of the first bad item.
  *   - A write of the station or the rate is answered from the old station at the old rate. From then on the meter has the
  *     new ones, and at the old ones it is silent, to the same write too.
  *
@@ -223,7 +227,8 @@
  *     where it hit the first, the second is the bank before that write, and where it hit the second, the first is the
  *     bank after it;
  *   - where neither copy is good, cedarskein_bank_fresh is the last resort: every setting is then at its low bound, at
- *     station 1 and 9600, and the meter has to be set up again. Report it.
+ *     station 1 and 9600, and the meter has to be set up again. Report it. After an update of an AS-WE 40 from before 3.2
+ *     look for copies of the old size first, and carry them over.
  *
  *   The bytes that must last are the places of the items, with station and rate among them, and the mark: of each area
  *   whose access is not 1 (read only), the 2 * (last - first + 1) bytes from byte 2 * place of the bank on, and the last two
@@ -297,9 +302,9 @@ enum cedarskein_number {
     CEDARSKEIN_DONE = 0,
     /* Silence: send nothing, and wait for the next frame. */
     CEDARSKEIN_SILENCE = 1,
-    /* The sheet is not sound: it is damaged, not a sheet, one of another version than 1 and 2, or one with stations outside
-     * 1 to 247 from before 1.3 (see "Stations"). Stay off the line; nothing but a good sheet helps. Of cedarskein_add_record
-     * also: the sheet has no record area, and so no ring. */
+    /* The sheet is not sound: it is damaged, not a sheet, one of another version than 1 and 2, one of version 1 with access
+     * 2, or one with stations outside 1 to 247 from before 1.3 (see "Stations"). Stay off the line; nothing but a good sheet
+     * helps. Of cedarskein_add_record also: the sheet has no record area, and so no ring. */
     CEDARSKEIN_SHEET_BREAKS_RULE = 2,
     /* The bank has not 2B + 2 bytes: it belongs to another sheet, or bank_n is wrong. Mend the program; after a change of
      * sheet, make a new bank fresh, or carry the old one over (see "A board from before version 3.2"). */

@@ -1,5 +1,5 @@
 /* The makers' sheets, a row of the sheet to a line: the header in two lines, the areas, the items. */
-/* Written by the program crates/sheet_files from the sheets that are proved to be document 01's maps. */
+/* Written by the program crates/sheet_files from the sheets that are proved to be the maps of documents 01 and 02. */
 #ifndef CEDARSKEIN_SHEETS_H
 #define CEDARSKEIN_SHEETS_H
 

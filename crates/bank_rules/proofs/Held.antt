@@ -1,4 +1,4 @@
--- The items of a sound sheet and the places that they hold: each place is below B, in an access 3 area and held by one item alone; the
+-- The items of a sound sheet and the places that they hold: each place is below B, in an area of access 2 or 3 and held by one item alone; the
 -- address and the rate are such items. Assumes nothing.
 use mathlib.Core.Path.{_≡_, sym, ap, subst, _∙_}
 use mathlib.Core.Bool.{Bool, true, false, not, _&&_, _||_, or-true, false≢true}

@@ -39,7 +39,7 @@ fn of_version(version: u8) -> [u8; 256] {
     sheet
 }
 
-// The AS-WE 40 sheet of version 1, which has no access 2.
+// The AS-WE 40 sheet as one of version 1, which does not know access 2.
 fn presets_too_early() -> [u8; 396] {
     let mut sheet = makers::aswe_40();
     sheet[1] = 1;

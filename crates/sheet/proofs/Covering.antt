@@ -1,4 +1,4 @@
--- How the items cover the places of the access 3 areas: the next place that is left, and the next area that has one. Assumes nothing.
+-- How the items cover the places of the access 2 and access 3 areas: the next place that is left, and the next area that has one. Assumes nothing.
 use mathlib.Core.Path.{_≡_, refl, sym, ap, ap₂, subst₂, _∙_}
 use mathlib.Core.Bool.{Bool, true, false, not, _&&_, _||_, and-true, and-false, cond}
 use mathlib.Core.List.{List, [], _∷_, _++_}

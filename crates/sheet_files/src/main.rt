@@ -75,7 +75,7 @@ fn say_array(front: &[u8], sheet: &[u8]) {
 fn say_front() {
     say(
         b"/* The makers' sheets, a row of the sheet to a line: the header in two lines, the areas, the items. */\n\
-        /* Written by the program crates/sheet_files from the sheets that are proved to be document 01's maps. */\n\
+        /* Written by the program crates/sheet_files from the sheets that are proved to be the maps of documents 01 and 02. */\n\
         #ifndef CEDARSKEIN_SHEETS_H\n\
         #define CEDARSKEIN_SHEETS_H\n\n\
         #include <stdint.h>\n",
