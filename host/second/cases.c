@@ -554,7 +554,7 @@ struct map_case {
     size_t sheet_n, bank_n;
 };
 
-/* "B is 34.", "B is 38.", 18 and 22 items; for bore 40 "B becomes 45 and items 27". */
+/* Rules M14, M25 and M27: the makers' sheets in numbers. */
 static const struct map_case maps[] = {
     { "UX", MAP_UX, 1, 2, 18, 34, cedarskein_ux_sheet, CEDARSKEIN_UX_SHEET_SIZE,
       CEDARSKEIN_UX_BANK_SIZE },
