@@ -125,7 +125,7 @@ static void let_late_replies_pass(const struct serial_line *line)
 static int ask(struct asked *asked, const struct serial_line *line)
 {
     int was_silent = 0;
-    for (int number = 1; number <= TRIES; number++) {
+    for (int number = 1; number <= most_tries(asked); number++) {
         if (try_once(asked, line, number) != 0)
             return NOT_DONE;
         if (asked->number == CEDARSKEIN_DONE)

@@ -71,6 +71,10 @@ def error(query, reply, words, sheet="ux15_25", given=AT_HAND):
     return "status 1: " + first(query, reply, f"{words} / {way}")
 
 
+def once(query, reply, refusal, end):
+    return f"{tried(1, query, reply, refusal)} / {end}"
+
+
 def refused(query, reply, refusal, hint=""):
     """Three times the same, as it came."""
     return "status 1: " + thrice(sealed(query), reply, refusal, f"Refused: what came in 3 tries is no reply to this order{hint}")
@@ -80,10 +84,22 @@ READ_BACK = ". It may be done all the same, and its replies lost: read it back"
 SEND_AGAIN = ". It may be done all the same, and its replies lost. It cannot be read back: send it again"
 
 
-def no_answer(query, station=1, rate=9600, other=4800, behind=""):
-    return "status 1: " + thrice(sealed(query), None, None,
-                                 f"No answer from station {station} at {rate} in 3 tries; look at the station (STATION=), the rate (RATE={other}?), "
-                                 f"the wires (A to A, B to B) and the meter's power{behind}")
+LOOK_AT_TOTAL = ". It may be done all the same. It cannot be read back: look at the meter's total before it is sent again"
+
+
+def no_answer(query, station=1, rate=9600, other=4800, behind="", tries="3 tries", told_tries=thrice):
+    return "status 1: " + told_tries(sealed(query), None, None,
+                                     f"No answer from station {station} at {rate} in {tries}; look at the station (STATION=), the rate (RATE={other}?), "
+                                     f"the wires (A to A, B to B) and the meter's power{behind}")
+
+
+def no_answer_to_preset(query):
+    """A preset is sent once."""
+    return no_answer(query, behind=LOOK_AT_TOTAL, tries="1 try", told_tries=once)
+
+
+def refused_preset(query, reply, refusal, hint=""):
+    return "status 1: " + once(sealed(query), reply, refusal, f"Refused: what came in 1 try is no reply to this order{hint}{LOOK_AT_TOTAL}")
 
 
 # ---- at the simulated meter
@@ -382,9 +398,20 @@ AT_PLAYED = [
     ("bytes from before", stale, done(READ, "01 03 02 22 22", "0101: 2222", names=None)),
     ("no answer to a write", played("write 0101 0004"), no_answer(WRITE, behind=READ_BACK) + HEARD),
     ("no answer to a clear", played("clear 0300"), no_answer("01 05 03 00 00 00", behind=SEND_AGAIN) + HEARD),
-    ("no answer to a preset", played("write 0118 0002", sheet="aswe_40"), no_answer("01 06 01 18 00 02", behind=SEND_AGAIN) + HEARD),
+    ("no answer to a preset", played("write 0118 0002", sheet="aswe_40"), no_answer_to_preset("01 06 01 18 00 02") + HEARD_ONCE),
     ("no answer to writes of presets", played("writes 011D 0000 0002", sheet="aswe_40"),
-     no_answer("01 10 01 1D 00 02 04 00 00 00 02", behind=SEND_AGAIN) + HEARD),
+     no_answer_to_preset("01 10 01 1D 00 02 04 00 00 00 02") + HEARD_ONCE),
+    ("no answer to writes that end in a preset", played("writes 0117 0000 0002", sheet="aswe_40"),
+     no_answer_to_preset("01 10 01 17 00 02 04 00 00 00 02") + HEARD_ONCE),
+    ("no answer to a setting of a sheet that has presets", played("write 0116 0004", sheet="aswe_40"),
+     no_answer("01 06 01 16 00 04", behind=READ_BACK) + HEARD),
+    ("no answer to a clear with a sheet that has presets", played("clear 0118", sheet="aswe_40"),
+     no_answer("01 05 01 18 00 00", behind=SEND_AGAIN) + HEARD),
+    ("a damaged answer to a preset", played("write 0118 0002", [sent(b"\xFF")], sheet="aswe_40"),
+     refused_preset("01 06 01 18 00 02", "FF", "10: it has 1 byte; the shortest frame has 4", DAMAGED) + HEARD_ONCE),
+    ("another value than was preset", played("write 0118 0002", [sent(reply_of("01 06 01 18 00 03"))], sheet="aswe_40"),
+     refused_preset("01 06 01 18 00 02", sealed("01 06 01 18 00 03"),
+                    "13: its body does not fit: it is for 0118 and 0003; the query is for 0118 and 0002") + HEARD_ONCE),
     ("no answer to a read of a preset", played("read 0118 1", sheet="aswe_40"), no_answer("01 03 01 18 00 01") + HEARD),
     ("a meter that reads a preset out", played("read 0118 1", [sent(reply_of("01 03 02 00 02"))], sheet="aswe_40"),
      done("01 03 01 18 00 01", "01 03 02 00 02", "0118 Preset volume upper digit: 20000000 m3", names="aswe_40") + HEARD_ONCE),

@@ -9,6 +9,9 @@
 #include "registers.h"
 #include "telling.h"
 
+/* How often any order but a preset is sent before it is given up. */
+enum { TRIES = 3 };
+
 enum { BAD_FUNCTION = 1, BAD_ADDRESS = 2, BAD_VALUE = 3 };
 
 /* The bytes of an error reply; those of a read's reply besides its words; of any other. */
@@ -126,6 +129,12 @@ static unsigned written_only(const struct asked *asked)
     return NOT_WRITTEN_ONLY;
 }
 
+/* Whether an order writes a preset: done twice it may set a total twice. */
+static int writes_preset(const struct asked *asked)
+{
+    return is_write(asked->order) && written_only(asked) != NOT_WRITTEN_ONLY;
+}
+
 static void tell_written_only(const struct asked *asked)
 {
     printf("by %s ", asked->sheet);
@@ -155,7 +164,7 @@ static void tell_done(const struct asked *asked)
     case CEDARSKEIN_WRITES: tell_words(asked->meter, order->address, order->values, (unsigned)order->values_n / 2); break;
     default: break;
     }
-    if (is_write(order) && written_only(asked) != NOT_WRITTEN_ONLY) {
+    if (writes_preset(asked)) {
         printf("            it cannot be read back: ");
         tell_written_only(asked);
         printf("\n");
@@ -192,10 +201,21 @@ static void tell_clear_address(const struct asked *asked)
         printf("that is word 10 of its own sheet, and %s is another's", asked->sheet);
 }
 
-/* Whether a read can show how much of a write was done. None shows the alarm mark. */
-static int can_be_read_back(const struct asked *asked)
+int most_tries(const struct asked *asked)
 {
-    return asked->order->kind != CEDARSKEIN_CLEAR && written_only(asked) == NOT_WRITTEN_ONLY;
+    return writes_preset(asked) ? 1 : TRIES;
+}
+
+static void print_tries(const struct asked *asked)
+{
+    int tries = most_tries(asked);
+    printf(tries == 1 ? "%d try" : "%d tries", tries);
+}
+
+/* The end of a preset's only try, where no good reply came. */
+static void tell_preset_unknown(void)
+{
+    printf(". It may be done all the same. It cannot be read back: look at the meter's total before it is sent again");
 }
 
 static void tell_error(const struct asked *asked)
@@ -217,8 +237,8 @@ static void tell_error(const struct asked *asked)
     else
         printf("the meter has no register at an address of this order, or it is not open to function %02X", asked->query[FUNCTION_BYTE]);
     if (asked->error == BAD_VALUE && order->kind == CEDARSKEIN_WRITES)
-        printf(can_be_read_back(asked) ? "; those ahead of it may be stored: read them back"
-                                       : "; those ahead of it may be stored, and cannot be read back: send them again");
+        printf(writes_preset(asked) ? "; those ahead of it may be stored, and cannot be read back: send them again"
+                              : "; those ahead of it may be stored: read them back");
     printf("\n");
     tell_way_to_reason(asked);
 }
@@ -253,7 +273,9 @@ static void tell_other_length(const struct asked *asked)
 
 static void tell_refused(const struct asked *asked)
 {
-    printf("Refused: what came in %d tries is no reply to this order", TRIES);
+    printf("Refused: what came in ");
+    print_tries(asked);
+    printf(" is no reply to this order");
     if (begins_with_query(asked))
         printf("; it begins with the query: the adapter hears itself. Switch its echo off");
     else if (asked->number == CEDARSKEIN_REPLY_DAMAGED)
@@ -262,16 +284,21 @@ static void tell_refused(const struct asked *asked)
         printf("; another meter or another master is at work on the line");
     else if (asked->number == CEDARSKEIN_REPLY_BODY)
         tell_other_length(asked);
+    if (writes_preset(asked))
+        tell_preset_unknown();
     printf("\n");
 }
 
 static void tell_no_answer(const struct asked *asked)
 {
-    printf("No answer from station %u at %s in %d tries; look at the station (STATION=), the rate (RATE=%s?), the wires (A to A, B to B) and the meter's "
-           "power", (unsigned)asked->order->station, bit_rate(asked->rate), TRIES, bit_rate(!asked->rate));
-    if (is_write(asked->order))
+    printf("No answer from station %u at %s in ", (unsigned)asked->order->station, bit_rate(asked->rate));
+    print_tries(asked);
+    printf("; look at the station (STATION=), the rate (RATE=%s?), the wires (A to A, B to B) and the meter's power", bit_rate(!asked->rate));
+    if (writes_preset(asked))
+        tell_preset_unknown();
+    else if (is_write(asked->order))
         printf(". It may be done all the same, and its replies lost%s",
-               can_be_read_back(asked) ? ": read it back" : ". It cannot be read back: send it again");
+               asked->order->kind == CEDARSKEIN_CLEAR ? ". It cannot be read back: send it again" : ": read it back");
     printf("\n");
 }
 

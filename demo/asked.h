@@ -6,9 +6,6 @@
 #include "order.h"
 #include "serial_line.h"
 
-/* How often an order is sent before it is given up. */
-enum { TRIES = 3 };
-
 /* An order and the last try at it. */
 struct asked {
     const struct order *order;
@@ -25,6 +22,10 @@ struct asked {
     uint32_t number, error, values_n;
     uint8_t values[CEDARSKEIN_LEAST_OUT];
 };
+
+/* How often an order is sent before it is given up. A preset is sent once: a meter that takes it over at once would set its total again with each try,
+   and lose what it counted in between. */
+int most_tries(const struct asked *asked);
 
 /* A try: its number and its query ahead of it, and what came behind it, with the reason where it is refused. */
 void tell_sent(const struct asked *asked, int number);
