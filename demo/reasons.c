@@ -281,12 +281,12 @@ static int could_be_sent(const struct reason *reason, const struct item *item, i
 }
 
 /* Values are often off by a factor of ten. Above zero one that is too high can have its tenth in the range, and one that is too low ten times it; below
-   zero it is the other way round. It is never both. */
+   zero it is the other way round. It is never both. Of a preset, which holds some digits of a total, it is not told: a tenth of them is another total's. */
 static void tell_factor_of_ten(const struct reason *reason, const struct register_row *row, const struct item *item, int64_t number)
 {
     int is_tenth = number % 10 == 0 && could_be_sent(reason, item, number / 10);
     int64_t meant = is_tenth ? number / 10 : 10 * number;
-    if (!could_be_sent(reason, item, meant))
+    if (access_at(reason->meter, reason->address) == WRITE_ONLY_AREA || !could_be_sent(reason, item, meant))
         return;
     printf(is_tenth ? "; a tenth of it, " : "; ten times it, ");
     print_item_value(row, item, value_of_number(item, meant), row->values != NULL);
