@@ -84,7 +84,7 @@ static int keep_carried(struct bank_file *bank, const struct meter *meter, const
     if (error == 0)
         return 0;
     snprintf(why, sizeof why, "by its size it is of the AS-WE 40 from before version 3.2; it cannot be carried over and stay as %.*s: %s", WHY_ROOM / 2,
-             old_name, strerror(error));
+             old_name, error == EEXIST ? "another file has that name; move that one away first" : strerror(error));
     return refuse_file(&bank->own, why);
 }
 

@@ -299,7 +299,8 @@ OLD_BANKS = [
     (".. at station 255", with_old_bank(not_carried, why_trials.kept(why_trials.old_aswe_bank(255))),
      f"status 1: the bank's file bank: {why_trials.NOT_CARRIED}; its station is 255, {why_trials.MOVABLE}. {LEFT}; unchanged True"),
     (".. a file of the user's own under the old one's name", with_old_bank(not_carried, lay=lambda bench: bench.write("bank.old", b"mine")),
-     f"status 1: the bank's file bank: {why_trials.OLD}; it cannot be carried over and stay as bank.old: File exists. {LEFT}; unchanged True"),
+     f"status 1: the bank's file bank: {why_trials.OLD}; it cannot be carried over and stay as bank.old: another file has that name; "
+     f"move that one away first. {LEFT}; unchanged True"),
     (".. a disk that is full", with_old_bank(not_carried, lay=lambda bench: history_trials.without_room(bench, 0)),
      f"status 1: the bank's file bank: {why_trials.OLD}; it cannot be carried over and stay as bank.old: File too large. {LEFT}; unchanged True"),
     (".. as its own bytes", with_old_bank(not_carried, OLD_FILE[:78]),
