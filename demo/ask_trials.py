@@ -666,7 +666,7 @@ MAKE = [
     ("make ask, an empty name", lambda _: by_make("ORDER="), "status 2: empty: ORDER. Give each a name, or leave it out. Stop."),
     ("make ask, a name that is misspelt", lambda _: by_make("BAUD=9600"),
      "status 2: make ask takes no BAUD. It takes: SHEET LINK ORDER STATION RATE. Stop."),
-    ("what the README shows of make ask", shown_in_readme, "8 shown, otherwise: []"),
+    ("what the README shows of make ask", shown_in_readme, "9 shown, otherwise: []"),
 ]
 
 TRIALS = [*AT_METER, *PRESETS, *AT_PLAYED, *LINES, *ORDERS, *MAKE]

@@ -282,7 +282,9 @@ def part_of_readme(heading):
 
 
 def steps_of_shown(text, meter):
-    """The commands of a part of the README with what it shows below each, and the lines that it shows of the meter's screen."""
+    """The commands of a part of the README with what it shows below each, and the lines that it shows of the meter's screen. What it shows of `make ask`
+    has registers too, and is the trials'."""
+    text = re.sub(r"^    \$ make ask .*\n(?:    (?!\$).*\n)*", "", text, flags=re.M)
     commands = re.findall(r"^    \$ (mbpoll .*)\n((?:    (?!\$).*\n)*)", text, re.M)
     screen = re.findall(r"^    (station .*|        +[0-9A-F]{4} .*)$", text, re.M)
     if not commands or not screen:
