@@ -37,10 +37,16 @@ pub fn length_of(area: Area) -> u32
 fn known_access(area: Area, version: u16) -> bool
     ensures { λ r. ⌜ r ≡ (accessRule area && writeOnlyRule version area) ⌝ }
 {
-    if area.access == 2 {
-        return version == 2;
+    if area.access == 1 {
+        return true;
     }
-    area.access == 1 || area.access == 3
+    if area.access == 3 {
+        return true;
+    }
+    if area.access != 2 {
+        return false;
+    }
+    version == 2
 }
 
 // One area behind others, in a sheet of a version: `lowest` is one past the last address so far, `places` the sum of the lengths so far.

@@ -11,7 +11,7 @@ use Rattle.sheet_rules.specs.declared.Item.{Item}
 use Rattle.sheet.specs.declared.item_rows.Cover.{Cover}
 use Rattle.sheet_rules.specs.Rows.{areaCount, areaAt, areas, items}
 use Rattle.lists.specs.Lists.{upFrom, samePlaces, each}
-use Rattle.sheet_rules.specs.Rules.{lengthOf, placesFollow, coveredByItems, coveredPlaces, isPair, pairWithin, areasSound, firstLastRule}
+use Rattle.sheet_rules.specs.Rules.{lengthOf, placesFollow, coveredByItems, coveredPlaces, isPair, pairWithin, areasSound, accessRule, firstLastRule}
 use Rattle.sheet.specs.Cover.{placesLeft, UnderWay, sizeOf}
 use Rattle.lists.proofs.Walks.{rows-on, rows-end}
 use Rattle.sheet_rules.proofs.Rows.{areasFrom, areas-rows}
@@ -79,10 +79,11 @@ module _ (sheet : List ℕ) where
         none : end - next ≡ 0
         none = omega arith
 
-    pub way-open : each firstLastRule (areas sheet) ≡ true → placesFollow 0 (areas sheet) ≡ true → area .place < 0x10000 → area .last < 0x10000
+    pub way-open : each accessRule (areas sheet) ≡ true → each firstLastRule (areas sheet) ≡ true → placesFollow 0 (areas sheet) ≡ true → area .place < 0x10000 → area .last < 0x10000
         → UnderWay sheet (cover (area .place) (area .place + size) (k + 1))
-    way-open order follow place-small last-small =
+    way-open known order follow place-small last-small =
         record {
+          known = known;
           order = order;
           follow = follow;
           ordered = omega arith;
@@ -106,6 +107,7 @@ module _ (sheet : List ℕ) where
   pub way-start : areasSound sheet ≡ true → UnderWay sheet (cover 0 0 0)
   way-start keeps =
       record {
+        known = areas-rules sheet keeps .access;
         order = areas-rules sheet keeps .firstLast;
         follow = areas-rules sheet keeps .follow;
         ordered = omega arith;
@@ -117,6 +119,7 @@ module _ (sheet : List ℕ) where
   pub way-on : (c : Cover) (size : ℕ) → UnderWay sheet c → c .next + size ≤ c .end → UnderWay sheet (cover (c .next + size) (c .end) (c .area))
   way-on c size way fits =
       record {
+        known = way .known;
         order = way .order;
         follow = way .follow;
         ordered = fits;

@@ -9,7 +9,7 @@ use Rattle.sheet_rules.specs.declared.Item.{Item}
 use Rattle.sheet.specs.declared.item_rows.Cover.{Cover}
 use Rattle.sheet_rules.specs.Rows.{areaCount, areaAt, areas}
 use Rattle.lists.specs.Lists.{each, upFrom, rows}
-use Rattle.sheet_rules.specs.Rules.{firstLastRule, placesFollow, isPair, coveredPlaces, pairWithin}
+use Rattle.sheet_rules.specs.Rules.{accessRule, firstLastRule, placesFollow, isPair, coveredPlaces, pairWithin}
 
 -- how many places an item has
 abbrev pub sizeOf : Item → ℕ
@@ -24,6 +24,7 @@ placesLeft sheet cover =
 -- a cover that is under way: a pair at one of the places that the area at hand has left lies within one area just where the next place is one of
 -- them too
 pub record UnderWay (sheet : List ℕ) (cover : Cover) : Type 0 where
+  pub known : each accessRule (areas sheet) ≡ true
   pub order : each firstLastRule (areas sheet) ≡ true
   pub follow : placesFollow 0 (areas sheet) ≡ true
   pub ordered : cover .next ≤ cover .end

@@ -4,7 +4,7 @@ ghost use mathlib.Core.Bool.{true, cond, _&&_};
 ghost use Prim.Native.Nat.{_+_, _<_};
 ghost use lib.Dec.{leb, eqb};
 ghost use Rattle.sheet_rules.specs.Rows.{areaCount, headerOf};
-ghost use Rattle.sheet_rules.specs.Rules.{coveredByItems, lengthOf, firstLastRule, areasSound, itemsSound, settingsSound};
+ghost use Rattle.sheet_rules.specs.Rules.{coveredByItems, lengthOf, accessRule, firstLastRule, areasSound, itemsSound, settingsSound};
 ghost use Rattle.sheet.specs.Cover.{UnderWay, Opened, sizeOf};
 use sheet_rules::Area;
 use sheet_rules::Header;
@@ -18,20 +18,14 @@ struct Cover {
     area: u16,
 }
 
-// Whether items cover the places of an area of this access: rule S47.
-fn is_covered(access: u16) -> bool
-    ensures { λ r. ⌜ r ≡ coveredByItems access ⌝ }
-{
-    access == 2 || access == 3
-}
-
-// How many of an area's places are covered by items: all of an access 2 or access 3 area's, and none of another's. Its first address is
-// not above its last.
+// How many of an area's places are covered by items: all of an access 2 or access 3 area's, and none of another's. Its access is one
+// of the three, and its first address not above its last.
 fn covered_length(area: Area) -> u32
+    requires { ⌜ accessRule area ≡ true ⌝ }
     requires { ⌜ firstLastRule area ≡ true ⌝ }
     ensures { λ r. ⌜ r ≡ cond (coveredByItems (area .access)) (lengthOf area) 0 ⌝ }
 {
-    if !is_covered(area.access) {
+    if area.access == 1 {
         return 0;
     }
     area.last as u32 + 1 - area.first as u32

@@ -9,7 +9,7 @@ use Rattle.sheet.proofs.Covering.{cover, area-among, left-open, way-ope
 use borrow.Author.Needs.{needs}
 use borrow.Author.Tests.{ltb-true, ltb-false}
 use Rattle.lists.proofs.Among.{each-among}
-use Rattle.sheet_rules.specs.Rules.{firstLastRule}
+use Rattle.sheet_rules.specs.Rules.{accessRule, firstLastRule}
 use Rattle.sheet.proofs.item_rows.opened.Statement.{statement}
 use Rattle.sheet.proofs.item_rows.opened.Tie as tie
 
@@ -36,8 +36,8 @@ covered-length-requires c κs =
     let loop = c .before .before .before .before .loop in
     let area = c .before .area-row in
     let inside = ltb-true (loop .area) (c .before .before .before .before .before .before .args .count) (c .before .before .if1 .taken) in
-    each-among firstLastRule (area-among s (loop .area) (area .result) (area .ensures) (omega (arith, loop .inv .0, inside)))
-    (loop .inv .1 .order)
+    let row = area-among s (loop .area) (area .result) (area .ensures) (omega (arith, loop .inv .0, inside)) in
+    (each-among accessRule row (loop .inv .1 .known), each-among firstLastRule row (loop .inv .1 .order))
 
 add-end : tie.Need-add-end Inv-loop μ-loop
 add-end c = omega (arith, c .covered-length .ensures, wide-small (c .before .before .area-row .result))
@@ -57,7 +57,7 @@ loop-again c =
     let inside = ltb-true (c .before .before .before .before .before .loop .area) (c .before .before .before .before .before .before .before .args .count) (c .before .before .before .if1 .taken) in (
       loop .inv .0,
       way-open s (loop .area) (area .result) (size .result) (area .ensures) (omega (arith, loop .inv .0, inside)) (size .ensures)
-          (loop .inv .1 .order) (loop .inv .1 .follow) (search needs) (search needs),
+          (loop .inv .1 .known) (loop .inv .1 .order) (loop .inv .1 .follow) (search needs) (search needs),
       left-open s (loop .area) (area .result) (size .result) (area .ensures) (omega (arith, loop .inv .0, inside)) (size .ensures)
           (loop .next) (loop .end) (c .before .before .before .before .loop-test .taken) ∙ loop .inv .2,
     )
