@@ -1,4 +1,6 @@
 // The bank: the lent bytes that hold a meter's settings and readings, and the calls by which the firmware itself changes them.
+#![tactic(auto)]
+
 ghost use Rattle.std.specs.Prelude.{◌≡◌, true};
 ghost use Rattle.sheet_rules.specs.Rules.{sound};
 ghost use Rattle.bank_rules.specs.Bank.{bank_sound};

@@ -1,5 +1,7 @@
 // The steps of the calls on a bank, each for any bytes: what every call refuses, an item's value and its stores, zeros, and what is posted
 // and where to.
+#![tactic(auto)]
+
 ghost use Rattle.std.specs.Prelude.{◌≡◌, map};
 ghost use Rattle.lists.specs.Lists.{up_from};
 ghost use Rattle.bank_rules.specs.Stores.{word_of, stored};

@@ -11,6 +11,8 @@
 //   B size           the bank at hand is of so many bytes
 //   N number size frame name   the number that a frame without its check gets, with an answer buffer of so many bytes
 //   # ..         a remark
+#![tactic(auto)]
+
 mod fields;
 mod results;
 

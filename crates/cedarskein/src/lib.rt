@@ -1,4 +1,6 @@
 // The door for the firmware of a board, and of a box that asks boards: the library's calls over byte slices (a pointer and a length) and numbers, as C has them.
+#![tactic(auto)]
+
 ghost use Rattle.std.specs.Prelude.{◌≡◌};
 ghost use Rattle.words.specs.Words.{Bytes};
 ghost use Rattle.check_value.specs.Check.{start_state, taken, value_of};

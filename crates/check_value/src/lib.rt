@@ -1,4 +1,6 @@
 // The check value, as a running state: rule C9.
+#![tactic(auto)]
+
 ghost use Rattle.std.specs.Prelude.{◌≡◌};
 ghost use Rattle.check_value.specs.Check.{start_state, bits_of_byte, shifted_times, taken, value_of, check_at};
 ghost use Rattle.check_value.specs.Frame.{passes, sealed};

@@ -1,4 +1,6 @@
 // The controller's half of the line: the query of an order is built, and a reply is read against the order. It knows frames, and no meter.
+#![tactic(auto)]
+
 ghost use Rattle.std.specs.Prelude.{◌≡◌, not, ◌++◌, ◌∷◌, ◌+◌, ◌≤◌, length, take, drop};
 ghost use Rattle.lists.specs.Lists.{between};
 ghost use Rattle.frame.specs.Frame.{writes_many};

@@ -1,5 +1,7 @@
 // The rules by which a box asks a meter and reads what comes back, with their laws and tables: specs/ and proofs/ hold them. They know frames, and no
 // meter. Here are the types that they speak of; there is no code.
+#![tactic(auto)]
+
 use refusals::Refusal;
 
 // What a box asks of a meter, in the numbers that it hands over: rules Q1 and Q2. The values of several writes are lent beside it. An order of no

@@ -1,5 +1,7 @@
 // What a frame is, apart from a meter: its parts, and the replies to it, each laid in the first bytes of an answer buffer. Every function
 // takes any slices: a byte past the end of a frame counts as 0, and a reply without room is not laid.
+#![tactic(auto)]
+
 ghost use Rattle.std.specs.Prelude.{◌≡◌, ◌++◌, ◌+◌, ◌*◌, ◌≤◌, length, take};
 ghost use Rattle.words.specs.Words.{bytes_of};
 ghost use Rattle.frame.specs.Frame.{passed_frame};

@@ -1,4 +1,6 @@
 // The header of a sheet, read and checked, and handed on only where it breaks no rule: rules S0 to S12. Then what it says of 05.
+#![tactic(auto)]
+
 ghost use Rattle.std.specs.Prelude.{◌≡◌, ◌||◌, ◌/◌, ◌%◌, eqb};
 ghost use Rattle.lists.specs.Lists.{between};
 ghost use Rattle.sheet_rules.specs.Rows.{header_of};

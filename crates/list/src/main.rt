@@ -1,4 +1,6 @@
 // The listing program: a sheet on standard input, its listing on standard output.
+#![tactic(auto)]
+
 use libc::STDIN_FILENO;
 
 // One byte more than the longest sheet, so that a sheet with a byte too many is seen.

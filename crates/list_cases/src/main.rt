@@ -1,4 +1,6 @@
 // Listings of the makers' sheets, and of sheets that are refused.
+#![tactic(auto)]
+
 use libc::STDOUT_FILENO;
 
 fn list(what: &[u8], sheet: &[u8]) {

@@ -1,4 +1,6 @@
 // The listing of a sheet, line by line.
+#![tactic(auto)]
+
 ghost use Rattle.std.specs.Prelude.{◌≡◌, [], ◌++◌};
 ghost use Rattle.range.specs.Range.{number_of};
 ghost use Rattle.sheet_rules.specs.Rows.{areas, item_at};

@@ -1,4 +1,6 @@
 // A sheet's listing on standard output.
+#![tactic(auto)]
+
 ghost use Rattle.std.specs.Prelude.{◌≡◌};
 ghost use Rattle.sheet_rules.specs.Rules.{sheet_answer};
 

@@ -1,4 +1,6 @@
 // What lies at an address, the address of a place, and how far a run of addresses is open: one walk over the area rows each.
+#![tactic(auto)]
+
 ghost use Rattle.std.specs.Prelude.{◌≡◌};
 ghost use Rattle.sheet_rules.specs.Rows.{areas};
 ghost use Rattle.sheet_rules.specs.Rules.{place_in_area};

@@ -1,4 +1,6 @@
 // The two makers' sheets: rules M10 to M27.
+#![tactic(auto)]
+
 ghost use Rattle.std.specs.Prelude.{◌≡◌};
 ghost use Rattle.makers.specs.Maps.{ux, aswe, aswe40, bore50, bore80};
 ghost use Rattle.makers.specs.Sheets.{sheet_of};

@@ -1,4 +1,6 @@
 // The answer of a meter to one frame: a frame is judged, and what the judgement says is acted on.
+#![tactic(auto)]
+
 ghost use Rattle.std.specs.Prelude.{◌≡◌};
 ghost use Rattle.bank_rules.specs.Calls.{lent_with};
 ghost use Rattle.meter_rules.specs.Answer.{outcome, answer_outcome};

@@ -1,5 +1,7 @@
 // The rules by which one frame is judged and answered, with their laws: specs/ and proofs/ hold them. Here are the types that they speak
 // of; there is no code.
+#![tactic(auto)]
+
 use range::Side;
 use refusals::Refusal;
 

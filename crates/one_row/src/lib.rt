@@ -1,5 +1,7 @@
 // One row by itself, of an area, an item or the record area, wherever it was read: the rules that need no other row, and whether an address
 // lies in an area or is a record's.
+#![tactic(auto)]
+
 ghost use Rattle.std.specs.Prelude.{◌≡◌, not, cond, ◌&&◌, ◌||◌, leb, eqb};
 ghost use Rattle.sheet_rules.specs.Rules.{access_rule, write_only_rule, first_last_rule, in_area, length_of, is_pair, kind_rule, bounds_rule, low_high_rule, setting_at, address_item, rate_item, record_count_rule, record_words_rule, records_end_rule, in_records, apart_rule};
 

@@ -1,4 +1,6 @@
 // The judgement of a value by its bounds, one for the three kinds of item.
+#![tactic(auto)]
+
 ghost use Rattle.std.specs.Prelude.{◌≡◌, pos, ◌+ℤ◌};
 ghost use Rattle.range.specs.Range.{signed_word, number_of, not_above, side_of, inside, in_range};
 

@@ -1,4 +1,5 @@
 // What a call answers: done, or refused and why. specs/ has the numbers of the refusals. There is no code here.
+#![tactic(auto)]
 
 // Why a call is refused: rules N2 to N13, in the order of their numbers.
 #[derive(Drop)]

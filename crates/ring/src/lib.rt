@@ -1,4 +1,6 @@
 // The ring: the lent bytes that hold a meter's records, its check, and the call by which the firmware adds a record.
+#![tactic(auto)]
+
 ghost use Rattle.std.specs.Prelude.{◌≡◌, true};
 ghost use Rattle.sheet_rules.specs.Rows.{record_area};
 ghost use Rattle.ring_rules.specs.Ring.{ring_bytes, ring_sound, next_place, next_count, added};

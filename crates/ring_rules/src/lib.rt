@@ -1,1 +1,2 @@
 // The rules of a ring of records and of the calls on it, with their laws: specs/ and proofs/ hold them. There is no code here.
+#![tactic(auto)]

@@ -1,4 +1,6 @@
 // The header and the rows of a sheet. Any bytes are taken as a sheet, with any number of areas and any index: a word past the end is 0.
+#![tactic(auto)]
+
 ghost use Rattle.std.specs.Prelude.{◌≡◌, ◌+◌, ◌*◌, ◌/◌, ◌%◌, ◌≤◌, ◌<◌, length};
 ghost use Rattle.sheet_rules.specs.Rows.{word, area_count, item_count, bank_words, functions, address_place, rate_place, clear_address, has_records, header_of, record_from, record_area, area_at, item_from, item_start, item_end, item_row};
 

@@ -1,4 +1,6 @@
 // The check of a sheet: whether it breaks a rule of 01, or of 02 where that amends it. Any bytes are taken as a sheet.
+#![tactic(auto)]
+
 ghost use Rattle.std.specs.Prelude.{◌≡◌};
 ghost use Rattle.sheet_rules.specs.Rules.{sheet_answer};
 

@@ -3,6 +3,8 @@
 //   1    the bytes of the UX15/25 sheet
 //   2, 3, 4    the bytes of the AS-WE sheet, bore 40, 50, 80
 // Any other byte, or none, gives a line that says so.
+#![tactic(auto)]
+
 use libc::{STDIN_FILENO, STDOUT_FILENO};
 
 // The bytes of a sheet's header, of an area row and of an item row.

@@ -1,4 +1,5 @@
 // The rules of a sheet, with their laws: specs/ and proofs/ hold them. Here are the types that they speak of; there is no code.
+#![tactic(auto)]
 
 // The header: rules S0 to S11.
 #[derive(Drop)]

@@ -1,5 +1,7 @@
 // Published check values, run through the real functions: a line each with what was checked, what is expected, what was got, and
 // whether they agree.
+#![tactic(auto)]
+
 use check_value::Check;
 use libc::STDOUT_FILENO;
 

@@ -1,4 +1,6 @@
 // Why a meter gives silence or an error to a frame: the frame is judged as for an answer, and where it stops is told in the words of W1 and W5.
+#![tactic(auto)]
+
 ghost use Rattle.std.specs.Prelude.{◌≡◌};
 ghost use Rattle.bank_rules.specs.Calls.{lent_with};
 ghost use Rattle.why_rules.specs.Reasons.{explanation};

@@ -1,5 +1,7 @@
 // Why a frame gets silence or an error: specs/ has the facts and their order, proofs/ their laws. Here are the types that they speak of; there
 // is no code.
+#![tactic(auto)]
+
 use range::Side;
 use refusals::Refusal;
 

@@ -29,5 +29,5 @@ store_word_determined κs a x y = read_off (λ o. (tt, (o, (tt, (tt, tt)))))
 -- a promise that says nothing of a lent buffer does not determine its outcome
 pub buffer_left_out : ¬ Determined 1 store_byte.ps store_byte.r (λ κs a r s. Unit {0})
 buffer_left_out determined =
-    let same : ◌≡◌ {A = ℕ} 0 1 = ap (λ o. length o.1.0) (determined ([], tt) (record { ref_ptr = (0, 0); now = [] }, (0, (0, tt))) (tt, ([], (tt, (tt, tt)))) (tt, (0 ∷ [], (tt, (tt, tt)))) tt tt) in
+    let same : ◌≡◌ {A = ℕ} 0 1 = ap (λ o. length o.1.0) (determined ([], tt) (record { ref_ptr = (0, 0); ghost_name = 0; now = [] }, (0, (0, tt))) (tt, ([], (tt, (tt, tt)))) (tt, (0 ∷ [], (tt, (tt, tt)))) tt tt) in
     omega (arith, same)

@@ -1,5 +1,7 @@
 // Bytes and sixteen-bit words in lent bytes, upper byte first. Every function takes any slice and any place: a read past the
 // end gives 0, and a store that does not fit changes nothing, so no caller has to show that a place is inside.
+#![tactic(auto)]
+
 ghost use Rattle.std.specs.Prelude.{◌≡◌, ◌+◌, ◌≤◌, length};
 ghost use Rattle.words.specs.Words.{byte_at, word_at, with_byte, with_word};
 
