@@ -230,13 +230,13 @@ def every_slip():
 
 
 # where a sign comes from that a slip by pattern puts in place of another
-SOURCES = {"leb": "lib.Dec", "ltb": "lib.Dec", "&&": "mathlib.Core.Bool", "||": "mathlib.Core.Bool", "≤": "Prim.Native.Nat", "<": "Prim.Native.Nat"}
+SOURCES = dict.fromkeys(["leb", "ltb", "&&", "||", "≤", "<"], "Rattle.std.specs.Prelude")
 
 
 def brought_in(text, line):
     """A file's text with all in scope that a line uses of these."""
     for sign, source in SOURCES.items():
-        name = sign if sign.isalpha() else f"_{sign}_"
+        name = sign if sign.isalpha() else f"◌{sign}◌"
         if re.search(rf"(?<![\w]){re.escape(sign)}(?![\w])", line) and not re.search(r"^use .*[{ ]%s[,}]" % re.escape(name), text, re.M):
             old = re.search(r"^use %s\.\{" % re.escape(source), text, re.M)
             text = text[:old.end()] + name + ", " + text[old.end():] if old else f"use {source}.{{{name}}}\n" + text
