@@ -1,5 +1,5 @@
 # Cedarskein: `make test` is the whole verdict. `make` alone says what there is.
-KIT := rattle-kit-5b-plain logic 097e4c862dff5811
+KIT := rattle-kit-13f logic dac8208d650f15bf
 # For `make meter`, `make why` and `make ask`: the sheet, by the name of a file or the short name of one in sheets/, of which the beginning is enough. For
 # the first two the file of the bank, and with a sheet that has a history, that of the ring. For `make meter` another name for its line, and the seconds
 # from one record of the history to the next. For `make why` a frame in hex. For `make ask` the line, the order, the meter's station and its rate.
@@ -26,13 +26,13 @@ UNKNOWN = $(strip $(filter-out $(ALWAYS) $(1),$(GIVEN)))
 EMPTY = $(strip $(foreach name,$(filter-out $(2),$(filter $(1),$(GIVEN))),$(if $(strip $($(name))),,$(name))))
 takes = $(if $(UNKNOWN),$(error make $@ takes no $(UNKNOWN). It takes: $(1)))$(if $(EMPTY),$(error empty: $(EMPTY). Give each a name, or leave it out))
 
-.PHONY: help test kit claims layout registers registers-check built host compare coverage boards boards-short demo demo-check meter why ask interop install uninstall bench bench-record
+.PHONY: help test kit claims registers registers-check built host compare coverage boards demo demo-check meter why ask interop install uninstall bench bench-record
 # Two runs of rt in one target/ would be in each other's way.
 .NOTPARALLEL:
 
 help:
 	@echo "make demo      a new limit comes back with error 03: what is in the meter now, and why"
-	@echo "make test      the whole verdict: what docs/CLAIMS.md cites, the archive in C programs and under emulators of boards, then the gate: every proof, must-fail edit and program"
+	@echo "make test      the whole verdict: what docs/CLAIMS.md cites, the archive in C programs, then the gate: every proof, must-fail edit and program"
 	@echo "make meter     a simulated meter on a pseudo-terminal; SHEET=NAME is its sheet, LINK=NAME another name for its line, BANK=FILE keeps its bank;"
 	@echo "               with a sheet that has a history, as history, RING=FILE keeps it, and EVERY=SECONDS is the time from one record to the next"
 	@echo "make why       why a meter is silent or answers with an error; FRAME=\"01 06 ..\" is a frame in hex, without it each line of standard input is one;"
@@ -60,9 +60,6 @@ kit:
 claims:
 	@python3 tools/claims.py; cited=$$?; python3 tools/claims.py --missing && exit $$cited
 
-layout:
-	@rt fmt --check
-
 # The makers' registers by name. What is committed is what the script makes of the sheets and its list; it needs no archive.
 registers:
 	@python3 tools/registers.py
@@ -70,11 +67,10 @@ registers:
 registers-check:
 	@python3 tools/registers.py --check
 
-# What the C programs are linked with and compared to, checked together so that both cores work. `rt` says much, which is shown where it fails.
-# The module that the archive is compiled from is kept, for the boards' archives.
+# What the C programs are linked with and compared to. `rt` says much, which is shown where it fails.
 built: kit
 	@mkdir -p target && test -w target || { echo "the folder target may not be written" >&2; exit 1; }
-	@said=$$(rt check cedarskein sheet_files 2>&1 && board/kit.sh keep target/board rt staticlib cedarskein 2>&1) || { echo "$$said"; exit 1; }
+	@said=$$(tools/built.sh archive 2>&1 && tools/built.sh program sheet_files 2>&1) || { echo "$$said"; exit 1; }
 
 host: built
 	@$(MAKE) -s -C host test
@@ -82,8 +78,8 @@ host: built
 compare coverage: built
 	@$(MAKE) -s -C host $@
 
-boards boards-short: built
-	@$(MAKE) -s -C board $(@:boards-%=%)
+boards: built
+	@$(MAKE) -s -C board $@
 
 demo demo-check interop: kit
 	@$(MAKE) -s -C demo $@
@@ -115,6 +111,6 @@ uninstall:
 bench bench-record: built
 	@$(MAKE) -s -C bench $(@:bench-%=%)
 
-# The gate removes target/, so the C programs come before it. Its last line is the verdict's.
-test: kit claims layout registers-check host boards-short demo-check
-	@exec rt ci
+# The gate comes last: its last line is the verdict's.
+test: kit claims registers-check host demo-check
+	@exec tools/gate.sh

@@ -1,4 +1,5 @@
 // The door for the firmware of a board, and of a box that asks boards: the library's calls over byte slices (a pointer and a length) and numbers, as C has them.
+// cedarskein_c hands them to C, under the same names.
 #![tactic(auto)]
 
 ghost use Rattle.std.specs.Prelude.{◌≡◌};
@@ -20,16 +21,14 @@ mod numbers;
 use check_value::Check;
 
 // The check value as a running state: the state before any byte.
-#[unsafe(no_mangle)]
-pub extern "C" fn cedarskein_check_start() -> u16
+pub fn cedarskein_check_start() -> u16
     ensures { result ≡ start_state }
 {
     Check::start().value()
 }
 
 // The state after one byte more.
-#[unsafe(no_mangle)]
-pub extern "C" fn cedarskein_check_take(state: u16, byte: u8) -> u16
+pub fn cedarskein_check_take(state: u16, byte: u8) -> u16
     ensures { result ≡ taken state byte }
 {
     let check = Check { state };
@@ -37,64 +36,56 @@ pub extern "C" fn cedarskein_check_take(state: u16, byte: u8) -> u16
 }
 
 // The check value of a whole slice.
-#[unsafe(no_mangle)]
-pub extern "C" fn cedarskein_check_value(bytes: &[u8]) -> u16
+pub fn cedarskein_check_value(bytes: &[u8]) -> u16
     ensures { result ≡ value_of bytes.now }
 {
     check_value::value_of(bytes)
 }
 
 // 0, or 2 where the sheet breaks a rule.
-#[unsafe(no_mangle)]
-pub extern "C" fn cedarskein_sheet_check(sheet: &[u8]) -> u32
+pub fn cedarskein_sheet_check(sheet: &[u8]) -> u32
     ensures { result ≡ answer_number (sheet_answer sheet.now) }
 {
     numbers::of_answer(sheet::check(sheet))
 }
 
 // 0, or 2, 3, 4 in this order.
-#[unsafe(no_mangle)]
-pub extern "C" fn cedarskein_bank_check(sheet: &[u8], bank: &[u8]) -> u32
+pub fn cedarskein_bank_check(sheet: &[u8], bank: &[u8]) -> u32
     ensures { result ≡ answer_number (check_answer (lent sheet.now bank.now)) }
 {
     numbers::of_answer(bank::check(sheet, bank))
 }
 
 // Makes a bank fresh: 0, or 2, 3 in this order.
-#[unsafe(no_mangle)]
-pub extern "C" fn cedarskein_bank_fresh(sheet: &[u8], bank: &mut [u8]) -> u32
+pub fn cedarskein_bank_fresh(sheet: &[u8], bank: &mut [u8]) -> u32
     ensures { told result bank.new ≡ told_of (fresh_outcome (lent sheet.now bank.old)) }
 {
     numbers::of_answer(bank::fresh(sheet, bank))
 }
 
 // Posts words from an address upward: 0, or 2, 3, 4, 7, 6 in this order.
-#[unsafe(no_mangle)]
-pub extern "C" fn cedarskein_post(sheet: &[u8], bank: &mut [u8], address: u32, words: &[u8]) -> u32
+pub fn cedarskein_post(sheet: &[u8], bank: &mut [u8], address: u32, words: &[u8]) -> u32
     ensures { told result bank.new ≡ told_of (post_outcome (lent sheet.now bank.old) address words.now) }
 {
     numbers::of_answer(bank::post(sheet, bank, address, words))
 }
 
 // Sets the alarm mark: 0, or 2, 3, 4, 7 in this order.
-#[unsafe(no_mangle)]
-pub extern "C" fn cedarskein_set_mark(sheet: &[u8], bank: &mut [u8], mark: u32) -> u32
+pub fn cedarskein_set_mark(sheet: &[u8], bank: &mut [u8], mark: u32) -> u32
     ensures { told result bank.new ≡ told_of (mark_outcome (lent sheet.now bank.old) mark) }
 {
     numbers::of_answer(bank::set_mark(sheet, bank, mark))
 }
 
 // 0, or 2, 8 in this order.
-#[unsafe(no_mangle)]
-pub extern "C" fn cedarskein_ring_check(sheet: &[u8], ring: &[u8]) -> u32
+pub fn cedarskein_ring_check(sheet: &[u8], ring: &[u8]) -> u32
     ensures { result ≡ answer_number (ring_answer sheet.now ring.now) }
 {
     numbers::of_answer(ring::check(sheet, ring))
 }
 
 // Adds the bytes of one whole record to a ring: 0, or 2, 8, 7 in this order; 2 also where the sheet has no record area.
-#[unsafe(no_mangle)]
-pub extern "C" fn cedarskein_add_record(sheet: &[u8], ring: &mut [u8], bytes: &[u8]) -> u32
+pub fn cedarskein_add_record(sheet: &[u8], ring: &mut [u8], bytes: &[u8]) -> u32
     ensures { ring_told result ring.new ≡ ring_told_of (add_outcome sheet.now ring.old bytes.now) }
 {
     numbers::of_answer(ring::add(sheet, ring, bytes))
@@ -103,8 +94,7 @@ pub extern "C" fn cedarskein_add_record(sheet: &[u8], ring: &mut [u8], bytes: &[
 // Answers one frame: 0 with the length of the reply and the rate to send it at, 1 for silence, or 2, 3, 4, 8, 5 in this order. Length
 // and rate are written on every call, zeros where there is no reply. The second promise is the language's own rule for slices: what is lent
 // and what is left are bytes. It is said here so that the demands need not suppose it.
-#[unsafe(no_mangle)]
-pub extern "C" fn cedarskein_answer(
+pub fn cedarskein_answer(
     sheet: &[u8],
     bank: &mut [u8],
     ring: &[u8],
@@ -113,7 +103,7 @@ pub extern "C" fn cedarskein_answer(
     length: &mut u32,
     rate: &mut u32,
 ) -> u32
-    ensures out_after { handed result length.new rate.new bank.new out.new ≡ handed_of (answer_outcome (lent_with sheet.now bank.old ring.now) frame.now out.old) }
+    ensures outcome { handed result length.new rate.new bank.new out.new ≡ handed_of (answer_outcome (lent_with sheet.now bank.old ring.now) frame.now out.old) }
     ensures bytes { Bytes sheet.now × Bytes bank.old × Bytes ring.now × Bytes frame.now × Bytes out.old × Bytes bank.new × Bytes out.new }
 {
     let answered = meter::answer(sheet, bank, ring, frame, out);
@@ -124,8 +114,7 @@ pub extern "C" fn cedarskein_answer(
 
 // Tells why a frame gets silence or an error: 0 with the reason's number, its address and its side, or 2, 3, 4, 8 in this order. Reason, address
 // and side are written on every call, zeros with a refusal. The second promise is as above.
-#[unsafe(no_mangle)]
-pub extern "C" fn cedarskein_why(
+pub fn cedarskein_why(
     sheet: &[u8],
     bank: &[u8],
     ring: &[u8],
@@ -134,7 +123,7 @@ pub extern "C" fn cedarskein_why(
     address: &mut u32,
     side: &mut u32,
 ) -> u32
-    ensures side_after { said result reason.new address.new side.new ≡ said_of (explanation (lent_with sheet.now bank.now ring.now) frame.now) }
+    ensures outcome { said result reason.new address.new side.new ≡ said_of (explanation (lent_with sheet.now bank.now ring.now) frame.now) }
     ensures bytes { Bytes sheet.now × Bytes bank.now × Bytes ring.now × Bytes frame.now }
 {
     let explained = why::why(sheet, bank, ring, frame);
@@ -146,8 +135,7 @@ pub extern "C" fn cedarskein_why(
 
 // Builds the query of an order: 0 with its length, or 9, 5 in this order. The length is written on every call, 0 with a refusal. The second promise
 // is as above.
-#[unsafe(no_mangle)]
-pub extern "C" fn cedarskein_query(
+pub fn cedarskein_query(
     order: u32,
     station: u32,
     address: u32,
@@ -156,7 +144,7 @@ pub extern "C" fn cedarskein_query(
     out: &mut [u8],
     length: &mut u32,
 ) -> u32
-    ensures out_after { query_told result length.new out.new ≡ query_told_of (build_outcome (asked_by order station address number values.now) out.old) }
+    ensures outcome { query_told result length.new out.new ≡ query_told_of (build_outcome (asked_by order station address number values.now) out.old) }
     ensures bytes { Bytes values.now × Bytes out.old × Bytes out.new }
 {
     let asked = numbers::order_of(order, address, number);
@@ -167,8 +155,7 @@ pub extern "C" fn cedarskein_query(
 
 // Reads a reply against the order that it answers: 0 with the length of the values and the error code, or 9, 5, 10, 11, 12, 13 in this order. Both
 // are written on every call, zeros with a refusal. The second promise is as above.
-#[unsafe(no_mangle)]
-pub extern "C" fn cedarskein_reply(
+pub fn cedarskein_reply(
     order: u32,
     station: u32,
     address: u32,
@@ -179,7 +166,7 @@ pub extern "C" fn cedarskein_reply(
     length: &mut u32,
     error: &mut u32,
 ) -> u32
-    ensures out_after { reply_told result length.new error.new out.new ≡ reply_told_of (reading_outcome (asked_by order station address number values.now) reply.now out.old) }
+    ensures outcome { reply_told result length.new error.new out.new ≡ reply_told_of (reading_outcome (asked_by order station address number values.now) reply.now out.old) }
     ensures bytes { Bytes values.now × Bytes reply.now × Bytes out.old × Bytes out.new }
 {
     let asked = numbers::order_of(order, address, number);

@@ -10,7 +10,7 @@ ghost use Rattle.header.specs.Checked.{checked_header};
 use sheet_rules::Header;
 
 // What the check of a header gives.
-#[derive(Drop)]
+#[derive(Clone, Copy)]
 pub enum Checked {
     Sound(Header),
     Broken,

@@ -38,7 +38,7 @@ pub fn not_above(kind: u16, a: u32, b: u32) -> bool
 }
 
 // At which side of its range a value lies: in it, below the low bound, or above the high one.
-#[derive(Drop)]
+#[derive(Clone, Copy)]
 pub enum Side {
     InRange,
     TooLow,

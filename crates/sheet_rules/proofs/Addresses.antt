@@ -93,12 +93,12 @@ lies_there address {area} (there {b = other} {l = behind} m) ascend low high =
     (lies_there address m (ascend_behind other behind ascend) low high)
 
 -- a place of an area has its address there
-pub address_there : (before place : ℕ) {area : Area} {l : List Area} → Among area l → places_follow before l ≡ true
+pub address_there : {area : Area} (before place : ℕ) {l : List Area} → Among area l → places_follow before l ≡ true
     → area.place ≤ place → place < area.place + length_of area → address_of l place ≡ area.first + (place - area.place)
 unfolding address_of
-address_there before place {area} (here {l = behind}) follow low high =
+address_there {area} before place (here {l = behind}) follow low high =
     simp (le-leb area.place place low, lt-ltb place (area.place + length_of area) high)
-address_there before place {area} (there {b = other} {l = behind} m) follow low high =
+address_there {area} before place (there {b = other} {l = behind} m) follow low high =
     let rest = follow_behind before other behind follow in
     simp (
       le-ltb place (other.place + length_of other)
@@ -108,10 +108,10 @@ address_there before place {area} (there {b = other} {l = behind} m) follow low 
     (address_there (before + length_of other) place m rest low high)
 
 -- an area ends within the sum of the lengths
-pub among_below : (before : ℕ) {area : Area} {l : List Area} → Among area l → places_follow before l ≡ true
+pub among_below : {area : Area} (before : ℕ) {l : List Area} → Among area l → places_follow before l ≡ true
     → area.place + length_of area ≤ before + lengths_sum l
 unfolding lengths_sum
-among_below before {area} (here {l = behind}) follow = omega (arith, follow_here before area behind follow)
+among_below {area} before (here {l = behind}) follow = omega (arith, follow_here before area behind follow)
 among_below before (there {b = other} {l = behind} m) follow =
     omega (arith, among_below (before + length_of other) m (follow_behind before other behind follow))
 

@@ -41,13 +41,13 @@ rise_tail : (low : ℕ) (s t : List ℕ) → Rise low (s ++ t) → Rise low t
 rise_tail low [] t r = r
 rise_tail low (x ∷ s) t r = rise_lower (suc x) low (omega (arith, r.0)) t (rise_tail (suc x) s t r.1)
 
-rise_among : (low : ℕ) {x : ℕ} {l : List ℕ} → Among x l → Rise low l → low ≤ x
+rise_among : {x : ℕ} (low : ℕ) {l : List ℕ} → Among x l → Rise low l → low ≤ x
 rise_among low here r = r.0
 rise_among low (there {b = y} m) r = omega (arith, r.0, rise_among (suc y) m r.1)
 
 -- what stands in front is below what stands behind
-rise_apart : (low : ℕ) {x y : ℕ} {s : List ℕ} (t : List ℕ) → Among x s → Among y t → Rise low (s ++ t) → x < y
-rise_apart low {x} t (here {l = s}) m r = rise_among (suc x) (among_right s m) r.1
+rise_apart : {x y : ℕ} (low : ℕ) {s : List ℕ} (t : List ℕ) → Among x s → Among y t → Rise low (s ++ t) → x < y
+rise_apart {x} low t (here {l = s}) m r = rise_among (suc x) (among_right s m) r.1
 rise_apart low t (there {b = z} n) m r = rise_apart (suc z) t n m r.1
 
 rise_up : (first count : ℕ) (t : List ℕ) → Rise (first + count) t → Rise first (up_from first count ++ t)

@@ -26,8 +26,8 @@ follow_behind before area behind e =
     second_of_lem (eqb area.place before) (places_follow (before + length_of area) behind) e
 
 -- every area stands at or above the sum of the lengths before
-pub among_above : (before : ℕ) {area : Area} {l : List Area} → Among area l → places_follow before l ≡ true → before ≤ area.place
-among_above before {area} (here {l = behind}) follow = omega (arith, follow_here before area behind follow)
+pub among_above : {area : Area} (before : ℕ) {l : List Area} → Among area l → places_follow before l ≡ true → before ≤ area.place
+among_above {area} before (here {l = behind}) follow = omega (arith, follow_here before area behind follow)
 among_above before (there {b = other} {l = behind} m) follow =
     omega (arith, among_above (before + length_of other) m (follow_behind before other behind follow))
 
@@ -41,11 +41,11 @@ below_none before (area ∷ behind) follow place low =
     (lt-leb area.place place (omega arith)))
     (below_none (before + length_of area) behind (follow_behind before area behind follow) place (omega arith))
 
-pub pair_within_lem : (before : ℕ) {area : Area} {l : List Area} → Among area l → places_follow before l ≡ true
+pub pair_within_lem : {area : Area} (before : ℕ) {l : List Area} → Among area l → places_follow before l ≡ true
     → (place : ℕ) → area.place ≤ place → place < area.place + length_of area
     → pair_within l place ≡ ltb (place + 1) (area.place + length_of area)
 unfolding some
-pair_within_lem before {area} (here {l = behind}) follow place low high =
+pair_within_lem {area} before (here {l = behind}) follow place low high =
     simp (
       le-leb area.place place low,
       lt-ltb place (area.place + length_of area) high,
@@ -54,7 +54,7 @@ pair_within_lem before {area} (here {l = behind}) follow place low high =
           (omega (arith, follow_here before area behind follow)),
       or-false,
     )
-pair_within_lem before {area} (there {b = other} {l = behind} m) follow place low high =
+pair_within_lem {area} before (there {b = other} {l = behind} m) follow place low high =
     let behind-follow = follow_behind before other behind follow in
     simp (
       le-ltb place (other.place + length_of other)

@@ -1,6 +1,6 @@
 -- The words of a sheet's header, its area and item rows, and its record area, read from the bytes. Total on any bytes: a word past the end is 0. Assumes
 -- nothing.
-use Rattle.std.specs.Prelude.{ℕ, ◌+◌, ◌*◌, ◌-◌, Bool, cond, List, eqb}
+use Rattle.std.specs.Prelude.{ℕ, ◌+◌, ◌*◌, Bool, cond, List, eqb}
 use Rattle.words.specs.Words.{word_at}
 use Rattle.sheet_rules.specs.declared.Area.{Area}
 use Rattle.sheet_rules.specs.declared.Header.{Header}

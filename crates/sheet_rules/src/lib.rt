@@ -2,7 +2,7 @@
 #![tactic(auto)]
 
 // The header: rules S0 to S11.
-#[derive(Drop)]
+#[derive(Clone, Copy)]
 pub struct Header {
     pub version: u16,
     pub areas: u16,
@@ -19,7 +19,7 @@ pub struct Header {
 }
 
 // An area row: rule S20.
-#[derive(Drop)]
+#[derive(Clone, Copy)]
 pub struct Area {
     pub first: u16,
     pub last: u16,
@@ -28,7 +28,7 @@ pub struct Area {
 }
 
 // An item row: rule S40.
-#[derive(Drop)]
+#[derive(Clone, Copy)]
 pub struct Item {
     pub kind: u16,
     pub place: u16,
@@ -37,7 +37,7 @@ pub struct Item {
 }
 
 // The record area: rule S80. It is one without records where a sheet has none.
-#[derive(Drop)]
+#[derive(Clone, Copy)]
 pub struct RecordArea {
     pub first: u16,
     pub records: u16,
@@ -45,21 +45,21 @@ pub struct RecordArea {
 }
 
 // What lies at an address: rule S29.
-#[derive(Drop)]
+#[derive(Clone, Copy)]
 pub enum Lies {
     At { place: u32, access: u16 },
     Nowhere,
 }
 
 // What a run of addresses is for.
-#[derive(Drop)]
+#[derive(Clone, Copy)]
 pub enum Purpose {
     Read,
     Write,
 }
 
 // A run of addresses from a start on: the place of the start, and the first address that is not open.
-#[derive(Drop)]
+#[derive(Clone, Copy)]
 pub struct Run {
     pub place: u32,
     pub end: u32,
