@@ -8,7 +8,7 @@ use sheet_rules::{Area, Header, Item};
 
 // How far the places of the access 2 and access 3 areas are covered: `next` is the next place, `end` ends the places of its area, and `area` is
 // the index of the area behind that one.
-#[derive(Drop)]
+#[derive(Clone, Copy)]
 struct Cover {
     next: u32,
     end: u32,
