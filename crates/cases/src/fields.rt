@@ -1,7 +1,7 @@
 // The text of the cases: lines, and in a line fields of hexadecimal digits, each ended by a space.
 
 // The bytes of a field, and where the line goes on.
-#[derive(Drop)]
+#[derive(Clone, Copy)]
 pub(crate) struct Field {
     pub count: usize,
     pub next: usize,

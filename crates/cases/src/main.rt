@@ -19,7 +19,7 @@ mod results;
 use libc::STDIN_FILENO;
 
 // The bytes of the sheet and of the bank at hand.
-#[derive(Drop)]
+#[derive(Clone, Copy)]
 struct Sizes {
     sheet: usize,
     bank: usize,

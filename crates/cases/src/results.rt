@@ -10,7 +10,7 @@ const FILL: u8 = 0xAA;
 const NO_RING: [u8; 0] = [];
 
 // What a call handed back: 01's number, and the length and the rate of a reply.
-#[derive(Drop)]
+#[derive(Clone, Copy)]
 struct Got {
     pub number: u16,
     pub length: usize,

@@ -16,7 +16,7 @@ pub const LONGEST: usize = 100;
 pub const CHECK_BYTES: usize = 2;
 
 // The running state.
-#[derive(Drop)]
+#[derive(Clone, Copy)]
 pub struct Check {
     pub state: u16,
 }

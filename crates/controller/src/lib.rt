@@ -26,7 +26,7 @@ const MOST_CODE: usize = 3;
 
 // What an order's query and its reply show: the function, the address, the second word, how many addresses it is for, and how many words a good
 // reply brings.
-#[derive(Drop)]
+#[derive(Clone, Copy)]
 struct Wanted {
     pub function: u8,
     pub address: u32,

@@ -6,7 +6,7 @@ use refusals::Refusal;
 
 // What a box asks of a meter, in the numbers that it hands over: rules Q1 and Q2. The values of several writes are lent beside it. An order of no
 // known kind has no frame: rule Q10.
-#[derive(Drop)]
+#[derive(Clone, Copy)]
 pub enum Order {
     Read { start: u32, count: u32 },
     Record { address: u32, words: u32 },
@@ -17,14 +17,14 @@ pub enum Order {
 }
 
 // What building the query of an order answers.
-#[derive(Drop)]
+#[derive(Clone, Copy)]
 pub enum Built {
     Query { length: u32 },
     Refused(Refusal),
 }
 
 // What reading a reply against an order answers. The length of values is in bytes.
-#[derive(Drop)]
+#[derive(Clone, Copy)]
 pub enum Reading {
     Values { length: u32 },
     Done,

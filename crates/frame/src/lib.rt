@@ -28,7 +28,7 @@ pub const ECHO_LENGTH: u32 = 8;
 pub const LEAST_BUFFER: usize = 100;
 
 // The parts of a frame that the order of judgement speaks of.
-#[derive(Drop)]
+#[derive(Clone, Copy)]
 pub struct Parts {
     pub station: u8,
     pub function: u8,
@@ -39,7 +39,7 @@ pub struct Parts {
 }
 
 // What step 1 answers: a frame that passes, taken apart, or that it fails.
-#[derive(Drop)]
+#[derive(Clone, Copy)]
 pub enum Passed {
     Frame(Parts),
     Fails,

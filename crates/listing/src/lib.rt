@@ -10,7 +10,7 @@ ghost use Rattle.listing.specs.Line.{line_of, with_text};
 mod append;
 
 // A line of text: its bytes, and zeros behind them.
-#[derive(Drop)]
+#[derive(Clone, Copy)]
 pub struct Line {
     pub bytes: [u8; 40],
     pub len: usize,

@@ -22,7 +22,7 @@ const BIT_OF_06: u16 = 4;
 const BIT_OF_10: u16 = 8;
 
 // What step 2 answers: a frame for the bank's station, taken apart, or that it is for another.
-#[derive(Drop)]
+#[derive(Clone, Copy)]
 pub enum Addressed {
     Here(Parts),
     Elsewhere,

@@ -14,7 +14,7 @@ use range::Side;
 use sheet_rules::Item;
 
 // A write: where its values begin in the frame, the place of its first address, and how many registers it is for.
-#[derive(Drop)]
+#[derive(Clone, Copy)]
 pub struct Write {
     pub values: u8,
     pub first: u32,

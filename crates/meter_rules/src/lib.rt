@@ -6,7 +6,7 @@ use range::Side;
 use refusals::Refusal;
 
 // Where a write stops: at the first place of its first bad item, with the side at which that item would miss its range; or that no item is bad.
-#[derive(Drop)]
+#[derive(Clone, Copy)]
 pub enum Stop {
     StopsAt { place: u32, side: Side },
     NoBadItem,
@@ -15,7 +15,7 @@ pub enum Stop {
 // Where a frame stops in the order of judgement, or that it is good. `first` is the place of its first address, `stop` the first
 // place of the first bad item and `side` the side at which that item would miss its range, `many` the number of registers. Of a record, `first`
 // is the word of the ring at which it begins, `many` its words.
-#[derive(Drop)]
+#[derive(Clone, Copy)]
 pub enum Judged {
     FailsCheck,
     OtherStation,
@@ -32,14 +32,14 @@ pub enum Judged {
 }
 
 // The judgement of a frame by what a call is lent: refused, or where the frame stops.
-#[derive(Drop)]
+#[derive(Clone, Copy)]
 pub enum Judgement {
     Refused(Refusal),
     Stops(Judged),
 }
 
 // What a call with one frame answers. An error is a reply too: five bytes, by its code.
-#[derive(Drop)]
+#[derive(Clone, Copy)]
 pub enum Answered {
     Reply { length: u32, rate: u16 },
     Error { code: u8, rate: u16 },

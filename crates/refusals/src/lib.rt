@@ -2,7 +2,7 @@
 #![tactic(auto)]
 
 // Why a call is refused: rules N2 to N13, in the order of their numbers.
-#[derive(Drop)]
+#[derive(Clone, Copy)]
 pub enum Refusal {
     BrokenSheet,
     MisfittingBank,
@@ -19,7 +19,7 @@ pub enum Refusal {
 }
 
 // What a call answers.
-#[derive(Drop)]
+#[derive(Clone, Copy)]
 pub enum Answer {
     Done,
     Refused(Refusal),

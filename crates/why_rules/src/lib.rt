@@ -8,7 +8,7 @@ use refusals::Refusal;
 // The reason for silence or an error, none in front, and then in the order in which reasons are told. `address` is the first bad address of a run, or
 // that of a clear elsewhere or of a record that is not stored; of an item, the first address of the first bad one, and `side` the side at which the
 // value that this item would have misses its range.
-#[derive(Drop)]
+#[derive(Clone, Copy)]
 pub enum Reason {
     None,
     TooShort,
@@ -24,7 +24,7 @@ pub enum Reason {
 }
 
 // What a call that asks for the reason answers: refused, or the reason.
-#[derive(Drop)]
+#[derive(Clone, Copy)]
 pub enum Explained {
     Refused(Refusal),
     Because(Reason),
