@@ -97,7 +97,7 @@ def crates():
         line = line.split("#")[0]
         if ":" in line:
             name, below = line.split(":")
-            found[name.strip()] = below.split()
+            found[name.split()[0]] = below.split()
     return {name: [b for b in below if b in found] for name, below in found.items()}
 
 
@@ -266,11 +266,15 @@ def run(command, where):
     return done.returncode, done.stdout
 
 
+def check(crate, tree):
+    return run(["rt", "check"], os.path.join(tree, "crates", crate))
+
+
 def types_of(source):
     """The structures and enumerations of a source, and the types of other crates that they use."""
-    bodies = re.findall(r"^(?:pub )?(?:struct|enum) \w+ \{\n.*?^\}$", source, re.M | re.S)
+    bodies = re.findall(r"^(?:#\[derive\([\w, ]+\)\]\n)?(?:pub )?(?:struct|enum) \w+ \{\n.*?^\}$", source, re.M | re.S)
     uses = [line for line in re.findall(r"^use \w+::\w+;$", source, re.M) if re.search(r"\b" + line[:-1].split("::")[1] + r"\b", "\n".join(bodies))]
-    return "\n".join(["// There is no code here."] + uses + [""] + bodies) + "\n"
+    return "\n".join(["// There is no code here.", "#![tactic(auto)]", ""] + uses + [""] + bodies) + "\n"
 
 
 def bare_proofs(crate, tables_alone):
@@ -282,7 +286,7 @@ def bare_proofs(crate, tables_alone):
         return {name: texts[name] for name in TABLES.get(crate, []) if name in texts}
     gone = {name for name in os.listdir(folder) if os.path.isdir(os.path.join(folder, name))}
     while True:
-        citing = re.compile(r"·?%s(?:·proofs)?\.proofs\.(?:%s)\b" % (crate, "|".join(sorted(gone)) or "-"))
+        citing = re.compile(r"Rattle\.%s\.proofs\.(?:%s)\b" % (crate, "|".join(sorted(gone)) or "-"))
         more = {name for name, text in texts.items() if name not in gone and citing.search(text)}
         if not more:
             return {name: text for name, text in texts.items() if name not in gone}
@@ -340,9 +344,10 @@ class Copy:
         print(f"checking the copy '{self.kind}' with nothing changed", flush=True)
         shutil.rmtree(warm, ignore_errors=True)
         os.rename(fresh, warm)
-        status, said = run(["rt", "check"] + self.libraries, warm)
-        if status != 0:
-            sys.exit(f"the copy '{self.kind}' is refused with nothing changed:\n{said[-3000:]}")
+        for crate in self.libraries:
+            status, said = check(crate, warm)
+            if status != 0:
+                sys.exit(f"the copy '{self.kind}' is refused with nothing changed:\n{said[-3000:]}")
         write(mark, self.digest)
 
     def recall(self):
@@ -366,7 +371,7 @@ class Copy:
 
 # ---- what refuses a slip
 
-ERROR = re.compile(r"crates/(\w+)/(specs|proofs|src)/([\w/]+)\.\w+:\d+:\d+: error: (?:`([^`]+)`)?(.*)")
+ERROR = re.compile(r"^\./(specs|proofs|src)/([\w/+]+)\.\w+:\d+:\d+: error: (?:`([^`]+)`)?(.*)", re.M)
 
 
 def cited_statements():
@@ -377,9 +382,9 @@ def cited_statements():
     return cited
 
 
-def refusal(said, tables, cited):
-    """(what refuses, its names) by what a check said."""
-    errors = [match.groups() for match in map(ERROR.search, said.split("\n")) if match]
+def refusal(said, crate, tables, cited):
+    """(what refuses, its names) by what a check of a crate said."""
+    errors = [(crate, *match.groups()) for match in ERROR.finditer(said)]
     first = [e for e in errors if "was not admitted" not in e[4]]
     # a function whose proof the kit finds by itself has no file of proofs/
     unproved = re.findall(r"^fn ([\w:]+): no proof: ", said, re.M)
@@ -402,9 +407,9 @@ def checked(copy, slip, worker, cited):
     if wrong:
         return DEFINITION, [wrong], wrong
     for crate in from_here_up(copy.libraries, {crate_of(change.file) for change in slip.changes}):
-        status, said = run(["rt", "check", crate], work)
+        status, said = check(crate, work)
         if status != 0:
-            return *refusal(said, copy.kind == "tables", cited), said
+            return *refusal(said, crate, copy.kind == "tables", cited), said
     return NOTHING, [], ""
 
 

@@ -1,18 +1,21 @@
 // Listings of the makers' sheets, and of sheets that are refused.
 #![tactic(auto)]
 
-use libc::STDOUT_FILENO;
+use std::io;
+use std::io::Stdout;
 
-fn list(what: &[u8], sheet: &[u8]) {
-    io::write_all(STDOUT_FILENO, what);
-    listing_print::print(sheet);
+fn list(out: Stdout, what: &[u8], sheet: &[u8]) -> io::Result<()> {
+    out.write_all(what)?;
+    listing_print::print(out, sheet);
+    Ok(())
 }
 
 // So many bytes from the front.
-fn list_front(what: &[u8], bytes: &[u8], n: usize) {
+fn list_front(out: Stdout, what: &[u8], bytes: &[u8], n: usize) -> io::Result<()> {
     if n <= bytes.len() {
-        list(what, &bytes[..n]);
+        list(out, what, &bytes[..n])?;
     }
+    Ok(())
 }
 
 // The UX sheet with a byte more.
@@ -48,21 +51,22 @@ fn presets_too_early() -> [u8; 396] {
     sheet
 }
 
-fn list_versions() {
-    list(b"UX15/25, version 2\n", &of_version(2));
-    list(b"UX15/25, version 3\n", &of_version(3));
-    list(b"AS-WE 40, version 1\n", &presets_too_early());
+fn list_versions(out: Stdout) -> io::Result<()> {
+    list(out, b"UX15/25, version 2\n", &of_version(2))?;
+    list(out, b"UX15/25, version 3\n", &of_version(3))?;
+    list(out, b"AS-WE 40, version 1\n", &presets_too_early())
 }
 
-fn main() {
+fn main(rt: HostRuntime) -> io::Result<()> {
+    let out = rt.stdout();
     let ux = makers::ux();
-    list(b"UX15/25\n", &ux);
-    list(b"AS-WE 40\n", &makers::aswe_40());
-    list(b"AS-WE 50\n", &makers::aswe_50());
-    list(b"AS-WE 80\n", &makers::aswe_80());
-    list_versions();
-    list(b"UX15/25, word 11 not zero\n", &changed());
-    list(b"UX15/25, one byte too many\n", &longer());
-    list_front(b"UX15/25, one byte too few\n", &ux, 255);
-    list(b"nothing\n", b"");
+    list(out, b"UX15/25\n", &ux)?;
+    list(out, b"AS-WE 40\n", &makers::aswe_40())?;
+    list(out, b"AS-WE 50\n", &makers::aswe_50())?;
+    list(out, b"AS-WE 80\n", &makers::aswe_80())?;
+    list_versions(out)?;
+    list(out, b"UX15/25, word 11 not zero\n", &changed())?;
+    list(out, b"UX15/25, one byte too many\n", &longer())?;
+    list_front(out, b"UX15/25, one byte too few\n", &ux, 255)?;
+    list(out, b"nothing\n", b"")
 }

@@ -15,7 +15,7 @@ use Rattle.sheet_rules.specs.declared.Lies.{Lies}
 use Rattle.sheet_rules.specs.declared.Purpose.TheVariants.{Read}
 use Rattle.sheet_rules.specs.Runs.{opens, all_open}
 use Rattle.sheet_rules.proofs.Records.{record_nowhere}
-use Rattle.frame.specs.Frame.{reads, function, start, second, count, run}
+use Rattle.frame.specs.Frame.{reads, function, start, second, run}
 use Rattle.meter_rules.specs.Steps.{starts_in_records, wrong_count}
 use Rattle.meter_rules.proofs.Order.{asks_for, many_is}
 

@@ -115,6 +115,7 @@ differing_rises place (x ∷ a) (y ∷ b) = go (xor x y) (differing_rises (suc p
     go false rises = rising_from place (suc place) (differing (suc place) a b) (omega arith) rises
 
 rising_above : (least : ℕ) (places : List ℕ) → Rising least places → {p : ℕ} → Among p places → least ≤ p
+rising_above least [] rises m = elim m [ ]
 rising_above least (p ∷ places) rises here = rises.0
 rising_above least (q ∷ places) rises (there m) = omega (arith, rises.0, rising_above (suc q) places rises.1 m)
 
@@ -126,6 +127,7 @@ without p (c ∷ cs) = cond (eqb p c) cs (c ∷ without p cs)
 
 without_length : (p : ℕ) (cs : List ℕ) → Among p cs → suc (length (without p cs)) ≡ length cs
 unfolding without
+without_length p [] m = elim m [ ]
 without_length p (c ∷ cs) here = ap (λ (b : Bool). suc (length (cond b cs (c ∷ without c cs)))) (eq-eqb c c refl)
 without_length p (c ∷ cs) (there m) = go (eqb p c) (without_length p cs m)
   where
@@ -135,6 +137,7 @@ without_length p (c ∷ cs) (there m) = go (eqb p c) (without_length p cs m)
 
 without_keeps : (p q : ℕ) (cs : List ℕ) → (p ≡ q → ⊥) → Among q cs → Among q (without p cs)
 unfolding without
+without_keeps p q [] apart m = elim m [ ]
 without_keeps p q (c ∷ cs) apart m = go (eqb p c) refl (among_cons m) (λ n. without_keeps p q cs apart n)
   where
     go : (b : Bool) → eqb p c ≡ b → (q ≡ c) ⊎ Among q cs → (Among q cs → Among q (without p cs)) → Among q (cond b cs (c ∷ without p cs))
@@ -205,6 +208,7 @@ all_within_lem first [] each = tt
 all_within_lem first (p ∷ places) each = ((each p here).0, (each p here).1, all_within_lem first places (λ q m. each q (there m)))
 
 some_place : (places : List ℕ) {p : ℕ} → Among p places → 1 ≤ length places
+some_place [] m = elim m [ ]
 some_place (p ∷ places) m = omega arith
 
 module _ (sent received : List ℕ) (damage : Damage sent received) where
@@ -245,6 +249,10 @@ first_place_lem (p ∷ places) some = (p, here)
 
 one_of_three : (places : List ℕ) → length places ≤ 3 → {k : ℕ} → Among k places
     → (k ≡ get_or places 0 0) ⊎ (k ≡ get_or places 1 0) ⊎ (k ≡ get_or places 2 0)
+one_of_three [] few m = elim m [ ]
+one_of_three (a ∷ []) few (there m) = elim m [ ]
+one_of_three (a ∷ b ∷ []) few (there (there m)) = elim m [ ]
+one_of_three (a ∷ b ∷ c ∷ []) few (there (there (there m))) = elim m [ ]
 one_of_three (a ∷ places) few here = inl refl
 one_of_three (a ∷ b ∷ places) few (there here) = inr (inl refl)
 one_of_three (a ∷ b ∷ c ∷ places) few (there (there here)) = inr (inr refl)
@@ -252,6 +260,7 @@ one_of_three (a ∷ b ∷ c ∷ d ∷ places) few (there (there (there m))) = ab
 
 in_run_lem : (first : ℕ) (places : List ℕ) → all_within first places → {k : ℕ} → Among k places → (first ≤ k) × (k < first + 16)
 unfolding all_within
+in_run_lem first [] within m = elim m [ ]
 in_run_lem first (p ∷ places) within here = (within.0, within.1)
 in_run_lem first (p ∷ places) within (there m) = in_run_lem first places within.2 m
 

@@ -15,7 +15,7 @@ use Rattle.lists.proofs.Among.{Among, here, there, among_nil, each_among, some_a
 use Rattle.sheet_rules.specs.declared.Area.{Area}
 use Rattle.sheet_rules.specs.declared.Item.{Item}
 use Rattle.sheet_rules.specs.declared.Lies.TheVariants.{At}
-use Rattle.sheet_rules.specs.Rows.{areas, items, functions}
+use Rattle.sheet_rules.specs.Rows.{areas, items}
 use Rattle.sheet_rules.specs.Rules.{sound, is_pair, length_of, place_in_area, pair_within, pair_rule, kind_rule, bounds_rule, low_high_rule, cover_rule, items_sound}
 use Rattle.sheet_rules.specs.Lookup.{address_of}
 use Rattle.sheet_rules.proofs.Sound.{sound_parts, sound_areas}

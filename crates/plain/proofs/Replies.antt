@@ -8,7 +8,6 @@ use lib.Seq.{get_or-append-add, get_or-append_seam, get_or-drop, take_at}
 use Rattle.words.specs.Words.{byte_at, word_at, upper, lower, bytes_of}
 use Rattle.check_value.specs.Check.{value_of}
 use Rattle.lists.specs.Lists.{up_from}
-use Rattle.frame.specs.Frame.{function}
 use Rattle.frame.specs.Reply.{words_from, read_reply, echo, error_reply, with_check, laid}
 use Rattle.frame.proofs.Laying.{laid_length}
 use Rattle.frame.proofs.Reading.{check_length}

@@ -31,7 +31,7 @@ use Rattle.plain.specs.Frame.{Whole, RightCount, RightAddress, Fate, silence, er
 use Rattle.plain.specs.Why.{ReadsTooMany, AsFunction, AsCount, FirstBadAddress, of_run, of_record, of_clear, Why, by_none, by_too_short, by_too_long, by_check, by_station, by_function, by_body_length, by_count, by_address, by_clear_value, by_item, GoesOut}
 use Rattle.plain.proofs.Rows.{word_same}
 use Rattle.plain.proofs.Conditions.{station_tells, allowed_tells, length_tells, count_tells, neither_first, neither_second, neither}
-use Rattle.plain.proofs.Addresses.{address_tells, writes, which}
+use Rattle.plain.proofs.Addresses.{address_tells, writes}
 use Rattle.plain.proofs.Values.{misses_outside, value_tells}
 use Rattle.plain.proofs.FirstBad.{short_tells, long_tells, check_tells, many_so, so_many, many_tells, first_address_so, so_first_address, first_item_so, so_first_item}
 use Rattle.plain.proofs.Fates.{fails, unmet, one_fate}

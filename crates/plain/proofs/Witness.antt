@@ -43,5 +43,6 @@ pub frames_damaged : {received : List ℕ} → Among received frames_received �
 frames_damaged m = one_of_lem frames_received received_damaged m
   where
     one_of_lem : (frames : List (List ℕ)) → AllDamaged frame_sent frames → {received : List ℕ} → Among received frames → Damage frame_sent received
+    one_of_lem [] all m = elim m [ ]
     one_of_lem (frame ∷ frames) all here = so_damage all.0
     one_of_lem (frame ∷ frames) all (there m) = one_of_lem frames all.1 m

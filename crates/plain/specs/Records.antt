@@ -1,6 +1,6 @@
 -- The records of a sheet and of a ring, in plain numbers: the three words behind the item rows, the number of the record at an address, and where
 -- a record stands in a ring. Assumes nothing.
-use Rattle.std.specs.Prelude.{◌≡◌, ◌⊎◌, List, ℕ, ◌+◌, ◌-◌, ◌*◌, ◌≤◌, ◌<◌}
+use Rattle.std.specs.Prelude.{◌≡◌, ◌⊎◌, List, ℕ, ◌+◌, ◌*◌, ◌≤◌, ◌<◌}
 use Rattle.plain.specs.Numbers.{word}
 use Rattle.plain.specs.Sheet.{area_rows, item_rows}
 

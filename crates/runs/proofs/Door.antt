@@ -5,118 +5,119 @@ use mathlib.Core.List.{List, [], ◌∷◌}
 use Prim.Native.Nat.{ℕ}
 use seplogic.Ra.Ura.{Ura}
 use prog.Model.{Model}
+use prog.Routine.{Env}
 use types.Logic.{Logic}
 use contract.Running.{Running}
-use Rattle.cedarskein.specs.contracts.cedarskein_check_start as check-start
-use Rattle.cedarskein.proofs.cedarskein_check_start.Met as check-start-kept
-use Rattle.cedarskein.specs.contracts.cedarskein_check_take as check-take
-use Rattle.cedarskein.proofs.cedarskein_check_take.Met as check-take-kept
-use Rattle.cedarskein.specs.contracts.cedarskein_check_value as check-value
-use Rattle.cedarskein.proofs.cedarskein_check_value.Met as check-value-kept
-use Rattle.cedarskein.specs.contracts.cedarskein_sheet_check as sheet-check
-use Rattle.cedarskein.proofs.cedarskein_sheet_check.Met as sheet-check-kept
-use Rattle.cedarskein.specs.contracts.cedarskein_bank_check as bank-check
-use Rattle.cedarskein.proofs.cedarskein_bank_check.Met as bank-check-kept
-use Rattle.cedarskein.specs.contracts.cedarskein_bank_fresh as bank-fresh
-use Rattle.cedarskein.proofs.cedarskein_bank_fresh.Met as bank-fresh-kept
+use Rattle.cedarskein.specs.contracts.cedarskein_check_start as check_start
+use Rattle.cedarskein.proofs.cedarskein_check_start.Met as check_start_kept
+use Rattle.cedarskein.specs.contracts.cedarskein_check_take as check_take
+use Rattle.cedarskein.proofs.cedarskein_check_take.Met as check_take_kept
+use Rattle.cedarskein.specs.contracts.cedarskein_check_value as check_value
+use Rattle.cedarskein.proofs.cedarskein_check_value.Met as check_value_kept
+use Rattle.cedarskein.specs.contracts.cedarskein_sheet_check as sheet_check
+use Rattle.cedarskein.proofs.cedarskein_sheet_check.Met as sheet_check_kept
+use Rattle.cedarskein.specs.contracts.cedarskein_bank_check as bank_check
+use Rattle.cedarskein.proofs.cedarskein_bank_check.Met as bank_check_kept
+use Rattle.cedarskein.specs.contracts.cedarskein_bank_fresh as bank_fresh
+use Rattle.cedarskein.proofs.cedarskein_bank_fresh.Met as bank_fresh_kept
 use Rattle.cedarskein.specs.contracts.cedarskein_post as post
-use Rattle.cedarskein.proofs.cedarskein_post.Met as post-kept
+use Rattle.cedarskein.proofs.cedarskein_post.Met as post_kept
 use Rattle.cedarskein.specs.contracts.cedarskein_set_mark as set_mark
-use Rattle.cedarskein.proofs.cedarskein_set_mark.Met as set-mark-kept
-use Rattle.cedarskein.specs.contracts.cedarskein_ring_check as ring-check
-use Rattle.cedarskein.proofs.cedarskein_ring_check.Met as ring-check-kept
-use Rattle.cedarskein.specs.contracts.cedarskein_add_record as add-record
-use Rattle.cedarskein.proofs.cedarskein_add_record.Met as add-record-kept
+use Rattle.cedarskein.proofs.cedarskein_set_mark.Met as set_mark_kept
+use Rattle.cedarskein.specs.contracts.cedarskein_ring_check as ring_check
+use Rattle.cedarskein.proofs.cedarskein_ring_check.Met as ring_check_kept
+use Rattle.cedarskein.specs.contracts.cedarskein_add_record as add_record
+use Rattle.cedarskein.proofs.cedarskein_add_record.Met as add_record_kept
 use Rattle.cedarskein.specs.contracts.cedarskein_answer as answer
 use Rattle.cedarskein.specs.contracts.cedarskein_why as why
-use Rattle.cedarskein.proofs.cedarskein_answer.Met as answer-kept
-use Rattle.cedarskein.proofs.cedarskein_why.Met as why-kept
-use Rattle.cedarskein.specs.contracts.cedarskein_query as query-door
-use Rattle.cedarskein.proofs.cedarskein_query.Met as query-kept
-use Rattle.cedarskein.specs.contracts.cedarskein_reply as reply-door
-use Rattle.cedarskein.proofs.cedarskein_reply.Met as reply-kept
+use Rattle.cedarskein.proofs.cedarskein_answer.Met as answer_kept
+use Rattle.cedarskein.proofs.cedarskein_why.Met as why_kept
+use Rattle.cedarskein.specs.contracts.cedarskein_query as query_door
+use Rattle.cedarskein.proofs.cedarskein_query.Met as query_kept
+use Rattle.cedarskein.specs.contracts.cedarskein_reply as reply_door
+use Rattle.cedarskein.proofs.cedarskein_reply.Met as reply_kept
 use Rattle.runs.specs.Runs.{Place, to_read, to_write, to_count, lends, Lasts, after, Call, Returns}
 use Rattle.runs.specs.Calls.{check_start_call, check_take_call, check_value_call, sheet_check_call, bank_check_call, bank_fresh_call, post_call, set_mark_call, ring_check_call, add_record_call, answer_call, why_call, query_call, reply_call}
 use Rattle.runs.proofs.Lending.{lifetimes_of, shares_of, args_of, valss_of}
 use Rattle.runs.proofs.Returning.{returns, returns_both}
 
-module _ {M : Type 1} {𝓤 : Ura M} (𝓛 : Logic 𝓤) (𝓜 : Model 𝓤 𝓛.H) (𝓡 : Running 𝓤 𝓛.H 𝓜) where
+module _ {M : Type 1} {𝓤 : Ura M} (𝓛 : Logic 𝓤) (𝓜 : Model 𝓤 𝓛.H) (𝓡 : Running 𝓤 𝓛.H 𝓜) (γ : Env) where
   open 𝓛 use {H}
 
-  pub check_start_returns : Returns 𝓤 H 𝓜 check_start_call
+  pub check_start_returns : Returns 𝓤 H 𝓜 γ check_start_call
   check_start_returns =
       let call : Call = check_start_call in
-      returns 𝓛 𝓜 𝓡 call check-start.signature check-start.spec check-start-kept.met
+      returns 𝓛 𝓜 𝓡 γ call check_start.signature (λ 𝓤₁ 𝓛₁. check_start.spec 𝓛₁) check_start_kept.met
       (λ loans. ((lifetimes_of call.args loans, shares_of call.args, tt, args_of 0 call.args loans, valss_of 0 call.args loans), tt)) (refl, refl, refl)
 
   module _ (state byte : ℕ) where
-    pub check_take_returns : Returns 𝓤 H 𝓜 (check_take_call state byte)
+    pub check_take_returns : Returns 𝓤 H 𝓜 γ (check_take_call state byte)
     check_take_returns =
         let call : Call = check_take_call state byte in
-        returns 𝓛 𝓜 𝓡 call check-take.signature check-take.spec check-take-kept.met
+        returns 𝓛 𝓜 𝓡 γ call check_take.signature (λ 𝓤₁ 𝓛₁. check_take.spec 𝓛₁) check_take_kept.met
         (λ loans. ((lifetimes_of call.args loans, shares_of call.args, tt, args_of 0 call.args loans, valss_of 0 call.args loans), tt)) (refl, refl, refl)
 
   module _ (bytes-at : Place) (bytes : List ℕ) where
-    pub check_value_returns : Returns 𝓤 H 𝓜 (check_value_call bytes-at bytes)
+    pub check_value_returns : Returns 𝓤 H 𝓜 γ (check_value_call bytes-at bytes)
     check_value_returns =
         let call : Call = check_value_call bytes-at bytes in
-        returns 𝓛 𝓜 𝓡 call check-value.signature check-value.spec check-value-kept.met
+        returns 𝓛 𝓜 𝓡 γ call check_value.signature (λ 𝓤₁ 𝓛₁. check_value.spec 𝓛₁) check_value_kept.met
         (λ loans. ((lifetimes_of call.args loans, shares_of call.args, tt, args_of 0 call.args loans, valss_of 0 call.args loans), tt)) (refl, refl, refl)
 
   module _ (sheet-at : Place) (sheet : List ℕ) where
-    pub sheet_check_returns : Returns 𝓤 H 𝓜 (sheet_check_call sheet-at sheet)
+    pub sheet_check_returns : Returns 𝓤 H 𝓜 γ (sheet_check_call sheet-at sheet)
     sheet_check_returns =
         let call : Call = sheet_check_call sheet-at sheet in
-        returns 𝓛 𝓜 𝓡 call sheet-check.signature sheet-check.spec sheet-check-kept.met
+        returns 𝓛 𝓜 𝓡 γ call sheet_check.signature (λ 𝓤₁ 𝓛₁. sheet_check.spec 𝓛₁) sheet_check_kept.met
         (λ loans. ((lifetimes_of call.args loans, shares_of call.args, tt, args_of 0 call.args loans, valss_of 0 call.args loans), tt)) (refl, refl, refl)
 
   module _ (sheet-at bank-at : Place) (sheet bank : List ℕ) where
-    pub bank_check_returns : Returns 𝓤 H 𝓜 (bank_check_call sheet-at bank-at sheet bank)
+    pub bank_check_returns : Returns 𝓤 H 𝓜 γ (bank_check_call sheet-at bank-at sheet bank)
     bank_check_returns =
         let call : Call = bank_check_call sheet-at bank-at sheet bank in
-        returns 𝓛 𝓜 𝓡 call bank-check.signature bank-check.spec bank-check-kept.met
+        returns 𝓛 𝓜 𝓡 γ call bank_check.signature (λ 𝓤₁ 𝓛₁. bank_check.spec 𝓛₁) bank_check_kept.met
         (λ loans. ((lifetimes_of call.args loans, shares_of call.args, tt, args_of 0 call.args loans, valss_of 0 call.args loans), tt)) (refl, refl, refl)
 
   module _ (sheet-at bank-at : Place) (sheet bank : List ℕ) where
-    pub bank_fresh_returns : Returns 𝓤 H 𝓜 (bank_fresh_call sheet-at bank-at sheet bank)
+    pub bank_fresh_returns : Returns 𝓤 H 𝓜 γ (bank_fresh_call sheet-at bank-at sheet bank)
     bank_fresh_returns =
         let call : Call = bank_fresh_call sheet-at bank-at sheet bank in
-        returns 𝓛 𝓜 𝓡 call bank-fresh.signature bank-fresh.spec bank-fresh-kept.met
+        returns 𝓛 𝓜 𝓡 γ call bank_fresh.signature (λ 𝓤₁ 𝓛₁. bank_fresh.spec 𝓛₁) bank_fresh_kept.met
         (λ loans. ((lifetimes_of call.args loans, shares_of call.args, tt, args_of 0 call.args loans, valss_of 0 call.args loans), tt)) (refl, refl, refl)
 
   module _ (sheet-at bank-at words-at : Place) (sheet bank words : List ℕ) (address : ℕ) where
-    pub post_returns : Returns 𝓤 H 𝓜 (post_call sheet-at bank-at words-at sheet bank words address)
+    pub post_returns : Returns 𝓤 H 𝓜 γ (post_call sheet-at bank-at words-at sheet bank words address)
     post_returns =
         let call : Call = post_call sheet-at bank-at words-at sheet bank words address in
-        returns 𝓛 𝓜 𝓡 call post.signature post.spec post-kept.met
+        returns 𝓛 𝓜 𝓡 γ call post.signature (λ 𝓤₁ 𝓛₁. post.spec 𝓛₁) post_kept.met
         (λ loans. ((lifetimes_of call.args loans, shares_of call.args, tt, args_of 0 call.args loans, valss_of 0 call.args loans), tt)) (refl, refl, refl)
 
   module _ (sheet-at bank-at : Place) (sheet bank : List ℕ) (mark : ℕ) where
-    pub set_mark_returns : Returns 𝓤 H 𝓜 (set_mark_call sheet-at bank-at sheet bank mark)
+    pub set_mark_returns : Returns 𝓤 H 𝓜 γ (set_mark_call sheet-at bank-at sheet bank mark)
     set_mark_returns =
         let call : Call = set_mark_call sheet-at bank-at sheet bank mark in
-        returns 𝓛 𝓜 𝓡 call set_mark.signature set_mark.spec set-mark-kept.met
+        returns 𝓛 𝓜 𝓡 γ call set_mark.signature (λ 𝓤₁ 𝓛₁. set_mark.spec 𝓛₁) set_mark_kept.met
         (λ loans. ((lifetimes_of call.args loans, shares_of call.args, tt, args_of 0 call.args loans, valss_of 0 call.args loans), tt)) (refl, refl, refl)
 
   module _ (sheet-at ring-at : Place) (sheet ring : List ℕ) where
-    pub ring_check_returns : Returns 𝓤 H 𝓜 (ring_check_call sheet-at ring-at sheet ring)
+    pub ring_check_returns : Returns 𝓤 H 𝓜 γ (ring_check_call sheet-at ring-at sheet ring)
     ring_check_returns =
         let call : Call = ring_check_call sheet-at ring-at sheet ring in
-        returns 𝓛 𝓜 𝓡 call ring-check.signature ring-check.spec ring-check-kept.met
+        returns 𝓛 𝓜 𝓡 γ call ring_check.signature (λ 𝓤₁ 𝓛₁. ring_check.spec 𝓛₁) ring_check_kept.met
         (λ loans. ((lifetimes_of call.args loans, shares_of call.args, tt, args_of 0 call.args loans, valss_of 0 call.args loans), tt)) (refl, refl, refl)
 
   module _ (sheet-at ring-at bytes-at : Place) (sheet ring bytes : List ℕ) where
-    pub add_record_returns : Returns 𝓤 H 𝓜 (add_record_call sheet-at ring-at bytes-at sheet ring bytes)
+    pub add_record_returns : Returns 𝓤 H 𝓜 γ (add_record_call sheet-at ring-at bytes-at sheet ring bytes)
     add_record_returns =
         let call : Call = add_record_call sheet-at ring-at bytes-at sheet ring bytes in
-        returns 𝓛 𝓜 𝓡 call add-record.signature add-record.spec add-record-kept.met
+        returns 𝓛 𝓜 𝓡 γ call add_record.signature (λ 𝓤₁ 𝓛₁. add_record.spec 𝓛₁) add_record_kept.met
         (λ loans. ((lifetimes_of call.args loans, shares_of call.args, tt, args_of 0 call.args loans, valss_of 0 call.args loans), tt)) (refl, refl, refl)
 
   module _ (sheet-at bank-at ring-at frame_at buffer-at length_at rate_at : Place) (sheet bank ring frame buffer : List ℕ) (length rate : ℕ) where
-    pub answer_returns : Returns 𝓤 H 𝓜 (answer_call sheet-at bank-at ring-at frame_at buffer-at length_at rate_at sheet bank ring frame buffer length rate)
+    pub answer_returns : Returns 𝓤 H 𝓜 γ (answer_call sheet-at bank-at ring-at frame_at buffer-at length_at rate_at sheet bank ring frame buffer length rate)
     answer_returns =
         let call : Call = answer_call sheet-at bank-at ring-at frame_at buffer-at length_at rate_at sheet bank ring frame buffer length rate in
-        returns_both 𝓛 𝓜 𝓡 call answer.signature answer.spec _ _ (λ number left both. both) answer-kept.met
+        returns_both 𝓛 𝓜 𝓡 γ call answer.signature (λ 𝓤₁ 𝓛₁. answer.spec 𝓛₁) _ _ (λ number left both. both) answer_kept.met
         (λ loans. ((lifetimes_of call.args loans, shares_of call.args, tt, args_of 0 call.args loans, valss_of 0 call.args loans), tt)) (refl, refl, refl)
 
     -- no call with a frame changes the ring: what lies in the memory afterwards has it as it was
@@ -127,10 +128,10 @@ module _ {M : Type 1} {𝓤 : Ura M} (𝓛 : Logic 𝓤) (𝓜 : Model 𝓤 𝓛
     answer_leaves_ring left = refl
 
   module _ (sheet-at bank-at ring-at frame_at reason-at address-at side-at : Place) (sheet bank ring frame : List ℕ) (reason address side : ℕ) where
-    pub why_returns : Returns 𝓤 H 𝓜 (why_call sheet-at bank-at ring-at frame_at reason-at address-at side-at sheet bank ring frame reason address side)
+    pub why_returns : Returns 𝓤 H 𝓜 γ (why_call sheet-at bank-at ring-at frame_at reason-at address-at side-at sheet bank ring frame reason address side)
     why_returns =
         let call : Call = why_call sheet-at bank-at ring-at frame_at reason-at address-at side-at sheet bank ring frame reason address side in
-        returns_both 𝓛 𝓜 𝓡 call why.signature why.spec _ _ (λ number left both. both) why-kept.met
+        returns_both 𝓛 𝓜 𝓡 γ call why.signature (λ 𝓤₁ 𝓛₁. why.spec 𝓛₁) _ _ (λ number left both. both) why_kept.met
         (λ loans. ((lifetimes_of call.args loans, shares_of call.args, tt, args_of 0 call.args loans, valss_of 0 call.args loans), tt)) (refl, refl, refl)
 
     pub why_leaves_ring : (left : Lasts (why_call sheet-at bank-at ring-at frame_at reason-at address-at side-at sheet bank ring frame reason address side).args)
@@ -141,15 +142,15 @@ module _ {M : Type 1} {𝓤 : Ura M} (𝓛 : Logic 𝓤) (𝓜 : Model 𝓤 𝓛
     why_leaves_ring left = refl
 
   module _ (values-at buffer-at length_at : Place) (order station address number : ℕ) (values buffer : List ℕ) (length : ℕ) where
-    pub query_returns : Returns 𝓤 H 𝓜 (query_call values-at buffer-at length_at order station address number values buffer length)
+    pub query_returns : Returns 𝓤 H 𝓜 γ (query_call values-at buffer-at length_at order station address number values buffer length)
     query_returns =
         let call : Call = query_call values-at buffer-at length_at order station address number values buffer length in
-        returns_both 𝓛 𝓜 𝓡 call query-door.signature query-door.spec _ _ (λ number left both. both) query-kept.met
+        returns_both 𝓛 𝓜 𝓡 γ call query_door.signature (λ 𝓤₁ 𝓛₁. query_door.spec 𝓛₁) _ _ (λ number left both. both) query_kept.met
         (λ loans. ((lifetimes_of call.args loans, shares_of call.args, tt, args_of 0 call.args loans, valss_of 0 call.args loans), tt)) (refl, refl, refl)
 
   module _ (values-at reply-at buffer-at length_at error-at : Place) (order station address number : ℕ) (values reply buffer : List ℕ) (length error : ℕ) where
-    pub reply_returns : Returns 𝓤 H 𝓜 (reply_call values-at reply-at buffer-at length_at error-at order station address number values reply buffer length error)
+    pub reply_returns : Returns 𝓤 H 𝓜 γ (reply_call values-at reply-at buffer-at length_at error-at order station address number values reply buffer length error)
     reply_returns =
         let call : Call = reply_call values-at reply-at buffer-at length_at error-at order station address number values reply buffer length error in
-        returns_both 𝓛 𝓜 𝓡 call reply-door.signature reply-door.spec _ _ (λ number left both. both) reply-kept.met
+        returns_both 𝓛 𝓜 𝓡 γ call reply_door.signature (λ 𝓤₁ 𝓛₁. reply_door.spec 𝓛₁) _ _ (λ number left both. both) reply_kept.met
         (λ loans. ((lifetimes_of call.args loans, shares_of call.args, tt, args_of 0 call.args loans, valss_of 0 call.args loans), tt)) (refl, refl, refl)

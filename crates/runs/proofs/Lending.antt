@@ -5,17 +5,17 @@ use mathlib.Core.Logic.{∥∥₁_prop, ∥∥₁_elim, ∥∥₁_map}
 use mathlib.Core.List.{List, [], ◌∷◌}
 use Prim.Native.Nat.{ℕ, suc, ◌+◌, ◌<◌, ◌^◌}
 use seplogic.Ra.Ura.{Ura}
-use seplogic.Ra.TreeShare.{full_share}
+use base.Fraction.{full_share}
 use lib.ListN.{length}
 use mir.Syntax.{named, Width, w8, w32, ty_int}
 use mir.Val.{vint, bits}
 use base.Logic.{SProp, ent, sep, ex, emp, id⊢, via, comm∗, assoc∗, assoc', mono∗, mono_l, emp∗}
-use base.Fml.{GName, Fml, ftrue, fsep, feq, flft, flent, fat, fres}
+use base.Fml.{GName, Incl-refl, Fml, ftrue, fsep, feq, flft, fbor, flent, fat, fres}
 use prog.Memory.{Memory}
 use prog.Wp.{run}
 use prog.Model.{Model}
 use types.Logic.{Logic, sem}
-use types.Kit.{‵, raw, ◌⊛◌, some, later, ◌$◌, ◌∵◌, !, qed, by, move, keep, use0, use1, use3, split, split3, join, pick, await, updating, now as at_once, done, show, feq_i, fjoin, fsplit}
+use types.Kit.{‵, raw, ◌⊛◌, some, later, ◌$◌, ◌∵◌, !, qed, by, move, keep, use0, use1, use2, use3, split, split3, join, pick, await, updating, now as at_once, done, show, feq_i, fjoin, fsplit}
 use types.Tokens.{lft_new, lft_end, lent_back}
 use types.SemTy.{cells, Arr, Body}
 use types.Share.{arr_parts, parts}
@@ -26,6 +26,7 @@ use denote.Memory.{mem, shares, part_at}
 use denote.Plain.{UInt, uint_in, uint_out, uint_Makes}
 use denote.RattleType.{RattleType, Denots, Valss, owns}
 use denote.Ref.{MutRef}
+use denote.Copied.{uint_Copied}
 use denote.Slice.{MutSlice, ShrSlice, Room, finally}
 use denote.Lend.{lends_slice, lends_shr_slice, lends_ref, Held, slice_back, ref_back}
 use denote.Triple.Walked.{says}
@@ -64,7 +65,7 @@ row_of j (to_write at bytes) loan = MutSlice (named j) (loan.0 ∷ []) u8
 row_of j (to_count at n) loan = MutRef (named j) (loan.0 ∷ []) u32
 
 abbrev ref_of : (j : ℕ) (borrowed : Borrowed) (loan : Loan) → (row_of j borrowed loan).Denot
-ref_of j (to_read at bytes) loan = record { ref_ptr = at; ghost_name = loan.1; now = bytes }
+ref_of j (to_read at bytes) loan = record { ref_ptr = at; now = bytes }
 ref_of j (to_write at bytes) loan = record { ref_ptr = at; ghost_name = loan.1; now = bytes }
 ref_of j (to_count at n) loan = record { ref_ptr = at; ghost_name = loan.1; now = n }
 
@@ -91,8 +92,8 @@ kept_of (to_count at n) loan = Body (mem u32) at.0 at.1 loan.1
 
 abbrev left_of : (borrowed : Borrowed) → Loan → Last borrowed → Fml
 left_of (to_read at bytes) loan last = ftrue
-left_of (to_write at bytes) loan last = fsep (finally u8 loan.1 last) (feq ℕ (length last) (length bytes))
-left_of (to_count at n) loan last = fres loan.1 (u32.coded.code last)
+left_of (to_write at bytes) loan last = fsep (fsep (finally u8 loan.1 last) (feq ℕ (length last) (length bytes))) (fbor (loan.0 ∷ []) (Held u8 (length bytes) at.0 at.1 loan.1))
+left_of (to_count at n) loan last = fsep (fres loan.1 (u32.coded.code last)) (fbor (loan.0 ∷ []) (Body (mem u32) at.0 at.1 loan.1))
 
 abbrev pub lefts_of : (args : List Arg) → Loans args → Lasts args → Fml
 lefts_of [] loans lasts = ftrue
@@ -148,8 +149,9 @@ module _ {M : Type 1} {𝓤 : Ura M} (𝓛 : Logic 𝓤) where
   makes j (to_read at ys) fits =
       qed 𝓛 (raw (run 𝓤 H full_share w8 at.0 at.1 ys) ∷ []) ∵ updating ! $ use1 𝓛 (‵ (parts (mem u8) (shares u8) full_share ys at.0 at.1)) (in_parts at.0 at.1 ys) $
       feq_i ! ℕ (length ys) (length ys) refl $ fjoin ! $ lft_new ! tt (λ α. move ! (1 ∷ []) $
-      use1 𝓛 (later (some (λ (δ : GName). raw (Own j (to_read at ys) (α, δ)) ⊛ raw (Aside (to_read at ys) (α, δ))))) (lends_shr_slice 𝓛 u8 (named j) (α ∷ []) full_share ys at.0 at.1 (room (length ys) fits)) $
-      await ! tt $ pick ! (λ δ. split ! $ at_once ! $ show ! (Made j (to_read at ys)) (α, δ) $ move ! (2 ∷ 0 ∷ 1 ∷ []) $ done !))
+      use2 𝓛 (later ((raw (Own j (to_read at ys) (α, 0)) ⊛ raw (Aside (to_read at ys) (α, 0))) ⊛ raw (Token (α, 0))))
+      (lends_shr_slice 𝓛 u8 (named j) (α ∷ []) full_share ys at.0 at.1 (room (length ys) fits) (α ∷ []) ((uint_Copied 𝓛 w8).shares full_share (α ∷ [])) ((α ∷ [], full_share) ∷ []) (Incl-refl (α ∷ [])) (Incl-refl (α ∷ []))) $
+      await ! tt $ split ! $ split ! $ at_once ! $ show ! (Made j (to_read at ys)) (α, 0) $ move ! (2 ∷ 0 ∷ 1 ∷ []) $ done !)
   makes j (to_write at ys) fits =
       qed 𝓛 (raw (run 𝓤 H full_share w8 at.0 at.1 ys) ∷ []) ∵ updating ! $ use1 𝓛 (‵ (cells (mem u8) ys at.0 at.1)) (in_cells at.0 at.1 ys) $ lft_new ! tt (λ α. move ! (1 ∷ []) $
       use1 𝓛 (later (some (λ (δ : GName). raw (Own j (to_write at ys) (α, δ)) ⊛ raw (Aside (to_write at ys) (α, δ))))) (lends_slice 𝓛 u8 (named j) (α ∷ []) ys at.0 at.1 (room (length ys) fits)) $
@@ -165,12 +167,12 @@ module _ {M : Type 1} {𝓤 : Ura M} (𝓛 : Logic 𝓤) where
       at_once ! $ keep ! (1 ∷ []) $ by ! (out_parts at.0 at.1 ys)
   backs (to_write at ys) loan last =
       qed 𝓛 (‵ (flft (loan.0 ∷ []) full_share) ∷ ‵ (flent (loan.0 ∷ []) (Held u8 (length ys) at.0 at.1 loan.1)) ∷ ‵ (left_of (to_write at ys) loan last) ∷ []) ∵ updating ! $ lft_end ! tt $
-      move ! (2 ∷ []) $ fsplit ! $ move ! (2 ∷ 3 ∷ 0 ∷ []) $
+      move ! (2 ∷ []) $ fsplit ! $ fsplit ! $ move ! (3 ∷ 4 ∷ 0 ∷ []) $
       use3 𝓛 (later (‵ ((Arr (mem u8) (length ys)).own_at last at.0 at.1))) (slice_back 𝓛 u8 (loan.0 ∷ []) loan.1 last (length ys) at.0 at.1) $ await ! tt $ fsplit ! $
       at_once ! $ keep ! (1 ∷ []) $ by ! (out_cells at.0 at.1 last)
   backs (to_count at n) loan last =
-      qed 𝓛 (‵ (flft (loan.0 ∷ []) full_share) ∷ ‵ (flent (loan.0 ∷ []) (Body (mem u32) at.0 at.1 loan.1)) ∷ ‵ (fres loan.1 (u32.coded.code last)) ∷ []) ∵ updating ! $ lft_end ! tt $
-      use3 𝓛 (later (‵ (part_at u32 full_share last at.0 at.1))) (ref_back 𝓛 u32 (loan.0 ∷ []) loan.1 last at.0 at.1) $ await ! tt $ at_once ! $ by ! (uint_out 𝓛 full_share w32 last at.0 at.1)
+      qed 𝓛 (‵ (flft (loan.0 ∷ []) full_share) ∷ ‵ (flent (loan.0 ∷ []) (Body (mem u32) at.0 at.1 loan.1)) ∷ ‵ (left_of (to_count at n) loan last) ∷ []) ∵ updating ! $ lft_end ! tt $
+      move ! (2 ∷ []) $ fsplit ! $ move ! (2 ∷ 3 ∷ 0 ∷ []) $ use3 𝓛 (later (‵ (part_at u32 full_share last at.0 at.1))) (ref_back 𝓛 u32 (loan.0 ∷ []) loan.1 last at.0 at.1) $ await ! tt $ at_once ! $ keep ! (0 ∷ []) $ by ! (uint_out 𝓛 full_share w32 last at.0 at.1)
 
   -- ---- all of it
 

@@ -15,9 +15,10 @@ use contract.Adequate.{Satisfies, sat_weaken, sat_ex∗, sat_⇛, sat_fact}
 use denote.Plain.{UInt}
 use denote.Triple.Walked.{says}
 use prog.Machine.{done as ended}
-use prog.Routine.{Routine, anyName}
+use prog.Routine.{Routine, Callee, Env, step}
+use prog.Wired.{Code, Wired}
 use contract.Monad.{Fun, fact, fact_i, fact_use}
-use contract.Running.{Running, tables}
+use contract.Running.{Running, strict, within, tables}
 use denote.Steps.{only, heard}
 use denote.Signature.{Signature}
 use denote.Triple.Statement.{Contract}
@@ -26,24 +27,28 @@ use denote.Triple.Adequate.{adequate}
 use Rattle.runs.specs.Runs.{Call, values_of, Lasts, after, Lie, Returns}
 use Rattle.runs.proofs.Lending.{Loans, lefts_of, Tokens, Owns, Asides, backs_all, lends_all}
 
--- a contract as it is generated, and what the check proves of the function: its routine meets it, in any model
+-- a contract as it is generated, and what the check proves of the function: its routine meets it, in any model, where the names mean its code
 module _ (M : Type 1) (S : Signature) where
   abbrev pub Contracts : Type 2
   Contracts = (𝓤 : Ura M) (𝓛 : Logic 𝓤) → (Memory → SProp 𝓤) → (Routine → Fun 𝓤) → Spec 𝓤 S
 
-  abbrev pub Kept : Routine → Contracts → Type 2
-  Kept routine spec = (𝓤 : Ura M) (𝓛 : Logic 𝓤) (𝓜 : Model 𝓤 𝓛.H) (𝓡 : Running 𝓤 𝓛.H 𝓜)
-      → Meets 𝓛 S (𝓡.run routine) (spec 𝓛 𝓜.mem 𝓡.run)
+  abbrev pub Kept : Code → Callee → Contracts → Type 2
+  Kept code name spec = (𝓤 : Ura M) (𝓛 : Logic 𝓤) (𝓜 : Model 𝓤 𝓛.H) (𝓡 : Running 𝓤 𝓛.H 𝓜) → Wired 𝓡.env code
+      → Meets 𝓛 S (𝓡.run (𝓡.env name)) (spec 𝓤 𝓛 𝓜.mem 𝓡.returns)
 
-module _ {M : Type 1} {𝓤 : Ura M} (𝓛 : Logic 𝓤) (𝓜 : Model 𝓤 𝓛.H) (𝓡 : Running 𝓤 𝓛.H 𝓜) (call : Call) (S : Signature) (spec : Contracts M S) where
+module _ {M : Type 1} {𝓤 : Ura M} (𝓛 : Logic 𝓤) (𝓜 : Model 𝓤 𝓛.H) (𝓡 : Running 𝓤 𝓛.H 𝓜) (γ : Env) (call : Call) (S : Signature) (spec : Contracts M S) where
   open 𝓛 use {H}
 
   abbrev ◌∗◌ : SProp 𝓤 → SProp 𝓤 → SProp 𝓤
   P ∗ Q = sep 𝓤 P Q
 
   infixr 35 ◌∗◌
+  -- one thread alone, where the process may not be stopped, and the names mean γ
+  abbrev here : Running 𝓤 H 𝓜
+  here = strict 𝓤 H 𝓜 (within 𝓤 H 𝓜 𝓡 γ)
+
   abbrev pub c : Contract 𝓤
-  c = triple_of 𝓛 S (spec 𝓤 𝓛 𝓜.mem 𝓡.run)
+  c = triple_of 𝓛 S (spec 𝓤 𝓛 𝓜.mem here.returns)
 
   abbrev pub Pre : Loans call.args → SProp 𝓤
   Pre loans = (Tokens 𝓛 call.args loans ∗ Owns 𝓛 0 call.args loans) ∗ emp 𝓤
@@ -89,12 +94,12 @@ module _ {M : Type 1} {𝓤 : Ura M} (𝓛 : Logic 𝓤) (𝓜 : Model 𝓤 𝓛
       × (◌≡◌ {A = Loans call.args → Val → SProp 𝓤} (λ loans. c.post (at loans)) (Post claims))
 
   pub returns_by : (claims : Claims) → ((r : ℕ) (lasts : Lasts call.args) → ent 𝓤 (claims r lasts) (promised r lasts))
-      → Kept M S call.function spec → (at : Loans call.args → c.Ghost) → Computes claims at → Returns 𝓤 H 𝓜 call
-  returns_by claims say kept at is σ F fit s =
+      → Kept M S call.code call.name spec → (at : Loans call.args → c.Ghost) → Computes claims at → Returns 𝓤 H 𝓜 γ call
+  returns_by claims say kept at is wired σ F fit s =
       ∥∥₁_elim (lends_all 𝓛 𝓜 σ 0 call.args fit F s) ∥∥₁_prop (λ t.
       let loans : Loans call.args = t.0 in
       let F' : SProp 𝓤 = Asides 𝓛 call.args loans ∗ F in
-      ∥∥₁_elim (adequate 𝓤 H 𝓜 (tables 𝓤 H 𝓜 𝓡 (λ _. call.function)) anyName c (kept 𝓤 𝓛 𝓜 𝓡) (at loans) σ F'
+      ∥∥₁_elim (adequate 𝓤 H 𝓜 (tables 𝓤 H 𝓜 here γ) ((λ s o. o), tt) call.name c (kept 𝓤 𝓛 𝓜 here wired) (at loans) σ F'
       (subst (λ (Q : Loans call.args → SProp 𝓤). Satisfies 𝓤 H 𝓜 σ (Q loans ∗ F')) (sym is.0) (sat_weaken 𝓤 H 𝓜 σ (mono_l 𝓤 F' (with_emp (Tokens 𝓛 call.args loans ∗ Owns 𝓛 0 call.args loans))) t.1))) ∥∥₁_prop (λ u.
       ∥∥₁_elim (sat_ex∗ 𝓤 H 𝓜 u.2 (Back u.1 F) (emp 𝓤) (sat_⇛ 𝓤 H 𝓜 u.2 (ex 𝓤 (Back u.1 F)) (emp 𝓤)
       (sat_weaken 𝓤 H 𝓜 u.2 (via 𝓤 (H.⇛ (ex 𝓤 (Back u.1 F))) (takes_back claims say loans u.1 F) (with_emp (H.⇛ (ex 𝓤 (Back u.1 F)))))
@@ -105,7 +110,7 @@ module _ {M : Type 1} {𝓤 : Ura M} (𝓛 : Logic 𝓤) (𝓜 : Model 𝓤 𝓛
         number = x.0.0;
         left = x.0.1;
         memory = u.2;
-        runs = subst (λ (vs : List Val). call.function.step u.0 vs σ ≡ ended (vint call.width x.0.0, u.2)) (λ i. is.1 i loans) (subst (λ (v : Val). call.function.step u.0 (c.args (at loans)) σ ≡ ended (v, u.2)) (ap only f.0) u.3);
+        runs = subst (λ (vs : List Val). step (γ call.name) u.0 vs σ ≡ ended (vint call.width x.0.0, u.2)) (λ i. is.1 i loans) (subst (λ (v : Val). step (γ call.name) u.0 (c.args (at loans)) σ ≡ ended (v, u.2)) (ap only f.0) u.3);
         promised = f.1;
         lies = sat_weaken 𝓤 H 𝓜 u.2 (via 𝓤 (Back u.1 F x.0) (fst∗ 𝓤 (Back u.1 F x.0) (emp 𝓤)) (fst∗ 𝓤 (Lie 𝓤 H (after call.args x.0.1) ∗ F) (fact 𝓤 (Is u.1 x.0.0 × call.promise x.0.0 x.0.1)))) x.1;
       }))))
@@ -117,7 +122,7 @@ module _ {M : Type 1} {𝓤 : Ura M} (𝓛 : Logic 𝓤) (𝓜 : Model 𝓤 𝓛
       said Q P φ = via 𝓤 ((P ∗ fact 𝓤 φ) ∗ emp 𝓤) (snd∗ 𝓤 Q ((P ∗ fact 𝓤 φ) ∗ emp 𝓤)) (via 𝓤 (P ∗ fact 𝓤 φ) (fst∗ 𝓤 (P ∗ fact 𝓤 φ) (emp 𝓤)) (snd∗ 𝓤 P (fact 𝓤 φ)))
 
   -- the same of a contract with one clause, which is the promise
-  pub returns : Kept M S call.function spec → (at : Loans call.args → c.Ghost) → Computes promised at → Returns 𝓤 H 𝓜 call
+  pub returns : Kept M S call.code call.name spec → (at : Loans call.args → c.Ghost) → Computes promised at → Returns 𝓤 H 𝓜 γ call
   returns = returns_by promised (λ r lasts. id⊢ 𝓤 (promised r lasts))
 
   -- .. and of one with two clauses, which together are the promise
@@ -131,5 +136,5 @@ module _ {M : Type 1} {𝓤 : Ura M} (𝓛 : Logic 𝓤) (𝓜 : Model 𝓤 𝓛
         let Q : SProp 𝓤 = fact 𝓤 (second r lasts) in
         fact_use 𝓤 (first r lasts) (fst∗ 𝓤 P Q) (λ one. fact_use 𝓤 (second r lasts) (snd∗ 𝓤 P Q) (λ other. fact_i 𝓤 (call.promise r lasts) (P ∗ Q) (both r lasts (one, other))))
 
-    pub returns_both : Kept M S call.function spec → (at : Loans call.args → c.Ghost) → Computes clauses at → Returns 𝓤 H 𝓜 call
+    pub returns_both : Kept M S call.code call.name spec → (at : Loans call.args → c.Ghost) → Computes clauses at → Returns 𝓤 H 𝓜 γ call
     returns_both = returns_by clauses say

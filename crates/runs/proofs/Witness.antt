@@ -6,7 +6,7 @@ use mathlib.Core.List.{List, [], ◌∷◌, ◌++◌}
 use Prim.Native.Nat.{ℕ, ◌+◌, ◌<◌, ◌^◌}
 use native.Mathlib.Omega.{arith}
 use seplogic.Ra.Ura.{Ura}
-use seplogic.Ra.TreeShare.{full_share}
+use base.Fraction.{full_share}
 use seplogic.Bi.Sat
 use lib.ListN.{length}
 use mir.Syntax.{w8, w32, ty_int}
@@ -17,11 +17,14 @@ use mathlib.Core.Option.{some}
 use prog.AdequacyRun.{start_mem}
 use prog.Wp.{Heap, run}
 use prog.Model.{Model, AllFit}
+use prog.Routine.{Env}
+use prog.Wired.{Wired}
 use ghost.Model as Closed
 use contract.BorrowModel.{logic₀}
-use contract.Running.{real}
+use contract.Closed.{model⁺, real⁺}
 use types.Kit.{raw, ◌⊛◌, ◌$◌, ◌∵◌, !, qed, move, use0, use1, split, group, done}
-use contract.Adequate.{Satisfies, sat_weaken, sat_upd, start_satisfies}
+use contract.Adequate.{Satisfies, sat_weaken, sat_upd, start_Satisfies}
+use Rattle.cedarskein.proofs.cedarskein_answer.Symbol as answer_code
 use Rattle.runs.specs.Runs.{Place, Call, Returned}
 use Rattle.runs.specs.Calls.{answer_call}
 use Rattle.runs.proofs.Door.{answer_returns}
@@ -90,7 +93,7 @@ both_fit (x ∷ xs) ys fits others = (fits.0, both_fit xs ys fits.1 others)
 
 -- ---- a call with a frame, in the kit's closed model: sheet, ring and frame lie in one block, bank and answer buffer in another, the two numbers in their own
 
-module _ (sheet bank ring frame buffer : List ℕ) where
+module _ (γ : Env) (sheet bank ring frame buffer : List ℕ) where
   abbrev pub call_at : Place → Place → Call
   call_at length_at rate_at = answer_call (0, 0) (1, 0) (0, length sheet) (0, length sheet + length ring) (1, length bank) length_at rate_at sheet bank ring frame buffer 0 0
 
@@ -99,7 +102,7 @@ module _ (sheet bank ring frame buffer : List ℕ) where
     pub memory : Memory
     pub length_at : Place
     pub rate_at : Place
-    pub returned : Returned Closed.𝓤 Closed.H Closed.model (call_at length_at rate_at) memory (emp Closed.𝓤)
+    pub returned : Returned Closed.𝓤 Closed.H model⁺ γ (call_at length_at rate_at) memory (emp Closed.𝓤)
 
   abbrev ◌⁎◌ : SProp Closed.𝓤 → SProp Closed.𝓤 → SProp Closed.𝓤
   P ⁎ Q = sep Closed.𝓤 P Q
@@ -114,22 +117,22 @@ module _ (sheet bank ring frame buffer : List ℕ) where
       ⁎ (bytes 1 (length bank) buffer ⁎ (L ⁎ (R ⁎ emp Closed.𝓤))))))) ⁎ emp Closed.𝓤)
   arranged L R =
       qed logic₀ (raw R ∷ raw L ∷ raw (bytes 0 0 (sheet ++ (ring ++ frame))) ∷ raw (bytes 1 0 (bank ++ buffer)) ∷ []) ∵ move ! (3 ∷ []) $
-      use1 logic₀ (raw (bytes 1 0 bank) ⊛ raw (bytes 1 (length bank) buffer)) (cut Closed.𝓤 Closed.H Closed.model 1 0 (length bank) bank buffer (omega arith)) $ split ! $ move ! (4 ∷ []) $
-      use1 logic₀ (raw (bytes 0 0 sheet) ⊛ raw (bytes 0 (length sheet) (ring ++ frame))) (cut Closed.𝓤 Closed.H Closed.model 0 0 (length sheet) sheet (ring ++ frame) (omega arith)) $ split ! $ move ! (1 ∷ []) $
-      use1 logic₀ (raw (bytes 0 (length sheet) ring) ⊛ raw (bytes 0 (length sheet + length ring) frame)) (cut Closed.𝓤 Closed.H Closed.model 0 (length sheet) (length sheet + length ring) ring frame (omega arith)) $ split ! $
+      use1 logic₀ (raw (bytes 1 0 bank) ⊛ raw (bytes 1 (length bank) buffer)) (cut Closed.𝓤 Closed.H model⁺ 1 0 (length bank) bank buffer (omega arith)) $ split ! $ move ! (4 ∷ []) $
+      use1 logic₀ (raw (bytes 0 0 sheet) ⊛ raw (bytes 0 (length sheet) (ring ++ frame))) (cut Closed.𝓤 Closed.H model⁺ 0 0 (length sheet) sheet (ring ++ frame) (omega arith)) $ split ! $ move ! (1 ∷ []) $
+      use1 logic₀ (raw (bytes 0 (length sheet) ring) ⊛ raw (bytes 0 (length sheet + length ring) frame)) (cut Closed.𝓤 Closed.H model⁺ 0 (length sheet) (length sheet + length ring) ring frame (omega arith)) $ split ! $
       -- [ring; frame; sheet; bank; buffer; R; L]
       use0 logic₀ (raw (emp Closed.𝓤)) (id⊢ Closed.𝓤 (emp Closed.𝓤)) $ use0 logic₀ (raw (emp Closed.𝓤)) (id⊢ Closed.𝓤 (emp Closed.𝓤)) $
       move ! (4 ∷ 5 ∷ 2 ∷ 3 ∷ 6 ∷ 8 ∷ 7 ∷ 0 ∷ 1 ∷ []) $ group ! 8 $ done !
 
-  pub some_answer : AllFit w8 sheet → AllFit w8 bank → AllFit w8 ring → AllFit w8 frame → AllFit w8 buffer
+  pub some_answer : Wired γ answer_code.code → AllFit w8 sheet → AllFit w8 bank → AllFit w8 ring → AllFit w8 frame → AllFit w8 buffer
       → length sheet < 2 ^ 63 → length bank < 2 ^ 63 → length ring < 2 ^ 63 → length frame < 2 ^ 63 → length buffer < 2 ^ 63 → ∥ AnswerReturned ∥₁
-  some_answer sheet-fits bank-fits ring-fits frame-fits buffer-fits s b g f u =
+  some_answer wired sheet-fits bank-fits ring-fits frame-fits buffer-fits s b g f u =
       let σ : Memory = start_mem (sheet ++ (ring ++ frame)) (bank ++ buffer) in
       let P : SProp Closed.𝓤 = bytes 0 0 (sheet ++ (ring ++ frame)) ⁎ bytes 1 0 (bank ++ buffer) in
-      ∥∥₁_elim (one_more Closed.𝓤 Closed.H Closed.model σ 0 P (omega arith)
-      (start_satisfies Closed.𝓤 Closed.H Closed.model (sheet ++ (ring ++ frame)) (bank ++ buffer) (both_fit sheet (ring ++ frame) sheet-fits (both_fit ring frame ring-fits frame-fits)) (both_fit bank buffer bank-fits buffer-fits))) ∥∥₁_prop (λ x.
-      ∥∥₁_elim (one_more Closed.𝓤 Closed.H Closed.model x.0 0 (number Closed.𝓤 Closed.H Closed.model σ 0 P ⁎ P) (omega arith) x.1) ∥∥₁_prop (λ y.
-      ∥∥₁_map (answer_returns logic₀ Closed.model (real Closed.𝓤 Closed.H Closed.model) (0, 0) (1, 0) (0, length sheet) (0, length sheet + length ring) (1, length bank) (length σ, 0) (length x.0, 0) sheet bank ring frame buffer 0 0
-      y.0 (emp Closed.𝓤) (s, (b, (g, (f, (u, (tt, (tt, tt)))))))
-      (sat_weaken Closed.𝓤 Closed.H Closed.model y.0 (arranged (number Closed.𝓤 Closed.H Closed.model σ 0 P) (number Closed.𝓤 Closed.H Closed.model x.0 0 (number Closed.𝓤 Closed.H Closed.model σ 0 P ⁎ P))) y.1))
+      ∥∥₁_elim (one_more Closed.𝓤 Closed.H model⁺ σ 0 P (omega arith)
+      (start_Satisfies Closed.𝓤 Closed.H model⁺ (sheet ++ (ring ++ frame)) (bank ++ buffer) (both_fit sheet (ring ++ frame) sheet-fits (both_fit ring frame ring-fits frame-fits)) (both_fit bank buffer bank-fits buffer-fits))) ∥∥₁_prop (λ x.
+      ∥∥₁_elim (one_more Closed.𝓤 Closed.H model⁺ x.0 0 (number Closed.𝓤 Closed.H model⁺ σ 0 P ⁎ P) (omega arith) x.1) ∥∥₁_prop (λ y.
+      ∥∥₁_map (answer_returns logic₀ model⁺ real⁺ γ (0, 0) (1, 0) (0, length sheet) (0, length sheet + length ring) (1, length bank) (length σ, 0) (length x.0, 0) sheet bank ring frame buffer 0 0
+      wired y.0 (emp Closed.𝓤) (s, (b, (g, (f, (u, (tt, (tt, tt)))))))
+      (sat_weaken Closed.𝓤 Closed.H model⁺ y.0 (arranged (number Closed.𝓤 Closed.H model⁺ σ 0 P) (number Closed.𝓤 Closed.H model⁺ x.0 0 (number Closed.𝓤 Closed.H model⁺ σ 0 P ⁎ P))) y.1))
       (λ returned. record { memory = y.0; length_at = (length σ, 0); rate_at = (length x.0, 0); returned = returned })))

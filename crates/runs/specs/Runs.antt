@@ -3,7 +3,7 @@
 -- assertion holds beside it. `sep` says that two things lie apart.) Definitions alone.
 use Rattle.std.specs.Prelude.{◌≡◌, List, [], ◌∷◌, ℕ, ◌<◌, ◌^◌, length}
 use seplogic.Ra.Ura.{Ura}
-use seplogic.Ra.TreeShare.{full_share}
+use base.Fraction.{full_share}
 use mir.Syntax.{Width, w8, w32, ty_int}
 use mir.Val.{Val, vint, vptr, bits}
 use base.Logic.{SProp, sep, emp}
@@ -13,7 +13,8 @@ use prog.Model.{Model}
 use contract.Adequate.{Satisfies}
 use denote.Slice.{slice_val}
 use prog.Machine.{done as ended}
-use prog.Routine.{Routine}
+use prog.Routine.{Callee, Env, step}
+use prog.Wired.{Code, Wired}
 
 -- a block of memory, and an offset in it
 abbrev pub Place : Type 0
@@ -73,10 +74,11 @@ after [] lasts = []
 after (passes w n ∷ args) lasts = passes w n ∷ after args lasts.1
 after (lends borrowed ∷ args) lasts = lends (borrowed_after borrowed lasts.0) ∷ after args lasts.1
 
--- a call: the function as the machine runs it, what is handed to it, the width of the number that it hands back, and what is promised of that
--- number and of what is left
+-- a call: the function's code with that of all that it calls, its name, what is handed to it, the width of the number that it hands back, and what is
+-- promised of that number and of what is left
 pub record Call : Type 1 where
-  pub function : Routine
+  pub code : Code
+  pub name : Callee
   pub args : List Arg
   pub width : Width
   pub promise : ℕ → Lasts args → Type 0
@@ -94,7 +96,8 @@ module _ {M : Type 1} (𝓤 : Ura M) (H : Heap 𝓤) where
   Lie (passes w n ∷ args) = Lie args
   Lie (lends borrowed ∷ args) = sep 𝓤 (borrowed_lies borrowed) (Lie args)
 
-  module _ (𝓜 : Model 𝓤 H) (call : Call) where
+  -- γ says what the machine does at each name
+  module _ (𝓜 : Model 𝓤 H) (γ : Env) (call : Call) where
     -- a run of the function that returns: the number and what is left are as promised, and what is left lies in the memory afterwards, beside what
     -- else lay there before
     pub record Returned (σ : Memory) (F : SProp 𝓤) : Type 1 where
@@ -102,10 +105,10 @@ module _ {M : Type 1} (𝓤 : Ura M) (H : Heap 𝓤) where
       pub number : ℕ
       pub left : Lasts call.args
       pub memory : Memory
-      pub runs : call.function.step fuel (values_of call.args) σ ≡ ended (vint call.width number, memory)
+      pub runs : step (γ call.name) fuel (values_of call.args) σ ≡ ended (vint call.width number, memory)
       pub promised : call.promise number left
       pub lies : Satisfies 𝓤 H 𝓜 memory (sep 𝓤 (Lie (after call.args left)) F)
 
-    -- rule D13, every call returns, from every memory in which what is handed over lies, beside anything else
+    -- rule D13, where the names mean the function's code, every call returns, from every memory in which what is handed over lies, beside anything else
     abbrev pub Returns : Type 2
-    Returns = (σ : Memory) (F : SProp 𝓤) → Fit call.args → Satisfies 𝓤 H 𝓜 σ (sep 𝓤 (Lie call.args) F) → ∥ Returned σ F ∥₁
+    Returns = Wired γ call.code → (σ : Memory) (F : SProp 𝓤) → Fit call.args → Satisfies 𝓤 H 𝓜 σ (sep 𝓤 (Lie call.args) F) → ∥ Returned σ F ∥₁

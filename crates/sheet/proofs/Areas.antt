@@ -51,7 +51,7 @@ regroup true true false l p c ea ew ef el eh asc fo su n h = simp and-false
 regroup true true true false p c ea ew ef el eh asc fo su n h = simp and-false
 regroup true true true true p c ea ew ef el eh asc fo su n h =
     let e : (el && (eh && asc)) ≡ (eh && asc) = rw (← and_assoc el eh asc, h refl) in
-    simp e (simp (and_assoc, and_left_comm) (and_assoc p c (ea && (ew && (ef && (eh && (asc && (fo && (su && n)))))))))
+    simp e (simp (and_assoc, and_left_comm))
 
 clear_parts : (kept here behind : Bool) → not (kept && (here || behind)) ≡ (not (kept && here) && not (kept && behind))
 clear_parts false here behind = refl

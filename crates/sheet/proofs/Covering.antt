@@ -9,7 +9,7 @@ use borrow.Author.Tests.{le-leb, lt-leb, lt-ltb, le-ltb, eq-eqb, ne_eqb, eqb-tru
 use Rattle.sheet_rules.specs.declared.Area.{Area}
 use Rattle.sheet_rules.specs.declared.Item.{Item}
 use Rattle.sheet.specs.declared.item_rows.Cover.{Cover}
-use Rattle.sheet_rules.specs.Rows.{area_count, area_at, areas, items}
+use Rattle.sheet_rules.specs.Rows.{area_count, area_at, areas}
 use Rattle.lists.specs.Lists.{up_from, same_places, each}
 use Rattle.sheet_rules.specs.Rules.{length_of, places_follow, covered_by_items, covered_places, is_pair, pair_within, areas_sound, access_rule, first_last_rule}
 use Rattle.sheet.specs.Cover.{places_left, UnderWay, size_of}

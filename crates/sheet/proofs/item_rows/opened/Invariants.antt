@@ -1,0 +1,16 @@
+-- The cover is under way, and the same places are left. Assumes nothing.
+use Rattle.std.proofs.Common.{◌-◌, ◌≡◌}
+use Rattle.sheet_rules.specs.Rows.{area_count}
+use Rattle.sheet.specs.Cover.{places_left, UnderWay}
+use Rattle.sheet.proofs.Covering.{cover}
+use Rattle.sheet.proofs.item_rows.opened.Given as goal
+
+abbrev pub invariant-loop-end : goal.invariant-loop-end
+invariant-loop-end l = record {
+  counted : l.count ≡ area_count l.sheet;
+  under_way : UnderWay l.sheet (cover l.next l.end l.area);
+  same : places_left l.sheet (cover l.next l.end l.area) ≡ places_left l.sheet (cover l.initial.next l.initial.end l.initial.area);
+}
+
+abbrev pub decreases-loop-end : goal.decreases-loop-end
+decreases-loop-end l = l.count - l.area
