@@ -16,7 +16,11 @@
 mod fields;
 mod results;
 
-use libc::STDIN_FILENO;
+use std::io;
+use std::io::{Read, Stdin, Stdout};
+
+// The bytes of the longest text of cases.
+const ROOM: usize = 65536;
 
 // The bytes of the sheet and of the bank at hand.
 #[derive(Clone, Copy)]
@@ -50,7 +54,7 @@ fn front(bytes: &[u8], n: usize) -> &[u8] {
 }
 
 // A frame and its reply: without their checks where `whole` is false.
-fn ask(line: &[u8], sheet: &[u8], bank: &mut [u8], whole: bool) {
+fn ask(out: Stdout, line: &[u8], sheet: &[u8], bank: &mut [u8], whole: bool) -> io::Result<()> {
     let mut frame = [0u8; 128];
     let asked = fields::bytes_at(line, 2, &mut frame);
     let mut reply = [0u8; 128];
@@ -59,29 +63,31 @@ fn ask(line: &[u8], sheet: &[u8], bank: &mut [u8], whole: bool) {
     let rate = words::word_at(bank, 2 * (rows::rate_place(sheet) as usize));
     if whole {
         results::run_whole(
+            out,
             name,
             sheet,
             bank,
             front(&frame, asked.count),
             front(&reply, told.count),
             rate,
-        );
+        )
     } else {
         results::run_at(
+            out,
             name,
             sheet,
             bank,
             front(&frame, asked.count),
             front(&reply, told.count),
             rate,
-        );
+        )
     }
 }
 
 // What a bank holds at a place.
-fn held(line: &[u8], bank: &[u8]) {
+fn held(out: Stdout, line: &[u8], bank: &[u8]) -> io::Result<()> {
     let name = rest(line, 12);
-    results::holds(name, bank, word_of(line, 2), word_of(line, 7));
+    results::holds(out, name, bank, word_of(line, 2), word_of(line, 7))
 }
 
 // Posts words from an address upward.
@@ -98,81 +104,81 @@ fn post(line: &[u8], sheet: &[u8], bank: &mut [u8]) {
 
 // The number that a frame gets, with the front of a buffer to answer in.
 fn number_within(
+    out: Stdout,
     line: &[u8],
     next: usize,
     sheet: &[u8],
     bank: &mut [u8],
     frame: &[u8],
     buffer: &mut [u8],
-) {
+) -> io::Result<()> {
     let size = word_of(line, 7) as usize;
     let expected = word_of(line, 2);
     let name = rest(line, fields::after(line, next));
     if size <= buffer.len() {
-        results::number(name, sheet, bank, frame, &mut buffer[..size], expected);
+        results::number(out, name, sheet, bank, frame, &mut buffer[..size], expected)
     } else {
-        results::say(b"a buffer that is too long, WRONG\n");
+        results::say(out, b"a buffer that is too long, WRONG\n")
     }
 }
 
 // The number that a frame gets, with an answer buffer of a given size.
-fn number(line: &[u8], sheet: &[u8], bank: &mut [u8]) {
+fn number(out: Stdout, line: &[u8], sheet: &[u8], bank: &mut [u8]) -> io::Result<()> {
     let mut frame = [0u8; 128];
     let asked = fields::bytes_at(line, 12, &mut frame);
     let n = asked.count;
     check_value::seal(&mut frame, n);
     let mut buffer = [0xAAu8; 128];
     if 126 < n {
-        results::say(b"a frame that is too long, WRONG\n");
-        return;
+        return results::say(out, b"a frame that is too long, WRONG\n");
     }
     number_within(
+        out,
         line,
         asked.next,
         sheet,
         bank,
         front(&frame, n + 2),
         &mut buffer,
-    );
+    )
 }
 
 // A line on the meter at hand.
-fn act(line: &[u8], sheet: &[u8], bank: &mut [u8]) {
+fn act(out: Stdout, line: &[u8], sheet: &[u8], bank: &mut [u8]) -> io::Result<()> {
     let letter = words::byte_at(line, 0);
     if letter == b'F' {
         bank::fresh(sheet, bank);
-        return;
+        return Ok(());
     }
     if letter == b'P' {
         results::put(bank, word_of(line, 2), word_of(line, 7));
-        return;
+        return Ok(());
     }
     if letter == b'T' {
         post(line, sheet, bank);
-        return;
+        return Ok(());
     }
     if letter == b'Q' {
-        ask(line, sheet, bank, false);
-        return;
+        return ask(out, line, sheet, bank, false);
     }
     if letter == b'W' {
-        ask(line, sheet, bank, true);
-        return;
+        return ask(out, line, sheet, bank, true);
     }
     if letter == b'H' {
-        held(line, bank);
-        return;
+        return held(out, line, bank);
     }
     if letter == b'N' {
-        number(line, sheet, bank);
+        return number(out, line, sheet, bank);
     }
+    Ok(())
 }
 
 // A line on the front of a bank.
-fn act_within(line: &[u8], sheet: &[u8], bank: &mut [u8], n: usize) {
+fn act_within(out: Stdout, line: &[u8], sheet: &[u8], bank: &mut [u8], n: usize) -> io::Result<()> {
     if n <= bank.len() {
-        act(line, sheet, &mut bank[..n]);
+        act(out, line, sheet, &mut bank[..n])?;
     }
+    Ok(())
 }
 
 // Takes a sheet, and makes a bank of its size fresh.
@@ -195,49 +201,69 @@ fn start_made_up(line: &[u8], sheet: &mut [u8], bank: &mut [u8]) -> Sizes {
 }
 
 // One line: a new meter, or something done with the one at hand.
-fn run_line(line: &[u8], sheet: &mut [u8], bank: &mut [u8], sizes: Sizes) -> Sizes {
+fn run_line(
+    out: Stdout,
+    line: &[u8],
+    sheet: &mut [u8],
+    bank: &mut [u8],
+    sizes: Sizes,
+) -> io::Result<Sizes> {
     let letter = words::byte_at(line, 0);
     if letter == b'U' {
-        return start(&makers::ux(), sheet, bank);
+        return Ok(start(&makers::ux(), sheet, bank));
     }
     if letter == b'A' {
-        return start(&makers::aswe_40(), sheet, bank);
+        return Ok(start(&makers::aswe_40(), sheet, bank));
     }
     if letter == b'S' {
-        return start_made_up(line, sheet, bank);
+        return Ok(start_made_up(line, sheet, bank));
     }
     let many = sizes.sheet;
     if letter == b'B' {
-        return Sizes {
+        return Ok(Sizes {
             sheet: many,
             bank: word_of(line, 2) as usize,
-        };
+        });
     }
-    act_within(line, front(sheet, many), bank, sizes.bank);
-    sizes
+    act_within(out, line, front(sheet, many), bank, sizes.bank)?;
+    Ok(sizes)
 }
 
 // Every line of a text, each ended by a line feed.
-fn run_all(text: &[u8], sheet: &mut [u8], bank: &mut [u8]) {
+fn run_all(out: Stdout, text: &[u8], sheet: &mut [u8], bank: &mut [u8]) -> io::Result<()> {
     let mut sizes = Sizes { sheet: 0, bank: 0 };
     let mut at = 0;
     while at < text.len() {
         let end = fields::line_end(text, at);
         if end < at {
-            return;
+            return Ok(());
         }
         if text.len() <= end {
-            return;
+            return Ok(());
         }
-        sizes = run_line(front(rest(text, at), end - at), sheet, bank, sizes);
+        sizes = run_line(out, front(rest(text, at), end - at), sheet, bank, sizes)?;
         at = end + 1;
     }
+    Ok(())
 }
 
-fn main() {
-    let mut text = io::large_buffer();
-    let n = io::read_full(STDIN_FILENO, &mut text);
+// Reads until a buffer is full or the input ends, and answers how many bytes there are.
+fn read_full(mut input: Stdin, buffer: &mut [u8]) -> io::Result<usize> {
+    let mut done = 0;
+    while done < buffer.len() {
+        let n = input.read(&mut buffer[done..])?;
+        if n == 0 {
+            break;
+        }
+        done += n;
+    }
+    Ok(done)
+}
+
+fn main(rt: HostRuntime) -> io::Result<()> {
+    let mut text = [0u8; ROOM];
+    let n = read_full(rt.stdin(), &mut text)?;
     let mut sheet = [0u8; 862];
     let mut bank = [0u8; 514];
-    run_all(front(&text, n), &mut sheet, &mut bank);
+    run_all(rt.stdout(), front(&text, n), &mut sheet, &mut bank)
 }

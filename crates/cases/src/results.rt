@@ -1,7 +1,8 @@
 // A row: a frame run through the real function, what is expected, what was got, and whether they agree.
-use libc::STDOUT_FILENO;
 use meter_rules::Answered;
 use refusals::Refusal;
+use std::io;
+use std::io::Stdout;
 
 // What every byte of an answer buffer holds before the call.
 const FILL: u8 = 0xAA;
@@ -17,8 +18,8 @@ struct Got {
     pub rate: u16,
 }
 
-pub(crate) fn say(text: &[u8]) {
-    io::write_all(STDOUT_FILENO, text);
+pub(crate) fn say(out: Stdout, text: &[u8]) -> io::Result<()> {
+    out.write_all(text)
 }
 
 // The upper-case hexadecimal digit of the lowest four bits.
@@ -27,21 +28,22 @@ fn digit(n: u8) -> u8 {
     if low < 10 { 48 + low } else { 55 + low }
 }
 
-fn say_byte(byte: u8) {
+fn say_byte(out: Stdout, byte: u8) -> io::Result<()> {
     let text = [32, digit(byte / 16), digit(byte)];
-    say(&text);
+    say(out, &text)
 }
 
 // So many bytes from the front, each behind a space.
-fn say_bytes(bytes: &[u8], n: usize) {
+fn say_bytes(out: Stdout, bytes: &[u8], n: usize) -> io::Result<()> {
     let mut i = 0;
     while i < n {
-        say_byte(words::byte_at(bytes, i));
+        say_byte(out, words::byte_at(bytes, i))?;
         i += 1;
     }
+    Ok(())
 }
 
-fn say_word(word: u16) {
+fn say_word(out: Stdout, word: u16) -> io::Result<()> {
     let text = [
         32,
         digit((word / 4096) as u8),
@@ -49,25 +51,25 @@ fn say_word(word: u16) {
         digit((word / 16 % 256) as u8),
         digit((word % 256) as u8),
     ];
-    say(&text);
+    say(out, &text)
 }
 
-fn say_verdict(good: bool) {
+fn say_verdict(out: Stdout, good: bool) -> io::Result<()> {
     if good {
-        say(b", ok\n");
+        say(out, b", ok\n")
     } else {
-        say(b", WRONG\n");
+        say(out, b", WRONG\n")
     }
 }
 
 // Two words, compared.
-fn compare(what: &[u8], expected: u16, got: u16) {
-    say(what);
-    say(b": expected");
-    say_word(expected);
-    say(b", got");
-    say_word(got);
-    say_verdict(expected == got);
+fn compare(out: Stdout, what: &[u8], expected: u16, got: u16) -> io::Result<()> {
+    say(out, what)?;
+    say(out, b": expected")?;
+    say_word(out, expected)?;
+    say(out, b", got")?;
+    say_word(out, got)?;
+    say_verdict(out, expected == got)
 }
 
 // Whether a buffer starts with the expected bytes.
@@ -147,11 +149,11 @@ fn numbers_of(answered: Answered) -> Got {
 }
 
 // The bytes of a reply without its check, or that there is none.
-fn say_reply(buffer: &[u8], n: usize) {
+fn say_reply(out: Stdout, buffer: &[u8], n: usize) -> io::Result<()> {
     if n < 1 {
-        say(b" silence");
+        say(out, b" silence")
     } else {
-        say_bytes(buffer, n);
+        say_bytes(out, buffer, n)
     }
 }
 
@@ -193,26 +195,27 @@ fn silence_right(got: Got, buffer: &[u8], bank_kept: bool) -> bool {
 
 // Runs a frame with its check. No expected bytes stand for silence.
 pub(crate) fn run_whole(
+    out: Stdout,
     what: &[u8],
     sheet: &[u8],
     bank: &mut [u8],
     frame: &[u8],
     expected: &[u8],
     rate: u16,
-) {
+) -> io::Result<()> {
     let mut buffer = [FILL; 100];
     let before = check_value::value_of(bank);
     let got = numbers_of(meter::answer(sheet, bank, &NO_RING, frame, &mut buffer));
     let kept = before == check_value::value_of(bank);
-    say(what);
-    say(b": expected");
-    say_reply(expected, expected.len());
-    say(b", got");
-    say_reply(&buffer, without_check(got.length));
+    say(out, what)?;
+    say(out, b": expected")?;
+    say_reply(out, expected, expected.len())?;
+    say(out, b", got")?;
+    say_reply(out, &buffer, without_check(got.length))?;
     if expected.len() == 0 {
-        say_verdict(silence_right(got, &buffer, kept));
+        say_verdict(out, silence_right(got, &buffer, kept))
     } else {
-        say_verdict(reply_right(expected, rate, got, &buffer));
+        say_verdict(out, reply_right(expected, rate, got, &buffer))
     }
 }
 
@@ -227,6 +230,7 @@ pub(crate) fn fill(work: &mut [u8], frame: &[u8]) {
 
 // Runs so many bytes from the front.
 fn run_front(
+    out: Stdout,
     what: &[u8],
     sheet: &[u8],
     bank: &mut [u8],
@@ -234,29 +238,31 @@ fn run_front(
     n: usize,
     expected: &[u8],
     rate: u16,
-) {
+) -> io::Result<()> {
     if n <= work.len() {
-        run_whole(what, sheet, bank, &work[..n], expected, rate);
+        run_whole(out, what, sheet, bank, &work[..n], expected, rate)?;
     }
+    Ok(())
 }
 
 // Runs a frame that is given without its check, and says at which rate the reply has to go out.
 pub(crate) fn run_at(
+    out: Stdout,
     what: &[u8],
     sheet: &[u8],
     bank: &mut [u8],
     frame: &[u8],
     expected: &[u8],
     rate: u16,
-) {
+) -> io::Result<()> {
     let mut work = [0u8; 128];
     let n = frame.len();
     fill(&mut work, frame);
     check_value::seal(&mut work, n);
     if n <= 126 {
-        run_front(what, sheet, bank, &work, n + 2, expected, rate);
+        run_front(out, what, sheet, bank, &work, n + 2, expected, rate)
     } else {
-        say(b"a frame that is too long, WRONG\n");
+        say(out, b"a frame that is too long, WRONG\n")
     }
 }
 
@@ -266,30 +272,43 @@ pub(crate) fn put(bank: &mut [u8], place: u16, word: u16) {
 }
 
 // What a bank holds at a place.
-pub(crate) fn holds(what: &[u8], bank: &[u8], place: u16, expected: u16) {
-    compare(what, expected, words::word_at(bank, 2 * (place as usize)));
+pub(crate) fn holds(
+    out: Stdout,
+    what: &[u8],
+    bank: &[u8],
+    place: u16,
+    expected: u16,
+) -> io::Result<()> {
+    compare(
+        out,
+        what,
+        expected,
+        words::word_at(bank, 2 * (place as usize)),
+    )
 }
 
 // A number that a call hands back; where it is not 0, the bank and the buffer stay as they were.
 pub(crate) fn number(
+    out: Stdout,
     what: &[u8],
     sheet: &[u8],
     bank: &mut [u8],
     frame: &[u8],
     buffer: &mut [u8],
     expected: u16,
-) {
+) -> io::Result<()> {
     let bank_before = check_value::value_of(bank);
     let buffer_before = check_value::value_of(buffer);
     let got = numbers_of(meter::answer(sheet, bank, &NO_RING, frame, buffer));
-    compare(what, expected, got.number);
+    compare(out, what, expected, got.number)?;
     if expected == 0 {
-        return;
+        return Ok(());
     }
     if bank_before != check_value::value_of(bank) {
-        say(b"  the bank changed, WRONG\n");
+        say(out, b"  the bank changed, WRONG\n")?;
     }
     if buffer_before != check_value::value_of(buffer) {
-        say(b"  the buffer changed, WRONG\n");
+        say(out, b"  the buffer changed, WRONG\n")?;
     }
+    Ok(())
 }

@@ -1,0 +1,8 @@
+-- `makers::aswe_40` meets its contract: its bytes are those of the map's sheet, by computation. Assumes nothing.
+use Rattle.std.proofs.Common.{refl}
+use Rattle.makers.specs.Sheets.{sheet_of}
+use Rattle.makers.proofs.aswe_40.Goals as goal
+
+pub returns : goal.returns
+unfolding sheet_of
+returns c = refl
