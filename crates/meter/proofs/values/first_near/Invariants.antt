@@ -1,7 +1,7 @@
 -- `meter::values::first_near` meets its contract. The loop's invariant: every item in front of `near` stands wholly in front of the place.
 -- Assumes nothing.
-use Rattle.std.proofs.Common.{ℕ, ◌≡◌, ◌+◌, ◌-◌, ◌<◌, ◌≤◌}
-use Rattle.sheet_rules.specs.Rows.{area_count, item_count, item_at}
+use Rattle.std.proofs.Common.{ℕ, ◌+◌, ◌-◌, ◌<◌, ◌≤◌}
+use Rattle.sheet_rules.specs.Rows.{item_count, item_at}
 use Rattle.meter.proofs.values.first_near.Given as goal
 
 abbrev pub invariant-loop-near : goal.invariant-loop-near

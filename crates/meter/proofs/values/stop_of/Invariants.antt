@@ -1,7 +1,7 @@
 -- `meter::values::stop_of` meets its contract. The loop's invariant: the write stops by the items that are left where it stops by all.
 -- Assumes nothing.
 use Rattle.std.proofs.Common.{◌≡◌, ◌-◌, ◌≤◌}
-use Rattle.sheet_rules.specs.Rows.{area_count, item_count, items}
+use Rattle.sheet_rules.specs.Rows.{item_count, items}
 use Rattle.meter_rules.specs.Write.{stop_in}
 use Rattle.meter_rules.proofs.Stopping.{items_from}
 use Rattle.meter.proofs.values.stop_of.Given as goal
