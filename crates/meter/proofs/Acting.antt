@@ -2,13 +2,16 @@
 use mathlib.Core.Path.{◌≡◌, refl, sym, ap, ap₂, ◌∙◌}
 use mathlib.Core.Bool.{true}
 use mathlib.Core.List.{List, [], ◌∷◌, map}
+use mathlib.Core.Logic.{◌⊎◌, inl, inr}
 use Prim.Native.Nat.{ℕ, ◌+◌, ◌-◌}
 use native.Mathlib.Omega.{arith}
 use lib.ListN.{length}
+use borrow.Author.Rules.{rules}
 use borrow.Author.Tests.{eq-eqb, ne_eqb}
 use denote.Enum.Declared.{tag_of}
 use types.Run.{OneOf, miss}
 use Rattle.lists.specs.Lists.{up_from}
+use Rattle.range.specs.declared.Side.{Side}
 use Rattle.bank_rules.specs.Stores.{stored}
 use Rattle.bank_rules.specs.Bank.{rate_of}
 use Rattle.bank_rules.specs.Calls.{Lent}
@@ -69,6 +72,23 @@ answers_none judged bank ring frame buffer rate coded none silent =
     ap₂ (λ (k : ℕ) (l : List ℕ). outcome (answered_by k (length l) rate) bank (laid l buffer)) (sym none ∙ coded)
     (sym (good_reply_lem judged bank ring frame (sym coded ∙ none) ∙ silent))
 
+-- the tag of a judgement that no arm for a good frame takes
+pub rest_silent : (judged : Judged) → ((first many : ℕ) → judged ≡ GoodRead first many → ⊥) → ((first many : ℕ) → judged ≡ GoodRecord first many → ⊥)
+    → (judged ≡ GoodClear → ⊥) → ((first many : ℕ) → judged ≡ GoodWrite first many → ⊥)
+    → OneOf (0 ∷ 1 ∷ 2 ∷ 3 ∷ 4 ∷ 5 ∷ 6 ∷ 7 ∷ []) (tag_of the_type judged)
+rest_silent FailsCheck read record_read clear write = search rules
+rest_silent OtherStation read record_read clear write = search rules
+rest_silent FunctionNotAllowed read record_read clear write = search rules
+rest_silent WrongLength read record_read clear write = search rules
+rest_silent WrongCount read record_read clear write = search rules
+rest_silent WrongAddress read record_read clear write = search rules
+rest_silent WrongValue read record_read clear write = search rules
+rest_silent (BadItem first stop side) read record_read clear write = search rules
+rest_silent (GoodRead first many) read record_read clear write = absurd (read first many refl)
+rest_silent (GoodRecord first many) read record_read clear write = absurd (record_read first many refl)
+rest_silent GoodClear read record_read clear write = absurd (clear refl)
+rest_silent (GoodWrite first many) read record_read clear write = absurd (write first many refl)
+
 -- a judgement that is not good has no reply but an error's
 pub no_good_reply : (judged : Judged) (bank ring frame : List ℕ)
     → OneOf (0 ∷ 1 ∷ 2 ∷ 3 ∷ 4 ∷ 5 ∷ 6 ∷ 7 ∷ []) (tag_of the_type judged) → good_reply judged bank ring frame ≡ []
@@ -84,6 +104,12 @@ no_good_reply (GoodRead first many) bank ring frame k = absurd (miss (0 ∷ 1 �
 no_good_reply (GoodRecord first many) bank ring frame k = absurd (miss (0 ∷ 1 ∷ 2 ∷ 3 ∷ 4 ∷ 5 ∷ 6 ∷ 7 ∷ []) 9 tt k)
 no_good_reply GoodClear bank ring frame k = absurd (miss (0 ∷ 1 ∷ 2 ∷ 3 ∷ 4 ∷ 5 ∷ 6 ∷ 7 ∷ []) 10 tt k)
 no_good_reply (GoodWrite first many) bank ring frame k = absurd (miss (0 ∷ 1 ∷ 2 ∷ 3 ∷ 4 ∷ 5 ∷ 6 ∷ 7 ∷ []) 11 tt k)
+
+-- the tag of a judgement that is a good clear or a good write
+pub echo_told : (judged : Judged) → (judged ≡ GoodClear) ⊎ ((first : ℕ) × (many : ℕ) × (judged ≡ GoodWrite first many))
+    → OneOf (10 ∷ 11 ∷ []) (tag_of the_type judged)
+echo_told judged (inl clear) = rw clear (search rules)
+echo_told judged (inr write) = rw write.2 (search rules)
 
 -- a good clear and a good write are answered by the frame's first six bytes
 pub echo_reply : (judged : Judged) (bank ring frame : List ℕ) → OneOf (10 ∷ 11 ∷ []) (tag_of the_type judged)
@@ -119,6 +145,22 @@ reply_before GoodClear given frame = refl
 reply_before (GoodWrite first many) given frame = refl
 
 -- ---- the stores
+
+-- the tag of a judgement that no arm with stores takes
+pub rest_storeless : (judged : Judged) → ((first stop : ℕ) (side : Side) → judged ≡ BadItem first stop side → ⊥) → (judged ≡ GoodClear → ⊥)
+    → ((first many : ℕ) → judged ≡ GoodWrite first many → ⊥) → OneOf (0 ∷ 1 ∷ 2 ∷ 3 ∷ 4 ∷ 5 ∷ 6 ∷ 8 ∷ 9 ∷ []) (tag_of the_type judged)
+rest_storeless FailsCheck bad clear write = search rules
+rest_storeless OtherStation bad clear write = search rules
+rest_storeless FunctionNotAllowed bad clear write = search rules
+rest_storeless WrongLength bad clear write = search rules
+rest_storeless WrongCount bad clear write = search rules
+rest_storeless WrongAddress bad clear write = search rules
+rest_storeless WrongValue bad clear write = search rules
+rest_storeless (BadItem first stop side) bad clear write = absurd (bad first stop side refl)
+rest_storeless (GoodRead first many) bad clear write = search rules
+rest_storeless (GoodRecord first many) bad clear write = search rules
+rest_storeless GoodClear bad clear write = absurd (clear refl)
+rest_storeless (GoodWrite first many) bad clear write = absurd (write first many refl)
 
 -- a judgement is a write with a bad item, a good clear or a good write, or stores nothing
 pub no_stores : (judged : Judged) → OneOf (0 ∷ 1 ∷ 2 ∷ 3 ∷ 4 ∷ 5 ∷ 6 ∷ 8 ∷ 9 ∷ []) (tag_of the_type judged) → quiet judged ≡ true

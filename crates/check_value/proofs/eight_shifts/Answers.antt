@@ -6,7 +6,6 @@ use lib.Count.{ones}
 use Rattle.check_value.specs.Check.{bits_of_byte, shifted_times}
 use Rattle.check_value.proofs.Entries.{entries, rules_agree}
 use Rattle.check_value.proofs.eight_shifts.Goals as goal
-use Rattle.check_value.proofs.eight_shifts.Goals.{then-byte-eq1, else-byte-eq1}
 
 -- the code's last two lines: a number combined with its double in 32 bits, and of that, rotated by six, the lowest sixteen bits
 abbrev both : ℕ → ℕ
@@ -19,10 +18,9 @@ closed_form : (low : ℕ) → low < 256 → rotated (low + ones low % 2 * 0xFC00
 unfolding entries shifted_times ones
 closed_form = rules_agree (λ (low : ℕ). rotated (low + ones low % 2 * 0xFC000100)) (shifted_times bits_of_byte) 256 refl
 
+by_the_mark : (marked low : ℕ) → low < 256 → marked ≡ low + ones low % 2 * 0xFC000100 → rotated marked ≡ shifted_times bits_of_byte low
+by_the_mark marked low small is = ap rotated is ∙ closed_form low small
+
+-- either way through the `if` marks the byte so
 pub returns : goal.returns
-returns c =
-    let low : ℕ = c.args.low in
-    let marked : c.if-byte-eq1.marked ≡ low + ones low % 2 * 0xFC000100 =
-    elim c.if-byte-eq1.branch [ then-byte-eq1 w ↦ omega arith | else-byte-eq1 w ↦ omega arith ]
-    in
-    ap rotated marked ∙ closed_form low c.ranges.low.fits
+returns c = by_the_mark _ c.args.low c.ranges.low.fits (grind arith)

@@ -1,0 +1,21 @@
+-- `bank::fresh` meets its contract: the refusals, then the stores of a fresh bank. Assumes nothing.
+use Rattle.std.proofs.Common.{sym, ◌∙◌}
+use Rattle.bank_rules.specs.Bank.{fresh_stores}
+use Rattle.bank_rules.specs.Calls.{lent, fresh_outcome}
+use Rattle.bank_rules.proofs.Changes.{fresh_passed}
+use Rattle.bank.proofs.Refusals.{outcome_refused, outcome_done}
+use Rattle.bank.proofs.fresh.Goals as goal
+
+pub returns-in_default : goal.returns-in_default
+unfolding fresh_outcome
+returns-in_default c =
+    let told = c.in_default.is in
+    outcome_refused c.args.bank.now (fresh_stores c.args.sheet.now) told (sym c.check_size-checked.ensures ∙ told)
+
+pub store_fresh-requires : goal.store_fresh-requires
+store_fresh-requires c = (fresh_passed (lent c.args.sheet.now c.args.bank.now) (sym c.check_size-checked.ensures ∙ c.in-Done.is)).0
+
+pub returns : goal.returns
+unfolding fresh_outcome
+returns c =
+    outcome_done c.args.bank.now (fresh_stores c.args.sheet.now) (sym c.check_size-checked.ensures ∙ c.in-Done.is) c.store_fresh.ensures

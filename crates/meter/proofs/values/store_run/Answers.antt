@@ -1,0 +1,32 @@
+-- `meter::values::store_run` meets its contract: each store is the next of the run's, and behind the last none is left. Assumes nothing.
+use Rattle.std.proofs.Common.{ℕ, ◌+◌, ◌*◌, ap, ◌∙◌, arith, length, map}
+use Rattle.words.specs.Words.{word_at, with_word}
+use Rattle.words.proofs.Stores.{word_length}
+use Rattle.lists.specs.Lists.{up_from}
+use Rattle.bank_rules.specs.Stores.{stored}
+use Rattle.bank_rules.proofs.Stores.{stores_go_on, stores_end}
+use Rattle.meter_rules.specs.Write.{run_store}
+use Rattle.meter.proofs.values.store_run.Goals as goal
+
+pub loop-k-preserved : goal.loop-k-preserved
+loop-k-preserved c =
+    let a = c.args in
+    let loop = c.loop-k in
+    let store = run_store a.frame.now a.first in
+    let word = c.word_at-word.ensures ∙ ap (λ (n : ℕ). word_at a.frame.now (n + 2 * loop.k)) loop.invariant.start in
+    let made = c.store_word.ensures ∙ ap (with_word loop.bank (2 * (a.first + loop.k))) word in
+    record {
+      within = omega arith;
+      start = loop.invariant.start;
+      long = ap length made ∙ word_length loop.bank (2 * (store loop.k).place) (store loop.k).word ∙ loop.invariant.long;
+      same =
+          stores_go_on store loop.bank c.store_word.new.bytes (stored a.bank.now (map store (up_from 0 a.count))) loop.k a.count c.loop-k-test.true
+          loop.invariant.same made;
+    }
+
+pub returns : goal.returns
+returns c =
+    let a = c.args in
+    let loop = c.loop-k in
+    let store = run_store a.frame.now a.first in
+    stores_end store loop.bank (stored a.bank.now (map store (up_from 0 a.count))) loop.k a.count c.loop-k-test.false loop.invariant.same

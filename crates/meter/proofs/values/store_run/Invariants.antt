@@ -1,0 +1,22 @@
+-- `meter::values::store_run` meets its contract. The loop's invariant: the stores that are left make of the bank what all make of the
+-- first one. Assumes nothing.
+use Rattle.std.proofs.Common.{◌≡◌, ◌-◌, ◌≤◌, length, map}
+use Rattle.lists.specs.Lists.{up_from}
+use Rattle.bank_rules.specs.Stores.{stored}
+use Rattle.bank_rules.proofs.Stores.{stores_from}
+use Rattle.frame.specs.Frame.{values_at}
+use Rattle.meter_rules.specs.Write.{run_store}
+use Rattle.meter.proofs.values.store_run.Given as goal
+
+abbrev pub invariant-loop-k : goal.invariant-loop-k
+invariant-loop-k l =
+    record {
+      within : l.k ≤ l.count;
+      start : l.values ≡ values_at l.frame;
+      long : length l.bank ≡ length l.fn.bank;
+      same : stored l.bank (stores_from (run_store l.frame l.first) l.k l.count)
+          ≡ stored l.fn.bank (map (run_store l.frame l.first) (up_from 0 l.count));
+    }
+
+abbrev pub decreases-loop-k : goal.decreases-loop-k
+decreases-loop-k l = l.count - l.k
