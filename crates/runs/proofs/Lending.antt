@@ -29,7 +29,6 @@ use denote.Ref.{MutRef}
 use denote.Copied.{uint_Copied}
 use denote.Slice.{MutSlice, ShrSlice, Room, finally}
 use denote.Lend.{lends_slice, lends_shr_slice, lends_ref, Held, slice_back, ref_back}
-use denote.Triple.Walked.{says}
 use native.Mathlib.Omega.{arith}
 use Rattle.runs.specs.Runs.{Borrowed, to_read, to_write, to_count, Arg, passes, lends, pointer_to, BorrowedFits, Fit, Last, Lasts, borrowed_after, after, borrowed_lies, Lie}
 
