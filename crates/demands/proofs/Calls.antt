@@ -193,37 +193,37 @@ answer_exactly κs passed result exit = (
 abbrev pub Takes : (n : ℕ) (ps : List (ParamKind n)) → In n ps → Type 0
 Takes n ps Pre = (κs : Lfts n) (lent : Dens κs ps) → Pre κs lent
 
-pub sheet_check_takes : Takes 1 cedarskein_sheet_check.ps sheet-check-reads.Pre
+pub sheet_check_takes : Takes 1 cedarskein_sheet_check.ps cedarskein_sheet_check_reads.Pre
 sheet_check_takes κs lent = tt
 
-pub bank_check_takes : Takes 2 cedarskein_bank_check.ps bank-check-reads.Pre
+pub bank_check_takes : Takes 2 cedarskein_bank_check.ps cedarskein_bank_check_reads.Pre
 bank_check_takes κs lent = tt
 
-pub bank_fresh_takes : Takes 2 cedarskein_bank_fresh.ps bank-fresh-reads.Pre
+pub bank_fresh_takes : Takes 2 cedarskein_bank_fresh.ps cedarskein_bank_fresh_reads.Pre
 bank_fresh_takes κs lent = tt
 
-pub post_takes : Takes 3 cedarskein_post.ps post-reads.Pre
+pub post_takes : Takes 3 cedarskein_post.ps cedarskein_post_reads.Pre
 post_takes κs lent = tt
 
-pub set_mark_takes : Takes 2 cedarskein_set_mark.ps set-mark-reads.Pre
+pub set_mark_takes : Takes 2 cedarskein_set_mark.ps cedarskein_set_mark_reads.Pre
 set_mark_takes κs lent = tt
 
-pub ring_check_takes : Takes 2 cedarskein_ring_check.ps ring-check-reads.Pre
+pub ring_check_takes : Takes 2 cedarskein_ring_check.ps cedarskein_ring_check_reads.Pre
 ring_check_takes κs lent = tt
 
-pub add_record_takes : Takes 3 cedarskein_add_record.ps add-record-reads.Pre
+pub add_record_takes : Takes 3 cedarskein_add_record.ps cedarskein_add_record_reads.Pre
 add_record_takes κs lent = tt
 
-pub answer_takes : Takes 7 cedarskein_answer.ps answer-reads.Pre
+pub answer_takes : Takes 7 cedarskein_answer.ps cedarskein_answer_reads.Pre
 answer_takes κs lent = tt
 
-pub why_takes : Takes 7 cedarskein_why.ps why-reads.Pre
+pub why_takes : Takes 7 cedarskein_why.ps cedarskein_why_reads.Pre
 why_takes κs lent = tt
 
-pub query_takes : Takes 3 cedarskein_query.ps query-reads.Pre
+pub query_takes : Takes 3 cedarskein_query.ps cedarskein_query_reads.Pre
 query_takes κs lent = tt
 
-pub reply_takes : Takes 5 cedarskein_reply.ps reply-reads.Pre
+pub reply_takes : Takes 5 cedarskein_reply.ps cedarskein_reply_reads.Pre
 reply_takes κs lent = tt
 
 -- .. and for any of it there is a call that the contract allows, so that no statement about calls is empty. A call with a frame, and the two of a

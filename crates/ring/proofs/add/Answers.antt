@@ -1,7 +1,5 @@
 -- `ring::add` meets its contract: the sheet and its record area first, then the ring, then the record's length, then the stores. Assumes nothing.
-use Rattle.std.proofs.Common.{refl, sym, ap, ◌∙◌}
-use Rattle.sheet_rules.specs.declared.RecordArea.{RecordArea}
-use Rattle.ring_rules.specs.Ring.{ring_sound}
+use Rattle.std.proofs.Common.{refl, sym, ◌∙◌}
 use Rattle.ring.proofs.Refusals.{sheet_refused, area_refused, ring_refused, bytes_refused, add_passes, outcome_refused, outcome_done}
 use Rattle.ring.proofs.add.Goals as goal
 
@@ -30,11 +28,6 @@ returns-then-bytes-records c =
     outcome_refused a.sheet.now a.ring.now a.bytes.now refl
     (bytes_refused a.sheet.now a.ring.now a.bytes.now c.check-checked.ensures c.in-Done.is (sym c.has_records.ensures ∙ c.if-not-has_records.false)
     (sym c.sound_in.ensures ∙ c.if-not-sound_in.false) c.record_area-records.ensures c.if-bytes-records.true)
-
-pub store_added-requires : goal.store_added-requires
-store_added-requires c =
-    ap (λ (records : RecordArea). ring_sound records c.args.ring.now) c.record_area-records.ensures
-    ∙ sym c.sound_in.ensures ∙ c.if-not-sound_in.false
 
 pub returns : goal.returns
 returns c =

@@ -3,17 +3,9 @@ use Rattle.std.proofs.Common.{◌*◌, map, ap, ◌∙◌, arith}
 use Rattle.words.specs.Words.{with_word}
 use Rattle.lists.specs.Lists.{up_from}
 use Rattle.bank_rules.specs.Stores.{stored}
-use Rattle.bank_rules.proofs.Stores.{stores_start, stores_go_on, stores_end}
+use Rattle.bank_rules.proofs.Stores.{stores_go_on, stores_end}
 use Rattle.ring_rules.specs.Ring.{record_store}
 use Rattle.ring.proofs.record_words.store_record.Goals as goal
-
-pub loop-k-init : goal.loop-k-init
-loop-k-init c =
-    let a = c.args in
-    record {
-      within = omega arith;
-      left = stores_start (record_store a.records a.place a.bytes.now) a.ring.now a.records.words;
-    }
 
 pub loop-k-preserved : goal.loop-k-preserved
 loop-k-preserved c =
