@@ -1,2 +1,3 @@
 pub mod Telling
 pub mod Determined
+pub mod Linked

@@ -8,3 +8,4 @@ pub mod Wire
 pub mod Damage
 pub mod Witness
 pub mod Determined
+pub mod Linked

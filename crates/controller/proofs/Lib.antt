@@ -2,3 +2,4 @@ pub mod Tests
 pub mod Building
 pub mod Reading
 pub mod Determined
+pub mod Linked

@@ -4,3 +4,4 @@ pub mod Closing
 pub mod Passing
 pub mod Rooms
 pub mod Determined
+pub mod Linked

@@ -1,3 +1,4 @@
 pub mod Addresses
 pub mod Placed
 pub mod Determined
+pub mod Linked

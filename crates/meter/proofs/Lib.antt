@@ -3,3 +3,4 @@ pub mod Writing
 pub mod Answering
 pub mod Determined
 pub mod Staging
+pub mod Linked

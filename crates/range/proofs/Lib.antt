@@ -2,3 +2,4 @@ pub mod Numbers
 pub mod Sides
 pub mod SideCases
 pub mod Determined
+pub mod Linked

@@ -1,4 +1,5 @@
 pub mod Lending
 pub mod Returning
 pub mod Door
+pub mod Machine
 pub mod Witness

@@ -1,5 +1,5 @@
 -- There are such memories: for any bytes there is one in which they lie as a sheet, a bank, a ring, a frame and an answer buffer, with two numbers beside
--- them, so that what `Door` says of a frame is said of a run. Assumes nothing.
+-- them, so that what `Door` says of a frame is said of a run, on every machine that has the call's code and so on `Machine`'s. Assumes nothing.
 use mathlib.Core.Path.{◌≡◌, subst}
 use mathlib.Core.Logic.{∥∥₁_prop, ∥∥₁_elim, ∥∥₁_map}
 use mathlib.Core.List.{List, [], ◌∷◌, ◌++◌}
@@ -28,6 +28,7 @@ use Rattle.cedarskein.proofs.cedarskein_answer.Symbol as answer_code
 use Rattle.runs.specs.Runs.{Place, Call, Returned}
 use Rattle.runs.specs.Calls.{answer_call}
 use Rattle.runs.proofs.Door.{answer_returns}
+use Rattle.runs.proofs.Machine.{door_machine, has_answer}
 
 module _ {M : Type 1} (𝓤 : Ura M) (H : Heap 𝓤) (𝓜 : Model 𝓤 H) where
   abbrev ◌∗◌ : SProp 𝓤 → SProp 𝓤 → SProp 𝓤
@@ -93,12 +94,12 @@ both_fit (x ∷ xs) ys fits others = (fits.0, both_fit xs ys fits.1 others)
 
 -- ---- a call with a frame, in the kit's closed model: sheet, ring and frame lie in one block, bank and answer buffer in another, the two numbers in their own
 
-module _ (γ : Env) (sheet bank ring frame buffer : List ℕ) where
+module _ (sheet bank ring frame buffer : List ℕ) where
   abbrev pub call_at : Place → Place → Call
   call_at length_at rate_at = answer_call (0, 0) (1, 0) (0, length sheet) (0, length sheet + length ring) (1, length bank) length_at rate_at sheet bank ring frame buffer 0 0
 
-  -- a memory, and the run from it
-  pub record AnswerReturned : Type 1 where
+  -- a memory, and the run from it, where the names mean γ
+  pub record AnswerReturned (γ : Env) : Type 1 where
     pub memory : Memory
     pub length_at : Place
     pub rate_at : Place
@@ -124,9 +125,9 @@ module _ (γ : Env) (sheet bank ring frame buffer : List ℕ) where
       use0 logic₀ (raw (emp Closed.𝓤)) (id⊢ Closed.𝓤 (emp Closed.𝓤)) $ use0 logic₀ (raw (emp Closed.𝓤)) (id⊢ Closed.𝓤 (emp Closed.𝓤)) $
       move ! (4 ∷ 5 ∷ 2 ∷ 3 ∷ 6 ∷ 8 ∷ 7 ∷ 0 ∷ 1 ∷ []) $ group ! 8 $ done !
 
-  pub some_answer : Wired γ answer_code.code → AllFit w8 sheet → AllFit w8 bank → AllFit w8 ring → AllFit w8 frame → AllFit w8 buffer
-      → length sheet < 2 ^ 63 → length bank < 2 ^ 63 → length ring < 2 ^ 63 → length frame < 2 ^ 63 → length buffer < 2 ^ 63 → ∥ AnswerReturned ∥₁
-  some_answer wired sheet-fits bank-fits ring-fits frame-fits buffer-fits s b g f u =
+  pub some_answer_on : (γ : Env) → Wired γ answer_code.code → AllFit w8 sheet → AllFit w8 bank → AllFit w8 ring → AllFit w8 frame → AllFit w8 buffer
+      → length sheet < 2 ^ 63 → length bank < 2 ^ 63 → length ring < 2 ^ 63 → length frame < 2 ^ 63 → length buffer < 2 ^ 63 → ∥ AnswerReturned γ ∥₁
+  some_answer_on γ wired sheet-fits bank-fits ring-fits frame-fits buffer-fits s b g f u =
       let σ : Memory = start_mem (sheet ++ (ring ++ frame)) (bank ++ buffer) in
       let P : SProp Closed.𝓤 = bytes 0 0 (sheet ++ (ring ++ frame)) ⁎ bytes 1 0 (bank ++ buffer) in
       ∥∥₁_elim (one_more Closed.𝓤 Closed.H model⁺ σ 0 P (omega arith)
@@ -136,3 +137,7 @@ module _ (γ : Env) (sheet bank ring frame buffer : List ℕ) where
       wired y.0 (emp Closed.𝓤) (s, (b, (g, (f, (u, (tt, (tt, tt)))))))
       (sat_weaken Closed.𝓤 Closed.H model⁺ y.0 (arranged (number Closed.𝓤 Closed.H model⁺ σ 0 P) (number Closed.𝓤 Closed.H model⁺ x.0 0 (number Closed.𝓤 Closed.H model⁺ σ 0 P ⁎ P))) y.1))
       (λ returned. record { memory = y.0; length_at = (length σ, 0); rate_at = (length x.0, 0); returned = returned })))
+
+  pub some_answer : AllFit w8 sheet → AllFit w8 bank → AllFit w8 ring → AllFit w8 frame → AllFit w8 buffer
+      → length sheet < 2 ^ 63 → length bank < 2 ^ 63 → length ring < 2 ^ 63 → length frame < 2 ^ 63 → length buffer < 2 ^ 63 → ∥ AnswerReturned door_machine ∥₁
+  some_answer = some_answer_on door_machine has_answer

@@ -2,3 +2,4 @@ pub mod Areas
 pub mod Covering
 pub mod Items
 pub mod Determined
+pub mod Linked

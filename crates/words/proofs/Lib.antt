@@ -4,3 +4,4 @@ pub mod Stores
 pub mod Edges
 pub mod Determined
 pub mod Bytes
+pub mod Linked
