@@ -69,7 +69,8 @@ impl Check {
     }
 }
 
-// The check value of a whole slice.
+// The check value of a whole slice. It is called from many places of the archive, which is to stay small.
+#[inline(never)]
 pub fn value_of(bytes: &[u8]) -> u16
     ensures { result ≡ value_of bytes.now }
 {

@@ -114,7 +114,8 @@ fn has_no_frame(order: Order, station: u32, values: &[u8]) -> bool
     HIGHEST_WORD as usize + 1 < wanted.address as usize + wanted.addresses
 }
 
-// Copies so many bytes, from a place on, to a place on.
+// Copies so many bytes, from a place on, to a place on. Both calls of a box have it, which is to link little.
+#[inline(never)]
 fn copy(from: &[u8], first: usize, to: &mut [u8], at: usize, many: usize)
     requires many_in_bounds { first + many ≤ length from.now }
     requires many_in_bounds_2 { at + many ≤ length to.old }
