@@ -1,6 +1,6 @@
--- There is a machine that has the code of the whole door, so that what `Door` says of every such machine is said of one: the kit makes a table of each
--- crate's code, and ties tables to an environment. (A crate's `Linked` passes its table on, and asks what the crate calls of those below, by their names'
--- order.) Assumes nothing.
+-- There is a machine that has the code of the whole door, so that what `Door` says of every such machine is said of one. Of each crate's code the kit makes
+-- a table, which the crate's `Linked` passes on, and of tables it makes an environment. What a crate calls of those below stands here by the order of their
+-- names, as the kit has it. Assumes nothing.
 use mathlib.Core.Path.{refl}
 use mathlib.Core.Bool.{true}
 use mathlib.Core.List.{[], ◌∷◌}
