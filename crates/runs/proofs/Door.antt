@@ -1,5 +1,5 @@
 -- Every call of the door returns, from every memory in which what is handed to it lies, with what is promised. Each is the function's own theorem
--- (`Met`), in any model of the kit's logic, its closed one (`ghost.Model`) among them. Assumes nothing.
+-- (`Met`), in any model of the kit's logic, its closed one (`contract.Closed`) among them, and on any machine that has the function's code. Assumes nothing.
 use mathlib.Core.Path.{◌≡◌, refl}
 use mathlib.Core.List.{List, [], ◌∷◌}
 use Prim.Native.Nat.{ℕ}

@@ -1,6 +1,6 @@
--- There is a machine that has the code of the whole door, so that what `Door` says of every such machine is said of one: the kit makes a table of each
--- crate's code, and ties tables to an environment. (A crate's `Linked` passes its table on, and asks what the crate calls of those below, by their names'
--- order.) Assumes nothing.
+-- There is a machine that has the code of the whole door, so that what `Door` says of every such machine is said of one. Of each crate's code the kit makes
+-- a table, which the crate's `Linked` passes on, and of tables it makes an environment. What a crate calls of those below stands here by the order of their
+-- names, as the kit has it. Assumes nothing.
 use mathlib.Core.Path.{refl}
 use mathlib.Core.Bool.{true}
 use mathlib.Core.List.{[], ◌∷◌}
@@ -40,6 +40,10 @@ use Rattle.cedarskein.proofs.cedarskein_why.Symbol as why_code
 use Rattle.cedarskein.proofs.cedarskein_query.Symbol as query_code
 use Rattle.cedarskein.proofs.cedarskein_reply.Symbol as reply_code
 
+infixr 5 ◌&◌
+abbrev ◌&◌ : {P Q : Type 0} → P → Q → P × Q
+p & q = (p, q)
+
 build : World
 build =
     (codes "words", words.table)
@@ -72,8 +76,8 @@ check_value_here = refl
 
 check_value_below : check_value.Below build
 check_value_below =
-    (words.has_byte_at build words_here words_below,
-    tt)
+    words.has_byte_at build words_here words_below
+    & tt
 
 range_here : Holds build "range" range.table
 unfolding build
@@ -88,9 +92,9 @@ one_row_here = refl
 
 one_row_below : one_row.Below build
 one_row_below =
-    (range.has_in_range build range_here range_below,
-    (range.has_not_above build range_here range_below,
-    tt))
+    range.has_in_range build range_here range_below
+    & range.has_not_above build range_here range_below
+    & tt
 
 rows_here : Holds build "rows" rows.table
 unfolding build
@@ -98,8 +102,8 @@ rows_here = refl
 
 rows_below : rows.Below build
 rows_below =
-    (words.has_word_at build words_here words_below,
-    tt)
+    words.has_word_at build words_here words_below
+    & tt
 
 header_here : Holds build "header" header.table
 unfolding build
@@ -107,8 +111,8 @@ header_here = refl
 
 header_below : header.Below build
 header_below =
-    (rows.has_header build rows_here rows_below,
-    tt)
+    rows.has_header build rows_here rows_below
+    & tt
 
 lookup_here : Holds build "lookup" lookup.table
 unfolding build
@@ -116,10 +120,10 @@ lookup_here = refl
 
 lookup_below : lookup.Below build
 lookup_below =
-    (one_row.has_in_area build one_row_here one_row_below,
-    (rows.has_area_count build rows_here rows_below,
-    (rows.has_area_row build rows_here rows_below,
-    tt)))
+    one_row.has_in_area build one_row_here one_row_below
+    & rows.has_area_count build rows_here rows_below
+    & rows.has_area_row build rows_here rows_below
+    & tt
 
 sheet_here : Holds build "sheet" sheet.table
 unfolding build
@@ -127,23 +131,23 @@ sheet_here = refl
 
 sheet_below : sheet.Below build
 sheet_below =
-    (header.has_check build header_here header_below,
-    (header.has_clear_sound_without_05 build header_here header_below,
-    (header.has_sums_05 build header_here header_below,
-    (one_row.has_address_found build one_row_here one_row_below,
-    (one_row.has_apart build one_row_here one_row_below,
-    (one_row.has_area_sound build one_row_here one_row_below,
-    (one_row.has_clear_outside build one_row_here one_row_below,
-    (one_row.has_in_records build one_row_here one_row_below,
-    (one_row.has_item_sound build one_row_here one_row_below,
-    (one_row.has_length_of build one_row_here one_row_below,
-    (one_row.has_rate_found build one_row_here one_row_below,
-    (one_row.has_records_sound build one_row_here one_row_below,
-    (one_row.has_size_of build one_row_here one_row_below,
-    (rows.has_area_row build rows_here rows_below,
-    (rows.has_item_row build rows_here rows_below,
-    (rows.has_record_row build rows_here rows_below,
-    tt))))))))))))))))
+    header.has_check build header_here header_below
+    & header.has_clear_sound_without_05 build header_here header_below
+    & header.has_sums_05 build header_here header_below
+    & one_row.has_address_found build one_row_here one_row_below
+    & one_row.has_apart build one_row_here one_row_below
+    & one_row.has_area_sound build one_row_here one_row_below
+    & one_row.has_clear_outside build one_row_here one_row_below
+    & one_row.has_in_records build one_row_here one_row_below
+    & one_row.has_item_sound build one_row_here one_row_below
+    & one_row.has_length_of build one_row_here one_row_below
+    & one_row.has_rate_found build one_row_here one_row_below
+    & one_row.has_records_sound build one_row_here one_row_below
+    & one_row.has_size_of build one_row_here one_row_below
+    & rows.has_area_row build rows_here rows_below
+    & rows.has_item_row build rows_here rows_below
+    & rows.has_record_row build rows_here rows_below
+    & tt
 
 bank_steps_here : Holds build "bank_steps" bank_steps.table
 unfolding build
@@ -151,12 +155,12 @@ bank_steps_here = refl
 
 bank_steps_below : bank_steps.Below build
 bank_steps_below =
-    (lookup.has_lies_at build lookup_here lookup_below,
-    (rows.has_bank_words build rows_here rows_below,
-    (sheet.has_check build sheet_here sheet_below,
-    (words.has_store_word build words_here words_below,
-    (words.has_word_at build words_here words_below,
-    tt)))))
+    lookup.has_lies_at build lookup_here lookup_below
+    & rows.has_bank_words build rows_here rows_below
+    & sheet.has_check build sheet_here sheet_below
+    & words.has_store_word build words_here words_below
+    & words.has_word_at build words_here words_below
+    & tt
 
 bank_here : Holds build "bank" bank.table
 unfolding build
@@ -164,25 +168,25 @@ bank_here = refl
 
 bank_below : bank.Below build
 bank_below =
-    (bank_steps.has_all_read_only build bank_steps_here bank_steps_below,
-    (bank_steps.has_check_size build bank_steps_here bank_steps_below,
-    (bank_steps.has_empty_or_odd build bank_steps_here bank_steps_below,
-    (bank_steps.has_store_item build bank_steps_here bank_steps_below,
-    (bank_steps.has_value_in build bank_steps_here bank_steps_below,
-    (bank_steps.has_zero_words build bank_steps_here bank_steps_below,
-    (lookup.has_lies_at build lookup_here lookup_below,
-    (lookup.has_place_in build lookup_here lookup_below,
-    (range.has_inside build range_here range_below,
-    (range.has_side_of build range_here range_below,
-    (rows.has_address_place build rows_here rows_below,
-    (rows.has_area_count build rows_here rows_below,
-    (rows.has_bank_words build rows_here rows_below,
-    (rows.has_item_end build rows_here rows_below,
-    (rows.has_item_row build rows_here rows_below,
-    (rows.has_rate_place build rows_here rows_below,
-    (words.has_store_word build words_here words_below,
-    (words.has_word_at build words_here words_below,
-    tt))))))))))))))))))
+    bank_steps.has_all_read_only build bank_steps_here bank_steps_below
+    & bank_steps.has_check_size build bank_steps_here bank_steps_below
+    & bank_steps.has_empty_or_odd build bank_steps_here bank_steps_below
+    & bank_steps.has_store_item build bank_steps_here bank_steps_below
+    & bank_steps.has_value_in build bank_steps_here bank_steps_below
+    & bank_steps.has_zero_words build bank_steps_here bank_steps_below
+    & lookup.has_lies_at build lookup_here lookup_below
+    & lookup.has_place_in build lookup_here lookup_below
+    & range.has_inside build range_here range_below
+    & range.has_side_of build range_here range_below
+    & rows.has_address_place build rows_here rows_below
+    & rows.has_area_count build rows_here rows_below
+    & rows.has_bank_words build rows_here rows_below
+    & rows.has_item_end build rows_here rows_below
+    & rows.has_item_row build rows_here rows_below
+    & rows.has_rate_place build rows_here rows_below
+    & words.has_store_word build words_here words_below
+    & words.has_word_at build words_here words_below
+    & tt
 
 ring_here : Holds build "ring" ring.table
 unfolding build
@@ -190,12 +194,12 @@ ring_here = refl
 
 ring_below : ring.Below build
 ring_below =
-    (rows.has_has_records build rows_here rows_below,
-    (rows.has_record_area build rows_here rows_below,
-    (sheet.has_check build sheet_here sheet_below,
-    (words.has_store_word build words_here words_below,
-    (words.has_word_at build words_here words_below,
-    tt)))))
+    rows.has_has_records build rows_here rows_below
+    & rows.has_record_area build rows_here rows_below
+    & sheet.has_check build sheet_here sheet_below
+    & words.has_store_word build words_here words_below
+    & words.has_word_at build words_here words_below
+    & tt
 
 frame_here : Holds build "frame" frame.table
 unfolding build
@@ -203,13 +207,13 @@ frame_here = refl
 
 frame_below : frame.Below build
 frame_below =
-    (check_value.has_passes build check_value_here check_value_below,
-    (check_value.has_seal build check_value_here check_value_below,
-    (words.has_byte_at build words_here words_below,
-    (words.has_store_byte build words_here words_below,
-    (words.has_store_word build words_here words_below,
-    (words.has_word_at build words_here words_below,
-    tt))))))
+    check_value.has_passes build check_value_here check_value_below
+    & check_value.has_seal build check_value_here check_value_below
+    & words.has_byte_at build words_here words_below
+    & words.has_store_byte build words_here words_below
+    & words.has_store_word build words_here words_below
+    & words.has_word_at build words_here words_below
+    & tt
 
 controller_here : Holds build "controller" controller.table
 unfolding build
@@ -217,13 +221,13 @@ controller_here = refl
 
 controller_below : controller.Below build
 controller_below =
-    (check_value.has_seal build check_value_here check_value_below,
-    (frame.has_taken_apart build frame_here frame_below,
-    (frame.has_top_bit_set build frame_here frame_below,
-    (words.has_byte_at build words_here words_below,
-    (words.has_store_byte build words_here words_below,
-    (words.has_store_word build words_here words_below,
-    tt))))))
+    check_value.has_seal build check_value_here check_value_below
+    & frame.has_taken_apart build frame_here frame_below
+    & frame.has_top_bit_set build frame_here frame_below
+    & words.has_byte_at build words_here words_below
+    & words.has_store_byte build words_here words_below
+    & words.has_store_word build words_here words_below
+    & tt
 
 meter_here : Holds build "meter" meter.table
 unfolding build
@@ -231,32 +235,32 @@ meter_here = refl
 
 meter_below : meter.Below build
 meter_below =
-    (bank.has_check build bank_here bank_below,
-    (frame.has_reply_echo build frame_here frame_below,
-    (frame.has_reply_error build frame_here frame_below,
-    (frame.has_reply_read build frame_here frame_below,
-    (frame.has_taken_apart build frame_here frame_below,
-    (lookup.has_reached build lookup_here lookup_below,
-    (one_row.has_in_records build one_row_here one_row_below,
-    (range.has_inside build range_here range_below,
-    (range.has_side_of build range_here range_below,
-    (ring.has_fits build ring_here ring_below,
-    (rows.has_address_place build rows_here rows_below,
-    (rows.has_area_count build rows_here rows_below,
-    (rows.has_bank_words build rows_here rows_below,
-    (rows.has_clear_address build rows_here rows_below,
-    (rows.has_functions build rows_here rows_below,
-    (rows.has_has_records build rows_here rows_below,
-    (rows.has_item_count build rows_here rows_below,
-    (rows.has_item_end build rows_here rows_below,
-    (rows.has_item_place build rows_here rows_below,
-    (rows.has_item_row build rows_here rows_below,
-    (rows.has_rate_place build rows_here rows_below,
-    (rows.has_record_area build rows_here rows_below,
-    (words.has_byte_at build words_here words_below,
-    (words.has_store_word build words_here words_below,
-    (words.has_word_at build words_here words_below,
-    tt)))))))))))))))))))))))))
+    bank.has_check build bank_here bank_below
+    & frame.has_reply_echo build frame_here frame_below
+    & frame.has_reply_error build frame_here frame_below
+    & frame.has_reply_read build frame_here frame_below
+    & frame.has_taken_apart build frame_here frame_below
+    & lookup.has_reached build lookup_here lookup_below
+    & one_row.has_in_records build one_row_here one_row_below
+    & range.has_inside build range_here range_below
+    & range.has_side_of build range_here range_below
+    & ring.has_fits build ring_here ring_below
+    & rows.has_address_place build rows_here rows_below
+    & rows.has_area_count build rows_here rows_below
+    & rows.has_bank_words build rows_here rows_below
+    & rows.has_clear_address build rows_here rows_below
+    & rows.has_functions build rows_here rows_below
+    & rows.has_has_records build rows_here rows_below
+    & rows.has_item_count build rows_here rows_below
+    & rows.has_item_end build rows_here rows_below
+    & rows.has_item_place build rows_here rows_below
+    & rows.has_item_row build rows_here rows_below
+    & rows.has_rate_place build rows_here rows_below
+    & rows.has_record_area build rows_here rows_below
+    & words.has_byte_at build words_here words_below
+    & words.has_store_word build words_here words_below
+    & words.has_word_at build words_here words_below
+    & tt
 
 why_here : Holds build "why" why.table
 unfolding build
@@ -264,12 +268,12 @@ why_here = refl
 
 why_below : why.Below build
 why_below =
-    (lookup.has_address_of build lookup_here lookup_below,
-    (lookup.has_reached build lookup_here lookup_below,
-    (meter.has_judge build meter_here meter_below,
-    (words.has_byte_at build words_here words_below,
-    (words.has_word_at build words_here words_below,
-    tt)))))
+    lookup.has_address_of build lookup_here lookup_below
+    & lookup.has_reached build lookup_here lookup_below
+    & meter.has_judge build meter_here meter_below
+    & words.has_byte_at build words_here words_below
+    & words.has_word_at build words_here words_below
+    & tt
 
 cedarskein_here : Holds build "cedarskein" cedarskein.table
 unfolding build
@@ -277,22 +281,22 @@ cedarskein_here = refl
 
 cedarskein_below : cedarskein.Below build
 cedarskein_below =
-    (bank.has_check build bank_here bank_below,
-    (bank.has_fresh build bank_here bank_below,
-    (bank.has_post build bank_here bank_below,
-    (bank.has_set_mark build bank_here bank_below,
-    (check_value.has_check_start build check_value_here check_value_below,
-    (check_value.has_check_take build check_value_here check_value_below,
-    (check_value.has_check_value build check_value_here check_value_below,
-    (check_value.has_value_of build check_value_here check_value_below,
-    (controller.has_query build controller_here controller_below,
-    (controller.has_reply build controller_here controller_below,
-    (meter.has_answer build meter_here meter_below,
-    (ring.has_add build ring_here ring_below,
-    (ring.has_check build ring_here ring_below,
-    (sheet.has_check build sheet_here sheet_below,
-    (why.has_why build why_here why_below,
-    tt)))))))))))))))
+    bank.has_check build bank_here bank_below
+    & bank.has_fresh build bank_here bank_below
+    & bank.has_post build bank_here bank_below
+    & bank.has_set_mark build bank_here bank_below
+    & check_value.has_check_start build check_value_here check_value_below
+    & check_value.has_check_take build check_value_here check_value_below
+    & check_value.has_check_value build check_value_here check_value_below
+    & check_value.has_value_of build check_value_here check_value_below
+    & controller.has_query build controller_here controller_below
+    & controller.has_reply build controller_here controller_below
+    & meter.has_answer build meter_here meter_below
+    & ring.has_add build ring_here ring_below
+    & ring.has_check build ring_here ring_below
+    & sheet.has_check build sheet_here sheet_below
+    & why.has_why build why_here why_below
+    & tt
 
 pub door_machine : Env
 door_machine = tie_t (in_world build)
