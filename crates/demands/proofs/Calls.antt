@@ -7,7 +7,7 @@ use mathlib.Core.List.{List, []}
 use mathlib.Core.Logic.{◌↔◌}
 use Prim.Native.Nat.{ℕ}
 use contract.Lifetimes.{Lfts}
-use denote.Ref.{Bor}
+use denote.Ref.{Bor, MutBor}
 use denote.Triple.Clauses.{AtExit}
 use borrow.Fn.Kinds.{ParamKind, ResultKind, In, Out, Dens, ended_of, res_t}
 use Rattle.words.specs.Words.{Bytes}
@@ -229,8 +229,12 @@ reply_takes κs lent = tt
 -- .. and for any of it there is a call that the contract allows, so that no statement about calls is empty. A call with a frame, and the two of a
 -- box that asks, say that bytes are lent, so there it is for any bytes.
 
+-- what is lent by a `&`, and by a `&mut`. Where it points and its ghost name are no matter to any contract.
 abbrev ref : {X : Type 0} → X → Bor X
 ref x = record { ref_ptr = (0, 0); now = x }
+
+abbrev mut_ref : {X : Type 0} → X → MutBor X
+mut_ref x = record { ref_ptr = (0, 0); ghost_name = 0; now = x }
 
 pub some_sheet_check : (sheet : List ℕ) → ChecksSheet sheet (answer_number (sheet_answer sheet))
 some_sheet_check sheet =
@@ -262,9 +266,9 @@ some_fresh sheet bank =
     freshens
     record {
       lifetimes = ([], ([], tt));
-      lent = (ref given.sheet, (ref given.bank, tt));
+      lent = (ref given.sheet, (mut_ref given.bank, tt));
       result = left.number;
-      exit = (ref given.sheet, (ref left.bank, tt));
+      exit = (ref given.sheet, (mut_ref left.bank, tt));
       post = refl;
     }
 
@@ -276,9 +280,9 @@ some_post sheet bank address words =
     posts
     record {
       lifetimes = ([], ([], ([], tt)));
-      lent = (ref given.sheet, (ref given.bank, (address, (ref words, tt))));
+      lent = (ref given.sheet, (mut_ref given.bank, (address, (ref words, tt))));
       result = left.number;
-      exit = (ref given.sheet, (ref left.bank, (address, (ref words, tt))));
+      exit = (ref given.sheet, (mut_ref left.bank, (address, (ref words, tt))));
       post = refl;
     }
 
@@ -289,9 +293,9 @@ some_mark sheet bank mark =
     marks
     record {
       lifetimes = ([], ([], tt));
-      lent = (ref given.sheet, (ref given.bank, (mark, tt)));
+      lent = (ref given.sheet, (mut_ref given.bank, (mark, tt)));
       result = left.number;
-      exit = (ref given.sheet, (ref left.bank, (mark, tt)));
+      exit = (ref given.sheet, (mut_ref left.bank, (mark, tt)));
       post = refl;
     }
 
@@ -312,9 +316,9 @@ some_add sheet ring bytes =
     adds
     record {
       lifetimes = ([], ([], ([], tt)));
-      lent = (ref sheet, (ref ring, (ref bytes, tt)));
+      lent = (ref sheet, (mut_ref ring, (ref bytes, tt)));
       result = left.number;
-      exit = (ref sheet, (ref left.ring, (ref bytes, tt)));
+      exit = (ref sheet, (mut_ref left.ring, (ref bytes, tt)));
       post = refl;
     }
 
@@ -326,9 +330,9 @@ some_answer given frame buffer sheet_bytes bank-bytes ring-bytes frame_bytes buf
     answers
     record {
       lifetimes = ([], ([], ([], ([], ([], ([], ([], tt)))))));
-      lent = (ref given.sheet, (ref given.bank, (ref given.ring, (ref frame, (ref buffer, (ref 0, (ref 0, tt)))))));
+      lent = (ref given.sheet, (mut_ref given.bank, (ref given.ring, (ref frame, (mut_ref buffer, (mut_ref 0, (mut_ref 0, tt)))))));
       result = left.number;
-      exit = (ref given.sheet, (ref left.bank, (ref given.ring, (ref frame, (ref left.buffer, (ref left.length, (ref left.rate, tt)))))));
+      exit = (ref given.sheet, (mut_ref left.bank, (ref given.ring, (ref frame, (mut_ref left.buffer, (mut_ref left.length, (mut_ref left.rate, tt)))))));
       post = (refl, (sheet_bytes, bank-bytes, ring-bytes, frame_bytes, buffer-bytes, kept.0, kept.1));
     }
 
@@ -339,9 +343,9 @@ some_why given frame sheet_bytes bank-bytes ring-bytes frame_bytes =
     explains
     record {
       lifetimes = ([], ([], ([], ([], ([], ([], ([], tt)))))));
-      lent = (ref given.sheet, (ref given.bank, (ref given.ring, (ref frame, (ref 0, (ref 0, (ref 0, tt)))))));
+      lent = (ref given.sheet, (ref given.bank, (ref given.ring, (ref frame, (mut_ref 0, (mut_ref 0, (mut_ref 0, tt)))))));
       result = told.number;
-      exit = (ref given.sheet, (ref given.bank, (ref given.ring, (ref frame, (ref told.reason, (ref told.address, (ref told.side, tt)))))));
+      exit = (ref given.sheet, (ref given.bank, (ref given.ring, (ref frame, (mut_ref told.reason, (mut_ref told.address, (mut_ref told.side, tt)))))));
       post = (refl, (sheet_bytes, bank-bytes, ring-bytes, frame_bytes));
     }
 
@@ -355,9 +359,9 @@ module _ (kind station address number : ℕ) (values : List ℕ) (values-bytes :
       queries
       record {
         lifetimes = ([], ([], ([], tt)));
-        lent = (kind, (station, (address, (number, (ref values, (ref buffer, (ref 0, tt)))))));
+        lent = (kind, (station, (address, (number, (ref values, (mut_ref buffer, (mut_ref 0, tt)))))));
         result = left.number;
-        exit = (kind, (station, (address, (number, (ref values, (ref left.buffer, (ref left.length, tt)))))));
+        exit = (kind, (station, (address, (number, (ref values, (mut_ref left.buffer, (mut_ref left.length, tt)))))));
         post = (refl, (values-bytes, buffer-bytes, build_bytes asked buffer values-bytes buffer-bytes));
       }
 
@@ -367,8 +371,8 @@ module _ (kind station address number : ℕ) (values : List ℕ) (values-bytes :
       reads
       record {
         lifetimes = ([], ([], ([], ([], ([], tt)))));
-        lent = (kind, (station, (address, (number, (ref values, (ref reply, (ref buffer, (ref 0, (ref 0, tt)))))))));
+        lent = (kind, (station, (address, (number, (ref values, (ref reply, (mut_ref buffer, (mut_ref 0, (mut_ref 0, tt)))))))));
         result = left.number;
-        exit = (kind, (station, (address, (number, (ref values, (ref reply, (ref left.buffer, (ref left.length, (ref left.error, tt)))))))));
+        exit = (kind, (station, (address, (number, (ref values, (ref reply, (mut_ref left.buffer, (mut_ref left.length, (mut_ref left.error, tt)))))))));
         post = (refl, (values-bytes, reply_bytes, buffer-bytes, reading_bytes asked reply buffer reply_bytes buffer-bytes));
       }
