@@ -1,6 +1,6 @@
 -- Over the calls: what a meter hands back and leaves of a built query is what it makes of the order; and the words of the query that the meter judges and
 -- stores are the order's. Assumes nothing.
-use mathlib.Core.Path.{◌≡◌, sym, ap, subst, ◌∙◌}
+use mathlib.Core.Path.{◌≡◌, sym, ap, ◌∙◌}
 use mathlib.Core.Bool.{true, false}
 use mathlib.Core.List.{List}
 use Prim.Native.Nat.{ℕ, ◌*◌, ◌<◌}

@@ -30,7 +30,6 @@ use Rattle.plain.specs.Sheet.{WritableAt}
 use Rattle.plain.specs.Records.{AtRecord}
 use Rattle.plain.specs.Frame as fates
 use Rattle.plain.specs.Frame.{error, good, Gets, Set, Readable, registers, sent_word}
-use Rattle.plain.specs.Left as plain
 use Rattle.plain.proofs.Rows.{word_same, plain_lies}
 use Rattle.plain.proofs.Records.{no_record}
 use Rattle.plain.proofs.Addresses.{registers_same, address_same}
