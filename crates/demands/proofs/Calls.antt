@@ -229,6 +229,7 @@ reply_takes κs lent = tt
 -- .. and for any of it there is a call that the contract allows, so that no statement about calls is empty. A call with a frame, and the two of a
 -- box that asks, say that bytes are lent, so there it is for any bytes.
 
+-- what is lent by a `&`, and by a `&mut`. Where it points and its ghost name are no matter to any contract.
 abbrev ref : {X : Type 0} → X → Bor X
 ref x = record { ref_ptr = (0, 0); now = x }
 
