@@ -3,3 +3,4 @@ pub mod Sides
 pub mod SideCases
 pub mod Determined
 pub mod Linked
+pub mod Keys

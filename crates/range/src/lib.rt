@@ -5,6 +5,7 @@ ghost use Rattle.std.specs.Prelude.{◌≡◌, pos, ◌+ℤ◌};
 ghost use Rattle.range.specs.Range.{signed_word, number_of, not_above, side_of, inside, in_range};
 
 // The number that a value of a kind stands for.
+#[tactic(auto, using(crate::proofs::Keys::plain_cast, crate::proofs::Keys::low_cast, crate::proofs::Keys::high_cast))]
 pub fn number(kind: u16, value: u32) -> i64
     ensures { result ≡ number_of kind value }
 {
@@ -28,6 +29,7 @@ fn key(value: u32) -> u32
 }
 
 // Whether one value of a kind is not above another, as the numbers that they stand for. Only signed words need keys.
+#[tactic(auto, using(crate::proofs::Keys::keys_compared, crate::proofs::Keys::values_compared))]
 pub fn not_above(kind: u16, a: u32, b: u32) -> bool
     ensures { result ≡ not_above kind a b }
 {
