@@ -1,11 +1,11 @@
 -- Every export returns, as `runs` says of the door's functions: from every memory in which what is handed to it lies, with what is promised, on every
 -- machine that has its code. Each is the export's own theorem (`Met`). Assumes nothing.
-use mathlib.Core.Path.{◌≡◌, refl}
-use mathlib.Core.List.{List, [], ◌∷◌}
+use mathlib.Core.Path.{refl}
+use mathlib.Core.List.{List}
 use Prim.Native.Nat.{ℕ}
 use seplogic.Ra.Ura.{Ura}
 use prog.Model.{Model}
-use prog.Routine.{Callee, Env}
+use prog.Routine.{Env}
 use types.Logic.{Logic}
 use contract.Running.{Running}
 use Rattle.cedarskein_c.specs.contracts.cedarskein_check_start as check_start
@@ -36,7 +36,6 @@ use Rattle.cedarskein_c.specs.contracts.cedarskein_query as query_door
 use Rattle.cedarskein_c.proofs.cedarskein_query.Met as query_kept
 use Rattle.cedarskein_c.specs.contracts.cedarskein_reply as reply_door
 use Rattle.cedarskein_c.proofs.cedarskein_reply.Met as reply_kept
-use prog.Wired.{Code}
 use Rattle.cedarskein_c.proofs.cedarskein_check_start.Symbol as check_start_code
 use Rattle.cedarskein_c.proofs.cedarskein_check_take.Symbol as check_take_code
 use Rattle.cedarskein_c.proofs.cedarskein_check_value.Symbol as check_value_code
@@ -51,14 +50,10 @@ use Rattle.cedarskein_c.proofs.cedarskein_answer.Symbol as answer_code
 use Rattle.cedarskein_c.proofs.cedarskein_why.Symbol as why_code
 use Rattle.cedarskein_c.proofs.cedarskein_query.Symbol as query_code
 use Rattle.cedarskein_c.proofs.cedarskein_reply.Symbol as reply_code
-use Rattle.runs.specs.Runs.{Place, Call, Returns}
+use Rattle.runs.specs.Runs.{Place, Call, exported, Returns}
 use Rattle.runs.specs.Calls.{check_start_call, check_take_call, check_value_call, sheet_check_call, bank_check_call, bank_fresh_call, post_call, set_mark_call, ring_check_call, add_record_call, answer_call, why_call, query_call, reply_call}
 use Rattle.runs.proofs.Lending.{lifetimes_of, shares_of, args_of, valss_of}
 use Rattle.runs.proofs.Returning.{returns, returns_both}
-
--- a call of the door, made of an export: its code and its name are the export's
-abbrev pub exported : Code → Callee → Call → Call
-exported code name call = record call { code = code; name = name }
 
 module _ {M : Type 1} {𝓤 : Ura M} (𝓛 : Logic 𝓤) (𝓜 : Model 𝓤 𝓛.H) (𝓡 : Running 𝓤 𝓛.H 𝓜) (γ : Env) where
   open 𝓛 use {H}

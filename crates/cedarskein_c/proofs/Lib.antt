@@ -1,2 +1,4 @@
 pub mod Determined
 pub mod Exports
+pub mod Machine
+pub mod Witness

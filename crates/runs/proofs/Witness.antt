@@ -1,5 +1,6 @@
 -- There are such memories: for any bytes there is one in which they lie as a sheet, a bank, a ring, a frame and an answer buffer, with two numbers beside
--- them, so that what `Door` says of a frame is said of a run, on every machine that has the call's code and so on `Machine`'s. Assumes nothing.
+-- them, so that what `Door` says of a frame is said of a run, on every machine that has the call's code and so on `Machine`'s. It holds of every function
+-- that returns as the call says, and so of an export too. Assumes nothing.
 use mathlib.Core.Path.{◌≡◌, subst}
 use mathlib.Core.Logic.{∥∥₁_prop, ∥∥₁_elim, ∥∥₁_map}
 use mathlib.Core.List.{List, [], ◌∷◌, ◌++◌}
@@ -17,15 +18,15 @@ use mathlib.Core.Option.{some}
 use prog.AdequacyRun.{start_mem}
 use prog.Wp.{Heap, run}
 use prog.Model.{Model, AllFit}
-use prog.Routine.{Env}
-use prog.Wired.{Wired}
+use prog.Routine.{Callee, Env}
+use prog.Wired.{Code, Wired}
 use ghost.Model as Closed
 use contract.BorrowModel.{logic₀}
 use contract.Closed.{model⁺, real⁺}
 use types.Kit.{raw, ◌⊛◌, ◌$◌, ◌∵◌, !, qed, move, use0, use1, split, group, done}
 use contract.Adequate.{Satisfies, sat_weaken, sat_upd, start_Satisfies}
 use Rattle.cedarskein.proofs.cedarskein_answer.Symbol as answer_code
-use Rattle.runs.specs.Runs.{Place, Call, Returned}
+use Rattle.runs.specs.Runs.{Place, Call, exported, Returned, Returns}
 use Rattle.runs.specs.Calls.{answer_call}
 use Rattle.runs.proofs.Door.{answer_returns}
 use Rattle.runs.proofs.Machine.{door_machine, has_answer}
@@ -98,12 +99,15 @@ module _ (sheet bank ring frame buffer : List ℕ) where
   abbrev pub call_at : Place → Place → Call
   call_at length_at rate_at = answer_call (0, 0) (1, 0) (0, length sheet) (0, length sheet + length ring) (1, length bank) length_at rate_at sheet bank ring frame buffer 0 0
 
-  -- a memory, and the run from it, where the names mean γ
-  pub record AnswerReturned (γ : Env) : Type 1 where
+  -- a memory, and the run from it of the call, where the names mean γ: of the function itself, or of an export
+  pub record CallReturned (code : Code) (name : Callee) (γ : Env) : Type 1 where
     pub memory : Memory
     pub length_at : Place
     pub rate_at : Place
-    pub returned : Returned Closed.𝓤 Closed.H model⁺ γ (call_at length_at rate_at) memory (emp Closed.𝓤)
+    pub returned : Returned Closed.𝓤 Closed.H model⁺ γ (exported code name (call_at length_at rate_at)) memory (emp Closed.𝓤)
+
+  abbrev pub AnswerReturned : Env → Type 1
+  AnswerReturned = CallReturned answer_code.code answer_code.name
 
   abbrev ◌⁎◌ : SProp Closed.𝓤 → SProp Closed.𝓤 → SProp Closed.𝓤
   P ⁎ Q = sep Closed.𝓤 P Q
@@ -125,18 +129,26 @@ module _ (sheet bank ring frame buffer : List ℕ) where
       use0 logic₀ (raw (emp Closed.𝓤)) (id⊢ Closed.𝓤 (emp Closed.𝓤)) $ use0 logic₀ (raw (emp Closed.𝓤)) (id⊢ Closed.𝓤 (emp Closed.𝓤)) $
       move ! (4 ∷ 5 ∷ 2 ∷ 3 ∷ 6 ∷ 8 ∷ 7 ∷ 0 ∷ 1 ∷ []) $ group ! 8 $ done !
 
-  pub some_answer_on : (γ : Env) → Wired γ answer_code.code → AllFit w8 sheet → AllFit w8 bank → AllFit w8 ring → AllFit w8 frame → AllFit w8 buffer
-      → length sheet < 2 ^ 63 → length bank < 2 ^ 63 → length ring < 2 ^ 63 → length frame < 2 ^ 63 → length buffer < 2 ^ 63 → ∥ AnswerReturned γ ∥₁
-  some_answer_on γ wired sheet-fits bank-fits ring-fits frame-fits buffer-fits s b g f u =
+  pub some_call_on : (code : Code) (name : Callee) (γ : Env)
+      → ((length_at rate_at : Place) → Returns Closed.𝓤 Closed.H model⁺ γ (exported code name (call_at length_at rate_at)))
+      → Wired γ code → AllFit w8 sheet → AllFit w8 bank → AllFit w8 ring → AllFit w8 frame → AllFit w8 buffer
+      → length sheet < 2 ^ 63 → length bank < 2 ^ 63 → length ring < 2 ^ 63 → length frame < 2 ^ 63 → length buffer < 2 ^ 63 → ∥ CallReturned code name γ ∥₁
+  some_call_on code name γ returns wired sheet-fits bank-fits ring-fits frame-fits buffer-fits s b g f u =
       let σ : Memory = start_mem (sheet ++ (ring ++ frame)) (bank ++ buffer) in
       let P : SProp Closed.𝓤 = bytes 0 0 (sheet ++ (ring ++ frame)) ⁎ bytes 1 0 (bank ++ buffer) in
       ∥∥₁_elim (one_more Closed.𝓤 Closed.H model⁺ σ 0 P (omega arith)
       (start_Satisfies Closed.𝓤 Closed.H model⁺ (sheet ++ (ring ++ frame)) (bank ++ buffer) (both_fit sheet (ring ++ frame) sheet-fits (both_fit ring frame ring-fits frame-fits)) (both_fit bank buffer bank-fits buffer-fits))) ∥∥₁_prop (λ x.
       ∥∥₁_elim (one_more Closed.𝓤 Closed.H model⁺ x.0 0 (number Closed.𝓤 Closed.H model⁺ σ 0 P ⁎ P) (omega arith) x.1) ∥∥₁_prop (λ y.
-      ∥∥₁_map (answer_returns logic₀ model⁺ real⁺ γ (0, 0) (1, 0) (0, length sheet) (0, length sheet + length ring) (1, length bank) (length σ, 0) (length x.0, 0) sheet bank ring frame buffer 0 0
-      wired y.0 (emp Closed.𝓤) (s, (b, (g, (f, (u, (tt, (tt, tt)))))))
+      ∥∥₁_map (returns (length σ, 0) (length x.0, 0) wired y.0 (emp Closed.𝓤) (s, (b, (g, (f, (u, (tt, (tt, tt)))))))
       (sat_weaken Closed.𝓤 Closed.H model⁺ y.0 (arranged (number Closed.𝓤 Closed.H model⁺ σ 0 P) (number Closed.𝓤 Closed.H model⁺ x.0 0 (number Closed.𝓤 Closed.H model⁺ σ 0 P ⁎ P))) y.1))
       (λ returned. record { memory = y.0; length_at = (length σ, 0); rate_at = (length x.0, 0); returned = returned })))
+
+  pub some_answer_on : (γ : Env) → Wired γ answer_code.code → AllFit w8 sheet → AllFit w8 bank → AllFit w8 ring → AllFit w8 frame → AllFit w8 buffer
+      → length sheet < 2 ^ 63 → length bank < 2 ^ 63 → length ring < 2 ^ 63 → length frame < 2 ^ 63 → length buffer < 2 ^ 63 → ∥ AnswerReturned γ ∥₁
+  some_answer_on γ =
+      some_call_on answer_code.code answer_code.name γ (λ length_at rate_at.
+      answer_returns logic₀ model⁺ real⁺ γ (0, 0) (1, 0) (0, length sheet) (0, length sheet + length ring) (1, length bank) length_at rate_at
+      sheet bank ring frame buffer 0 0)
 
   pub some_answer : AllFit w8 sheet → AllFit w8 bank → AllFit w8 ring → AllFit w8 frame → AllFit w8 buffer
       → length sheet < 2 ^ 63 → length bank < 2 ^ 63 → length ring < 2 ^ 63 → length frame < 2 ^ 63 → length buffer < 2 ^ 63 → ∥ AnswerReturned door_machine ∥₁

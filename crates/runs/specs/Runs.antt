@@ -83,6 +83,10 @@ pub record Call : Type 1 where
   pub width : Width
   pub promise : ℕ → Lasts args → Type 0
 
+-- the same call, made of an export: its code and its name are the export's
+abbrev pub exported : Code → Callee → Call → Call
+exported code name call = record call { code = code; name = name }
+
 module _ {M : Type 1} (𝓤 : Ura M) (H : Heap 𝓤) where
   -- ---- what is lent lies in a memory, apart
 
