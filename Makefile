@@ -45,7 +45,6 @@ help:
 	@echo "make host      the archive in C programs, alone"
 	@echo "make install   archive, headers, sheets, pkg-config file and man page, under PREFIX=/usr/local and DESTDIR=; make uninstall removes them"
 	@echo "make compare   the archive against a second implementation in C, on 2,000,000 calls; make coverage: the branches that it takes"
-	@echo "make boards    the archive for the processors of boards, tried under emulators: Cortex-M0+, M3 and M4, RISC-V RV32IMC, AArch64"
 	@echo "make bench     what a call costs, beside the same functions by hand in C; make bench-record writes it into docs/BENCH.md"
 	@{ $(rt_is_there) && $(tell_other_kit); } || true
 

@@ -8,18 +8,11 @@
  *
  * docs/RULES.md has the rules that the functions are proved against, by number.
  *
- * Processors
- *
- *   There are archives for x86-64, for the boards' Cortex-M0+, Cortex-M3, Cortex-M4 and RISC-V (RV32IMC), and for AArch64:
- *   docs/BOARDS.md says how they are made, and has a program to copy. Each has these functions, with the promises below.
- *   No float and no enum is passed, so that no option of the firmware's compiler for these matters. On the boards' no word of
- *   a byte buffer is read or written across two: a buffer may lie in memory that takes no such access, and start anywhere.
- *
  * Sizes
  *
- *   At most 14 KiB of code and constants on each of these processors, nothing writable among it, and at most 1 KiB of stack
- *   in a call. A meter has at most 12 KiB of that, and a box that only asks at most 2 KiB, where the linker drops unused
- *   sections (-Wl,--gc-sections): every function has a section of its own. docs/BENCH.md has what was measured.
+ *   At most 14 KiB of code and constants, nothing writable among it, and at most 1 KiB of stack in a call. A meter has at
+ *   most 12 KiB of that, and a box that only asks at most 2 KiB, where the linker drops unused sections
+ *   (-Wl,--gc-sections): every function has a section of its own. docs/BENCH.md has what was measured.
  *
  *   A sheet has at most 862 bytes, a bank 514, and out at least 100. A ring has as many bytes as its sheet asks for,
  *   620,404 at most, and none where the sheet has no record area (see "The ring"). What a call costs does not grow with the
@@ -290,9 +283,9 @@ extern "C" {
 #endif
 
 #define CEDARSKEIN_VERSION_MAJOR 3
-#define CEDARSKEIN_VERSION_MINOR 3
+#define CEDARSKEIN_VERSION_MINOR 2
 #define CEDARSKEIN_VERSION_PATCH 0
-#define CEDARSKEIN_VERSION "3.3.0"
+#define CEDARSKEIN_VERSION "3.2.0"
 
 #define CEDARSKEIN_LONGEST_FRAME 100 /* bytes, its check included; a longer frame gets silence, a longer reply 10 */
 #define CEDARSKEIN_LEAST_OUT 100     /* bytes that out must have at least, for the longest reply or query */

@@ -315,15 +315,15 @@ def bare_tree(target, tables_alone):
 def whole_tree(target):
     shutil.rmtree(target, ignore_errors=True)
     os.makedirs(target)
-    for part in ("crates", "crates.txt"):
-        subprocess.run(["cp", "-a", os.path.join(ROOT, part), target], check=True)
+    shutil.copytree(os.path.join(ROOT, "crates"), os.path.join(target, "crates"), ignore=shutil.ignore_patterns("out"))
+    shutil.copy(os.path.join(ROOT, "crates.txt"), target)
 
 
 def digest_of(folder, *patterns):
     """A digest of the files in a folder that have one of some patterns."""
     digest = hashlib.sha256()
     for path in sorted(path for pattern in patterns for path in glob.glob(os.path.join(folder, pattern), recursive=True)):
-        if os.path.isfile(path):
+        if os.path.isfile(path) and "/out/" not in path[len(folder):]:
             digest.update(path[len(folder):].encode() + open(path, "rb").read())
     return digest.hexdigest()
 
