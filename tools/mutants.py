@@ -385,7 +385,7 @@ def cited_statements():
 def refusal(said, crate, tables, cited):
     """(what refuses, its names) by what a check of a crate said."""
     errors = [(crate, *match.groups()) for match in ERROR.finditer(said)]
-    first = [e for e in errors if "was not admitted" not in e[4]]
+    first = [e for e in errors if "was not admitted" not in e[4] and "not checked" not in e[4]]
     # a function whose proof the kit finds by itself has no file of proofs/
     unproved = re.findall(r"^fn ([\w:]+): no proof: ", said, re.M)
     if unproved and all(e[1] == "proofs" for e in first):
