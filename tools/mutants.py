@@ -388,7 +388,7 @@ def refusal(said, crate, tables, cited):
     first = [e for e in errors if "was not admitted" not in e[4] and "not checked" not in e[4]]
     # a function whose proof the kit finds by itself has no file of proofs/
     unproved = re.findall(r"^fn ([\w:]+): no proof: ", said, re.M)
-    if unproved and all(e[1] == "proofs" for e in first):
+    if unproved and all(e[1] == "proofs" and "/" not in e[2] for e in first):
         return FUNCTION, unproved[:2]
     if not first or any(e[1] != "proofs" for e in first):
         return DEFINITION, [first[0][4].strip()[:120]] if first else [said[-200:]]
