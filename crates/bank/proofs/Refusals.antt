@@ -3,19 +3,19 @@
 use mathlib.Core.Path.{◌≡◌, sym, ap, ◌∙◌}
 use mathlib.Core.List.{List}
 use Prim.Native.Nat.{ℕ}
+use Rattle.std.specs.Prelude.{Ok, Err}
 use Rattle.refusals.specs.declared.Refusal.{Refusal}
-use Rattle.refusals.specs.declared.Answer.{Answer}
-use Rattle.refusals.specs.declared.Answer.TheVariants.{Done, Refused}
+use Rattle.refusals.specs.Answers.{Answer, done}
 use Rattle.bank_rules.specs.Stores.{Store, stored}
 use Rattle.bank_rules.specs.Calls.{bank_outcome, effect_of}
 
 module _ (bank : List ℕ) (stores : List Store) {answer : Answer} where
-  pub outcome_refused : {refused : Answer} {refusal : Refusal} → refused ≡ Refused refusal → answer ≡ Refused refusal
+  pub outcome_refused : {refused : Answer} {refusal : Refusal} → refused ≡ Err refusal → answer ≡ Err refusal
       → bank_outcome refused bank ≡ bank_outcome answer (stored bank (effect_of answer stores))
   unfolding stored
   outcome_refused told is =
       ap (λ (a : Answer). bank_outcome a bank) told ∙ ap (λ (a : Answer). bank_outcome a (stored bank (effect_of a stores))) (sym is)
 
-  pub outcome_done : {made : List ℕ} → answer ≡ Done → made ≡ stored bank stores
-      → bank_outcome Done made ≡ bank_outcome answer (stored bank (effect_of answer stores))
-  outcome_done is e = ap (bank_outcome Done) e ∙ ap (λ (a : Answer). bank_outcome a (stored bank (effect_of a stores))) (sym is)
+  pub outcome_done : {made : List ℕ} → answer ≡ done → made ≡ stored bank stores
+      → bank_outcome done made ≡ bank_outcome answer (stored bank (effect_of answer stores))
+  outcome_done is e = ap (bank_outcome done) e ∙ ap (λ (a : Answer). bank_outcome a (stored bank (effect_of a stores))) (sym is)

@@ -6,7 +6,7 @@ ghost use Rattle.sheet_rules.specs.Rules.{sound};
 ghost use Rattle.bank_rules.specs.Bank.{bank_sound};
 ghost use Rattle.bank_rules.specs.Calls.{lent, check_answer, fresh_outcome, post_outcome, mark_outcome, bank_outcome};
 
-use refusals::{Answer, Refusal};
+use refusals::Refusal;
 
 mod fresh_words;
 mod post_words;
@@ -30,64 +30,52 @@ fn sound(sheet: &[u8], bank: &[u8]) -> bool
 }
 
 // The refusals that posting, setting the mark and answering share: those of every call on a bank, and a bank that is not sound.
-pub fn check(sheet: &[u8], bank: &[u8]) -> Answer
+pub fn check(sheet: &[u8], bank: &[u8]) -> Result<(), Refusal>
     ensures { result ≡ check_answer (lent sheet.now bank.now) }
 {
-    let checked = bank_steps::check_size(sheet, bank);
-    let Answer::Done = checked else {
-        return checked;
-    };
+    bank_steps::check_size(sheet, bank)?;
     if !sound(sheet, bank) {
-        return Answer::Refused(Refusal::UnsoundBank);
+        return Err(Refusal::UnsoundBank);
     }
-    Answer::Done
+    Ok(())
 }
 
 // Makes a bank fresh.
-pub fn fresh(sheet: &[u8], bank: &mut [u8]) -> Answer
+pub fn fresh(sheet: &[u8], bank: &mut [u8]) -> Result<(), Refusal>
     ensures { bank_outcome result bank.new ≡ fresh_outcome (lent sheet.now bank.old) }
 {
-    let checked = bank_steps::check_size(sheet, bank);
-    let Answer::Done = checked else {
-        return checked;
-    };
+    bank_steps::check_size(sheet, bank)?;
     fresh_words::store_fresh(sheet, bank);
-    Answer::Done
+    Ok(())
 }
 
 // Posts words: rules B30 to B32.
-pub fn post(sheet: &[u8], bank: &mut [u8], address: u32, bytes: &[u8]) -> Answer
+pub fn post(sheet: &[u8], bank: &mut [u8], address: u32, bytes: &[u8]) -> Result<(), Refusal>
     ensures { bank_outcome result bank.new ≡ post_outcome (lent sheet.now bank.old) address bytes.now }
 {
-    let checked = check(sheet, bank);
-    let Answer::Done = checked else {
-        return checked;
-    };
+    check(sheet, bank)?;
     if bank_steps::empty_or_odd(bytes) {
-        return Answer::Refused(Refusal::BadInput);
+        return Err(Refusal::BadInput);
     }
     if !bank_steps::all_read_only(sheet, address, bytes.len() / 2) {
-        return Answer::Refused(Refusal::NotReadOnly);
+        return Err(Refusal::NotReadOnly);
     }
     post_words::store_posted(sheet, bank, address, bytes);
-    Answer::Done
+    Ok(())
 }
 
 // Sets the alarm mark: rules B40 and B41.
-pub fn set_mark(sheet: &[u8], bank: &mut [u8], mark: u32) -> Answer
+pub fn set_mark(sheet: &[u8], bank: &mut [u8], mark: u32) -> Result<(), Refusal>
     ensures { bank_outcome result bank.new ≡ mark_outcome (lent sheet.now bank.old) mark }
 {
-    let checked = check(sheet, bank);
-    let Answer::Done = checked else {
-        return checked;
-    };
+    check(sheet, bank)?;
     if 1 < mark {
-        return Answer::Refused(Refusal::BadInput);
+        return Err(Refusal::BadInput);
     }
     words::store_word(
         bank,
         2 * (rows::bank_words(sheet) as usize),
         (mark % 65536) as u16,
     );
-    Answer::Done
+    Ok(())
 }

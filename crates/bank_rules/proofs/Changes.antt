@@ -8,17 +8,15 @@ use native.Mathlib.Omega.{arith}
 use lib.Dec.{leb, eqb}
 use lib.ListN.{length}
 use borrow.Author.Tests.{eq-eqb, ne_eqb, not-false}
+use Rattle.std.specs.Prelude.{Ok, Err}
 use Rattle.words.specs.Words.{word_at}
 use Rattle.sheet_rules.specs.declared.Item.{Item}
-use Rattle.sheet_rules.specs.declared.Lies.TheVariants.{At}
 use Rattle.sheet_rules.specs.Rows.{areas, items}
 use Rattle.sheet_rules.specs.Rules.{read_only, sound}
-use Rattle.sheet_rules.specs.Lookup.{lies_in, holds, place_in}
+use Rattle.sheet_rules.specs.Lookup.{lies_in, holds, place_in, found_at}
 use Rattle.lists.proofs.Among.{Among}
 use Rattle.sheet_rules.proofs.Addresses.{place_address, lies_below}
-use Rattle.refusals.specs.declared.Answer.{Answer}
-use Rattle.refusals.specs.declared.Answer.TheVariants.{Done, Refused}
-use Rattle.refusals.specs.Answers.{answer_number}
+use Rattle.refusals.specs.Answers.{answer_number, Answer, done}
 use Rattle.refusals.proofs.Answers.{done_none}
 use Rattle.bank_rules.specs.Stores.{Store, word_of, stored}
 use Rattle.bank_rules.specs.Bank.{fits, bank_sound, mark_place, posted_run, all_read_only, empty_or_odd, post_store, post_stores, mark_stores}
@@ -31,15 +29,15 @@ use Rattle.bank_rules.proofs.Inside.{map_among, number_among, posted_read_only, 
 -- ---- any call: its stores where it is done, nothing where it refuses
 
 module _ (bank : List ℕ) (stores : List Store) where
-  pub done_stores : {answer : Answer} → answer ≡ Done → stored bank (effect_of answer stores) ≡ stored bank stores
+  pub done_stores : {answer : Answer} → answer ≡ done → stored bank (effect_of answer stores) ≡ stored bank stores
   done_stores done = ap (λ (a : Answer). stored bank (effect_of a stores)) done
 
   -- what holds of the bank before, and of the bank after the stores of a call that is done, holds afterwards
-  pub effect_either : (P : List ℕ → Type 0) (answer : Answer) → P bank → (answer ≡ Done → P (stored bank stores))
+  pub effect_either : (P : List ℕ → Type 0) (answer : Answer) → P bank → (answer ≡ done → P (stored bank stores))
       → P (stored bank (effect_of answer stores))
   unfolding stored
-  effect_either P Done before after = after refl
-  effect_either P (Refused refusal) before after = before
+  effect_either P (Ok tt) before after = after refl
+  effect_either P (Err refusal) before after = before
 
   pub refused_as_before : (answer : Answer) → (answer_number answer ≡ 0 → ⊥) → stored bank (effect_of answer stores) ≡ bank
   refused_as_before answer refuses = effect_either (λ b. b ≡ bank) answer refl (λ done. absurd (refuses (ap answer_number done)))
@@ -60,17 +58,17 @@ module _ (given : Lent) where
         whole = not-false (bank_sound given.sheet given.bank) none.1.1.0;
       }
 
-  pub check_passed : check_answer given ≡ Done → Passed
+  pub check_passed : check_answer given ≡ done → Passed
   unfolding check_answer
   check_passed done = passed [] (done_none (check_refusals given) done)
 
-  pub fresh_passed : fresh_answer given ≡ Done → (sound given.sheet ≡ true) × (fits given.sheet given.bank ≡ true)
+  pub fresh_passed : fresh_answer given ≡ done → (sound given.sheet ≡ true) × (fits given.sheet given.bank ≡ true)
   unfolding fresh_answer
   fresh_passed done =
       let none = done_none (fresh_refusals given) done in
       (not-false (sound given.sheet) none.0, not-false (fits given.sheet given.bank) none.1.0)
 
-  module _ (address : ℕ) (bytes : List ℕ) (done : post_answer given address bytes ≡ Done) where
+  module _ (address : ℕ) (bytes : List ℕ) (done : post_answer given address bytes ≡ done) where
     none_of_post : NoneOf (conditions (post_refusals given address bytes))
     unfolding post_answer
     none_of_post = done_none (post_refusals given address bytes) done
@@ -84,7 +82,7 @@ module _ (given : Lent) where
     pub post_readable : all_read_only given.sheet (posted_run address bytes) ≡ true
     post_readable = not-false (all_read_only given.sheet (posted_run address bytes)) none_of_post.1.1.1.1.0
 
-  module _ (mark : ℕ) (done : mark_answer given mark ≡ Done) where
+  module _ (mark : ℕ) (done : mark_answer given mark ≡ done) where
     none_of_mark : NoneOf (conditions (mark_refusals given mark))
     unfolding mark_answer
     none_of_mark = done_none (mark_refusals given mark) done
@@ -97,7 +95,7 @@ module _ (given : Lent) where
 
 -- ---- posting: rules B30 and B31
 
-module _ (given : Lent) (address : ℕ) (bytes : List ℕ) (done : post_answer given address bytes ≡ Done) where
+module _ (given : Lent) (address : ℕ) (bytes : List ℕ) (done : post_answer given address bytes ≡ done) where
   abbrev sheet : List ℕ
   sheet = given.sheet
 
@@ -118,12 +116,12 @@ module _ (given : Lent) (address : ℕ) (bytes : List ℕ) (done : post_answer g
       (post_stores_inside sheet bank found.right found.fitting address bytes readable) place
 
   -- each posted address lies in an access 1 area
-  pub post_lies : (k : ℕ) → k < length bytes / 2 → (place : ℕ) × (lies_in (areas sheet) (address + k) ≡ At place read_only)
+  pub post_lies : (k : ℕ) → k < length bytes / 2 → (place : ℕ) × (lies_in (areas sheet) (address + k) ≡ found_at place read_only)
   post_lies k inside =
       (place_in (lies_in (areas sheet) (address + k)), posted_read_only sheet address bytes readable k inside)
 
   -- and holds its word
-  pub post_word : (k place access : ℕ) → k < length bytes / 2 → lies_in (areas sheet) (address + k) ≡ At place access
+  pub post_word : (k place access : ℕ) → k < length bytes / 2 → lies_in (areas sheet) (address + k) ≡ found_at place access
       → word_of (post_outcome given address bytes).bank place ≡ word_at bytes (2 * k)
   unfolding post_stores
   post_word k place access inside lies =
@@ -138,20 +136,20 @@ module _ (given : Lent) (address : ℕ) (bytes : List ℕ) (done : post_answer g
           let same : one.0 ≡ k =
           omega (
             arith,
-            place_address sheet found.right (address + one.0) place read_only (one.2 ∙ ap (λ (n : ℕ). At n read_only) at),
+            place_address sheet found.right (address + one.0) place read_only (one.2 ∙ ap (λ (n : ℕ). found_at n read_only) at),
             place_address sheet found.right (address + k) place access lies,
           ) in
           one.3 ∙ ap (λ (n : ℕ). word_at bytes (2 * n)) same
 
   -- every other word stays
-  pub post_elsewhere : (place : ℕ) → ((k : ℕ) → k < length bytes / 2 → lies_in (areas sheet) (address + k) ≡ At place read_only → ⊥)
+  pub post_elsewhere : (place : ℕ) → ((k : ℕ) → k < length bytes / 2 → lies_in (areas sheet) (address + k) ≡ found_at place read_only → ⊥)
       → word_of (post_outcome given address bytes).bank place ≡ word_of bank place
   post_elsewhere place unposted = left place ∙ latest_none (post_stores sheet address bytes) place (word_of bank place) none
     where
       none : (store : Store) → Among store (post_stores sheet address bytes) → store.place ≡ place → ⊥
       none store m at =
           let one = posted_store sheet address bytes readable m in
-          unposted one.0 one.1 (one.2 ∙ ap (λ (n : ℕ). At n read_only) at)
+          unposted one.0 one.1 (one.2 ∙ ap (λ (n : ℕ). found_at n read_only) at)
 
   -- also the mark
   pub post_mark : word_of (post_outcome given address bytes).bank (mark_place sheet) ≡ word_of bank (mark_place sheet)
@@ -180,7 +178,7 @@ module _ (sheet bank : List ℕ) (right : sound sheet ≡ true) (fitting : fits 
   pub mark_apart : (place : ℕ) → (mark_place sheet ≡ place → ⊥) → word_of (stored bank (mark_stores sheet mark)) place ≡ word_of bank place
   mark_apart place apart = mark_stored sheet bank right fitting mark place ∙ simp (ne_eqb (mark_place sheet) place apart)
 
-module _ (given : Lent) (mark : ℕ) (done : mark_answer given mark ≡ Done) where
+module _ (given : Lent) (mark : ℕ) (done : mark_answer given mark ≡ done) where
   marked : Passed given
   marked = mark_passed given mark done
 

@@ -7,11 +7,10 @@ use native.Mathlib.Omega.{arith}
 use lib.Dec.{leb, eqb}
 use borrow.Author.Tests.{eqb-true, eqb-false, eq-eqb, ne_eqb}
 use Rattle.sheet_rules.specs.declared.Item.{Item}
-use Rattle.sheet_rules.specs.declared.Lies.TheVariants.{At}
 use Rattle.sheet_rules.specs.Rows.{bank_words, address_place, rate_place, areas, items}
 use Rattle.lists.specs.Lists.{each, up_from}
 use Rattle.sheet_rules.specs.Rules.{is_pair, kind_rule, bounds_rule, low_high_rule, cover_rule, pair_rule, read_only, items_sound, sound}
-use Rattle.sheet_rules.specs.Lookup.{lies_in, holds}
+use Rattle.sheet_rules.specs.Lookup.{lies_in, holds, found_at}
 use Rattle.lists.proofs.Tests.{first_of, second_of_lem}
 use Rattle.lists.proofs.Among.{Among, here, there, among_left, among_right, each_among}
 use Rattle.sheet_rules.proofs.Addresses.{lies_below}
@@ -120,7 +119,7 @@ module _ (sheet bank : List ℕ) (keeps : sound sheet ≡ true) (fitting : fits 
       zero_all store m at = ap (λ (s : Store). s.word) (among_map zero_at (up_from 0 (bank_words sheet + 1)) m).2
 
   -- rule B23
-  pub fresh_read_only : (address place : ℕ) → lies_in (areas sheet) address ≡ At place read_only → word_of (fresh_bank sheet bank) place ≡ 0
+  pub fresh_read_only : (address place : ℕ) → lies_in (areas sheet) address ≡ found_at place read_only → word_of (fresh_bank sheet bank) place ≡ 0
   fresh_read_only address place lies =
       fresh_unheld place (omega (arith, lies_below sheet keeps address place read_only lies))
       (λ item m e. read_only_unheld sheet keeps address place lies m e)

@@ -10,11 +10,10 @@ use borrow.Author.Tests.{leb-true, ltb-true, eqb-true, eq-eqb}
 use Rattle.range.specs.Range.{unsigned_word, in_range}
 use Rattle.sheet_rules.specs.declared.Area.{Area}
 use Rattle.sheet_rules.specs.declared.Item.{Item}
-use Rattle.sheet_rules.specs.declared.Lies.TheVariants.{At}
 use Rattle.sheet_rules.specs.Rows.{bank_words, address_place, rate_place, areas, items, item_at, item_count}
 use Rattle.lists.specs.Lists.{some}
 use Rattle.sheet_rules.specs.Rules.{length_of, lengths_sum, is_pair, covered_by_items, read_only, place_in_area, setting_at, address_item, rate_item, lowest_station, highest_station, settings_sound, sound}
-use Rattle.sheet_rules.specs.Lookup.{lies_in, holds}
+use Rattle.sheet_rules.specs.Lookup.{lies_in, holds, found_at}
 use Rattle.lists.proofs.Tests.{first_of, second_of_lem}
 use Rattle.lists.proofs.Among.{Among, some_among, among_row, row_among}
 use Rattle.sheet_rules.proofs.Sound.{sound_areas, sound_parts}
@@ -145,7 +144,7 @@ module _ (sheet : List ℕ) (keeps : sound sheet ≡ true) where
       ∙ sym next.2
 
   -- what lies in an area that items cover has an access that they cover, whatever address leads to it
-  pub covered_access : (address place access : ℕ) → lies_in (areas sheet) address ≡ At place access → in_covered (areas sheet) place ≡ true
+  pub covered_access : (address place access : ℕ) → lies_in (areas sheet) address ≡ found_at place access → in_covered (areas sheet) place ≡ true
       → covered_by_items access ≡ true
   covered_access address place access lies e =
       let found = some_among (λ (area : Area). covered_by_items area.access && place_in_area place area) (areas sheet) e in
@@ -156,17 +155,17 @@ module _ (sheet : List ℕ) (keeps : sound sheet ≡ true) where
       let high = ltb-true place (area.place + length_of area) (second_of_lem (leb area.place place) (ltb place (area.place + length_of area)) within) in
       let there_too : ℕ = area.first + (place - area.place) in
       let back : area.place + (there_too - area.first) ≡ place = omega (arith, low) in
-      let lies_too : lies_in (areas sheet) there_too ≡ At place area.access =
+      let lies_too : lies_in (areas sheet) there_too ≡ found_at place area.access =
       lies_there there_too found.1 (sound_areas sheet keeps).ascend (omega arith) (omega (arith, low, high))
-      ∙ ap (λ (n : ℕ). At n area.access) back in
+      ∙ ap (λ (n : ℕ). found_at n area.access) back in
       let same : address ≡ there_too =
       sym (place_address sheet keeps address place access lies) ∙ place_address sheet keeps there_too place area.access lies_too in
-      let both : At place access ≡ At place area.access = sym lies ∙ ap (lies_in (areas sheet)) same ∙ lies_too in
+      let both : found_at place access ≡ found_at place area.access = sym lies ∙ ap (lies_in (areas sheet)) same ∙ lies_too in
       let equal : access ≡ area.access = cc in
       ap covered_by_items equal ∙ opened
 
   -- a place that lies in an access 1 area is no item's
-  pub read_only_unheld : (address place : ℕ) → lies_in (areas sheet) address ≡ At place read_only
+  pub read_only_unheld : (address place : ℕ) → lies_in (areas sheet) address ≡ found_at place read_only
       → {item : Item} → Among item (items sheet) → holds item place ≡ true → ⊥
   read_only_unheld address place lies m e =
       let wrong : ◌≡◌ {A = Bool} false true = covered_access address place read_only lies (held_covered place m e) in

@@ -8,16 +8,16 @@ use Prim.Native.Nat.{ℕ, ◌+◌, ◌*◌, ◌/◌, ◌%◌, ◌≤◌, ◌<◌
 use native.Mathlib.Omega.{arith}
 use lib.ListN.{length}
 use borrow.Author.Tests.{eqb-true}
+use Rattle.std.specs.Prelude.{Option, None, Some}
 use Rattle.words.specs.Words.{word_at}
 use Rattle.sheet_rules.specs.declared.Item.{Item}
-use Rattle.sheet_rules.specs.declared.Lies.{Lies}
-use Rattle.sheet_rules.specs.declared.Lies.TheVariants.{At, Nowhere}
 use Rattle.sheet_rules.specs.Rows.{bank_words, address_place, rate_place, areas, items, item_at, item_count}
 use Rattle.lists.specs.Lists.{up_from}
 use Rattle.sheet_rules.specs.Rules.{is_pair, read_only, sound}
-use Rattle.sheet_rules.specs.Lookup.{lies_in, holds, place_in}
+use Rattle.sheet_rules.specs.Lookup.{lies_in, holds, place_in, found_at}
 use Rattle.lists.proofs.Among.{Among, here, there, among_nil, among_cons, among_append, each_among, up_among, among_up}
 use Rattle.sheet_rules.proofs.Addresses.{lies_below}
+use Rattle.sheet_rules.specs.declared.Lies.{Lies}
 use Rattle.bank_rules.specs.Stores.{Store}
 use Rattle.bank_rules.specs.Bank.{fits, bank_bytes, mark_place, zero_at, item_stores, low_stores, fresh_stores, is_read_only, posted_run, all_read_only, post_store, post_stores, mark_stores}
 use Rattle.bank_rules.proofs.Latest.{PlaceInside, StoresInside}
@@ -87,13 +87,13 @@ low_store_item (item ∷ behind) {store} m =
         (found.0, there found.1, found.2)
 
 -- what lies in an access 1 area lies at its place
-pub read_only_at : (lies : Lies) → is_read_only lies ≡ true → lies ≡ At (place_in lies) read_only
-read_only_at (At place access) e = ap (At place) (eqb-true access read_only e)
-read_only_at Nowhere e = let z : ◌≡◌ {A = ℕ} 0 1 = cc in absurd (omega arith)
+pub read_only_at : (lies : Option Lies) → is_read_only lies ≡ true → lies ≡ found_at (place_in lies) read_only
+read_only_at (Some lies) e = ap (found_at lies.place) (eqb-true lies.access read_only e)
+read_only_at None e = let z : ◌≡◌ {A = ℕ} 0 1 = cc in absurd (omega arith)
 
 -- each posted address lies in an access 1 area
 pub posted_read_only : (sheet : List ℕ) (address : ℕ) (bytes : List ℕ) → all_read_only sheet (posted_run address bytes) ≡ true
-    → (k : ℕ) → k < length bytes / 2 → lies_in (areas sheet) (address + k) ≡ At (place_in (lies_in (areas sheet) (address + k))) read_only
+    → (k : ℕ) → k < length bytes / 2 → lies_in (areas sheet) (address + k) ≡ found_at (place_in (lies_in (areas sheet) (address + k))) read_only
 unfolding all_read_only
 posted_read_only sheet address bytes all k inside =
     read_only_at (lies_in (areas sheet) (address + k))
@@ -102,7 +102,7 @@ posted_read_only sheet address bytes all k inside =
 -- a store of posted words is of one of them, at the place of its address
 pub posted_store : (sheet : List ℕ) (address : ℕ) (bytes : List ℕ) → all_read_only sheet (posted_run address bytes) ≡ true
     → {store : Store} → Among store (post_stores sheet address bytes)
-    → (k : ℕ) × (k < length bytes / 2) × (lies_in (areas sheet) (address + k) ≡ At store.place read_only) × (store.word ≡ word_at bytes (2 * k))
+    → (k : ℕ) × (k < length bytes / 2) × (lies_in (areas sheet) (address + k) ≡ found_at store.place read_only) × (store.word ≡ word_at bytes (2 * k))
 unfolding post_stores
 posted_store sheet address bytes all m =
     let found = among_map (post_store sheet address bytes) (up_from 0 (length bytes / 2)) m in
@@ -110,7 +110,7 @@ posted_store sheet address bytes all m =
       found.0,
       inside,
       posted_read_only sheet address bytes all found.0 inside
-          ∙ ap (λ (n : ℕ). At n read_only) (ap (λ (s : Store). s.place) (sym found.2)),
+          ∙ ap (λ (n : ℕ). found_at n read_only) (ap (λ (s : Store). s.place) (sym found.2)),
       ap (λ (s : Store). s.word) found.2,
     )
 
@@ -135,7 +135,7 @@ module _ (sheet bank : List ℕ) (keeps : sound sheet ≡ true) (fitting : fits 
   pub mark_place_inside : PlaceInside bank (mark_place sheet)
   mark_place_inside = below_inside (mark_place sheet) (omega arith)
 
-  pub lies_place_inside : (address place access : ℕ) → lies_in (areas sheet) address ≡ At place access → PlaceInside bank place
+  pub lies_place_inside : (address place access : ℕ) → lies_in (areas sheet) address ≡ found_at place access → PlaceInside bank place
   lies_place_inside address place access lies = below_inside place (omega (arith, lies_below sheet keeps address place access lies))
 
   pub fresh_stores_inside : StoresInside bank (fresh_stores sheet)

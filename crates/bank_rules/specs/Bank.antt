@@ -1,16 +1,15 @@
 -- The bank: its size, the value of an item and its side, a sound bank, and the stores of a fresh bank, of posting and of setting the mark. Assumes
 -- nothing.
-use Rattle.std.specs.Prelude.{ℕ, ◌+◌, ◌*◌, ◌/◌, ◌%◌, Bool, false, cond, ◌&&◌, ◌||◌, List, [], ◌∷◌, ◌++◌, map, leb, eqb, length}
+use Rattle.std.specs.Prelude.{ℕ, ◌+◌, ◌*◌, ◌/◌, ◌%◌, Bool, false, cond, ◌&&◌, ◌||◌, List, [], ◌∷◌, ◌++◌, map, leb, eqb, length, Option, None, Some}
 use Rattle.words.specs.Words.{word_at}
 use Rattle.range.specs.declared.Side.{Side}
 use Rattle.range.specs.Range.{side_of, inside}
 use Rattle.sheet_rules.specs.declared.Item.{Item}
-use Rattle.sheet_rules.specs.declared.Lies.{Lies}
-use Rattle.sheet_rules.specs.declared.Lies.TheVariants.{At, Nowhere}
 use Rattle.sheet_rules.specs.Rows.{bank_words, address_place, rate_place, areas, items}
 use Rattle.lists.specs.Lists.{each, up_from}
 use Rattle.sheet_rules.specs.Rules.{is_pair, read_only}
 use Rattle.sheet_rules.specs.Lookup.{lies_in, place_in}
+use Rattle.sheet_rules.specs.declared.Lies.{Lies}
 use Rattle.bank_rules.specs.Stores.{Store, word_of}
 
 -- rule B1: how many bytes a bank has
@@ -73,9 +72,9 @@ fresh_stores sheet =
 -- ---- posting
 
 -- what lies at an address has access 1
-abbrev pub is_read_only : Lies → Bool
-is_read_only (At place access) = eqb access read_only
-is_read_only Nowhere = false
+abbrev pub is_read_only : Option Lies → Bool
+is_read_only (Some lies) = eqb lies.access read_only
+is_read_only None = false
 
 -- rules B30 and B32: the addresses that posted bytes are for, as numbers without a width
 abbrev pub posted_run : ℕ → List ℕ → List ℕ

@@ -1,11 +1,9 @@
 -- What each call on a bank refuses, answers, stores and leaves: sections B and N of the rules. Assumes nothing.
-use Rattle.std.specs.Prelude.{ℕ, Bool, not, List, [], ◌∷◌, ◌++◌, leb}
+use Rattle.std.specs.Prelude.{ℕ, Bool, not, List, [], ◌∷◌, ◌++◌, leb, Ok, Err}
 use Rattle.lists.specs.Cases.{Case, when}
 use Rattle.refusals.specs.declared.Refusal.{Refusal}
 use Rattle.refusals.specs.declared.Refusal.TheVariants.{BrokenSheet, MisfittingBank, UnsoundBank, NotReadOnly, BadInput}
-use Rattle.refusals.specs.declared.Answer.{Answer}
-use Rattle.refusals.specs.declared.Answer.TheVariants.{Done, Refused}
-use Rattle.refusals.specs.Answers.{answer_by}
+use Rattle.refusals.specs.Answers.{answer_by, Answer}
 use Rattle.sheet_rules.specs.Rules.{broken_sheet}
 use Rattle.bank_rules.specs.Stores.{Store, stored}
 use Rattle.bank_rules.specs.Bank.{fits, bank_sound, fresh_stores, posted_run, all_read_only, post_stores, empty_or_odd, mark_stores}
@@ -75,8 +73,8 @@ mark_answer given mark = answer_by (mark_refusals given mark)
 -- ---- what is stored: a call that is done makes its stores, one that is refused makes none (rule N52)
 
 abbrev pub effect_of : Answer → List Store → List Store
-effect_of Done stores = stores
-effect_of (Refused refusal) stores = []
+effect_of (Ok tt) stores = stores
+effect_of (Err refusal) stores = []
 
 abbrev pub fresh_effect : Lent → List Store
 fresh_effect given = effect_of (fresh_answer given) (fresh_stores given.sheet)

@@ -8,21 +8,18 @@ ghost use Rattle.bank_rules.specs.Stores.{word_of, stored};
 ghost use Rattle.bank_rules.specs.Bank.{value_by, zero_at, item_stores, empty_or_odd, is_read_only, all_read_only};
 ghost use Rattle.bank_rules.specs.Calls.{lent, fresh_answer};
 
-use refusals::{Answer, Refusal};
+use refusals::Refusal;
 use sheet_rules::{Item, Lies};
 
 // The refusals that all calls on a bank share: a sheet that breaks a rule, and a bank that has not 2B + 2 bytes.
-pub fn check_size(sheet: &[u8], bank: &[u8]) -> Answer
+pub fn check_size(sheet: &[u8], bank: &[u8]) -> Result<(), Refusal>
     ensures { result ≡ fresh_answer (lent sheet.now bank.now) }
 {
-    let checked = sheet::check(sheet);
-    let Answer::Done = checked else {
-        return checked;
-    };
+    sheet::check(sheet)?;
     if bank.len() != 2 * (rows::bank_words(sheet) as usize) + 2 {
-        return Answer::Refused(Refusal::MisfittingBank);
+        return Err(Refusal::MisfittingBank);
     }
-    Answer::Done
+    Ok(())
 }
 
 // The value of an item: its word, or for a pair both, upper word first.
@@ -72,12 +69,12 @@ pub fn empty_or_odd(bytes: &[u8]) -> bool
 }
 
 // Whether what lies somewhere is in an access 1 area.
-fn is_read_only(lies: Lies) -> bool
+fn is_read_only(lies: Option<Lies>) -> bool
     ensures { result ≡ is_read_only lies }
 {
     match lies {
-        Lies::At { place: _, access } => access == 1,
-        Lies::Nowhere => false,
+        Some(lies) => lies.access == 1,
+        None => false,
     }
 }
 

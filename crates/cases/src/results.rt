@@ -123,24 +123,24 @@ fn number_of(refusal: Refusal) -> u16 {
 }
 
 // What a call handed back, in numbers.
-fn numbers_of(answered: Answered) -> Got {
+fn numbers_of(answered: Result<Answered, Refusal>) -> Got {
     match answered {
-        Answered::Reply { length, rate } => Got {
+        Ok(Answered::Reply { length, rate }) => Got {
             number: 0,
             length: length as usize,
             rate: rate,
         },
-        Answered::Error { code: _, rate } => Got {
+        Ok(Answered::Error { code: _, rate }) => Got {
             number: 0,
             length: frame::ERROR_LENGTH as usize,
             rate: rate,
         },
-        Answered::Silence => Got {
+        Ok(Answered::Silence) => Got {
             number: 1,
             length: 0,
             rate: 0,
         },
-        Answered::Refused(refusal) => Got {
+        Err(refusal) => Got {
             number: number_of(refusal),
             length: 0,
             rate: 0,

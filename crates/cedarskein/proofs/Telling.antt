@@ -2,8 +2,7 @@
 use mathlib.Core.Path.{◌≡◌, ap, ◌∙◌}
 use mathlib.Core.List.{List}
 use Prim.Native.Nat.{ℕ}
-use Rattle.refusals.specs.declared.Answer.{Answer}
-use Rattle.refusals.specs.Answers.{answer_number}
+use Rattle.refusals.specs.Answers.{answer_number, Answer}
 use Rattle.bank_rules.specs.Calls.{BankOutcome, bank_outcome}
 use Rattle.ring_rules.specs.Calls.{RingOutcome, ring_outcome}
 use Rattle.cedarskein.specs.Door.{told, told_of, ring_told, ring_told_of}

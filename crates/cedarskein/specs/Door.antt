@@ -6,8 +6,7 @@ use Rattle.ring_rules.specs.Calls.{RingOutcome}
 use Rattle.meter_rules.specs.Answer.{Outcome, answered_number, length_in, rate_in}
 use Rattle.controller_rules.specs.Query.{QueryOutcome, built_number, built_length}
 use Rattle.controller_rules.specs.Reading.{ReplyOutcome, reading_number, reading_length, reading_error}
-use Rattle.why_rules.specs.declared.Explained.{Explained}
-use Rattle.why_rules.specs.Reasons.{explained_number, reason_in, address_in, side_in}
+use Rattle.why_rules.specs.Reasons.{explained_number, reason_in, address_in, side_in, Explained}
 
 -- rule N53: the number of a call on a bank, and the bank afterwards
 pub record Told : Type 0 where

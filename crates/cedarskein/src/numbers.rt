@@ -8,11 +8,11 @@ ghost use Rattle.controller_rules.specs.Order.{order_by};
 ghost use Rattle.controller_rules.specs.Query.{built_number, built_length};
 ghost use Rattle.controller_rules.specs.Reading.{reading_number, reading_length, reading_error};
 
-use controller_rules::{Built, Order, Reading};
+use controller_rules::{Order, Reading};
 use meter_rules::Answered;
 use range::Side;
-use refusals::{Answer, Refusal};
-use why_rules::{Explained, Reason};
+use refusals::Refusal;
+use why_rules::Reason;
 
 fn of_refusal(refusal: Refusal) -> u32
     ensures { result ≡ refusal_number refusal }
@@ -33,96 +33,96 @@ fn of_refusal(refusal: Refusal) -> u32
     }
 }
 
-pub(crate) fn of_answer(answer: Answer) -> u32
+pub(crate) fn of_answer(answer: Result<(), Refusal>) -> u32
     ensures { result ≡ answer_number answer }
 {
     match answer {
-        Answer::Done => 0,
-        Answer::Refused(refusal) => of_refusal(refusal),
+        Ok(()) => 0,
+        Err(refusal) => of_refusal(refusal),
     }
 }
 
-pub(crate) fn of_answered(answered: Answered) -> u32
+pub(crate) fn of_answered(answered: Result<Answered, Refusal>) -> u32
     ensures { result ≡ answered_number answered }
 {
     match answered {
-        Answered::Reply { length: _, rate: _ } => 0,
-        Answered::Error { code: _, rate: _ } => 0,
-        Answered::Silence => 1,
-        Answered::Refused(refusal) => of_refusal(refusal),
+        Ok(Answered::Reply { length: _, rate: _ }) => 0,
+        Ok(Answered::Error { code: _, rate: _ }) => 0,
+        Ok(Answered::Silence) => 1,
+        Err(refusal) => of_refusal(refusal),
     }
 }
 
 // The length of a reply; 0 where there is none.
-pub(crate) fn length_of(answered: Answered) -> u32
+pub(crate) fn length_of(answered: Result<Answered, Refusal>) -> u32
     ensures { result ≡ length_in answered }
 {
     match answered {
-        Answered::Reply { length, rate: _ } => length,
-        Answered::Error { code: _, rate: _ } => frame::ERROR_LENGTH,
-        Answered::Silence => 0,
-        Answered::Refused(_) => 0,
+        Ok(Answered::Reply { length, rate: _ }) => length,
+        Ok(Answered::Error { code: _, rate: _ }) => frame::ERROR_LENGTH,
+        Ok(Answered::Silence) => 0,
+        Err(_) => 0,
     }
 }
 
 // The rate of a reply; 0 where there is none.
-pub(crate) fn rate_of(answered: Answered) -> u32
+pub(crate) fn rate_of(answered: Result<Answered, Refusal>) -> u32
     ensures { result ≡ rate_in answered }
 {
     match answered {
-        Answered::Reply { length: _, rate } => rate as u32,
-        Answered::Error { code: _, rate } => rate as u32,
-        Answered::Silence => 0,
-        Answered::Refused(_) => 0,
+        Ok(Answered::Reply { length: _, rate }) => rate as u32,
+        Ok(Answered::Error { code: _, rate }) => rate as u32,
+        Ok(Answered::Silence) => 0,
+        Err(_) => 0,
     }
 }
 
-pub(crate) fn of_explained(explained: Explained) -> u32
+pub(crate) fn of_explained(explained: Result<Option<Reason>, Refusal>) -> u32
     ensures { result ≡ explained_number explained }
 {
     match explained {
-        Explained::Refused(refusal) => of_refusal(refusal),
-        Explained::Because(_) => 0,
+        Err(refusal) => of_refusal(refusal),
+        Ok(_) => 0,
     }
 }
 
-fn of_reason(reason: Reason) -> u32
+fn of_reason(reason: Option<Reason>) -> u32
     ensures { result ≡ reason_number reason }
 {
     match reason {
-        Reason::None => 0,
-        Reason::TooShort => 1,
-        Reason::TooLong => 2,
-        Reason::Check => 3,
-        Reason::Station => 4,
-        Reason::Function => 5,
-        Reason::BodyLength => 6,
-        Reason::Count => 7,
-        Reason::Address { address: _ } => 8,
-        Reason::ClearValue => 9,
-        Reason::Item {
+        None => 0,
+        Some(Reason::TooShort) => 1,
+        Some(Reason::TooLong) => 2,
+        Some(Reason::Check) => 3,
+        Some(Reason::Station) => 4,
+        Some(Reason::Function) => 5,
+        Some(Reason::BodyLength) => 6,
+        Some(Reason::Count) => 7,
+        Some(Reason::Address { address: _ }) => 8,
+        Some(Reason::ClearValue) => 9,
+        Some(Reason::Item {
             address: _,
             side: _,
-        } => 10,
+        }) => 10,
     }
 }
 
 // The address that is told with a reason; 0 where there is none to tell.
-fn address_with(reason: Reason) -> u32
+fn address_with(reason: Option<Reason>) -> u32
     ensures { result ≡ reason_address reason }
 {
     match reason {
-        Reason::Address { address } => address,
-        Reason::Item { address, side: _ } => address,
-        Reason::None => 0,
-        Reason::TooShort => 0,
-        Reason::TooLong => 0,
-        Reason::Check => 0,
-        Reason::Station => 0,
-        Reason::Function => 0,
-        Reason::BodyLength => 0,
-        Reason::Count => 0,
-        Reason::ClearValue => 0,
+        Some(Reason::Address { address }) => address,
+        Some(Reason::Item { address, side: _ }) => address,
+        None => 0,
+        Some(Reason::TooShort) => 0,
+        Some(Reason::TooLong) => 0,
+        Some(Reason::Check) => 0,
+        Some(Reason::Station) => 0,
+        Some(Reason::Function) => 0,
+        Some(Reason::BodyLength) => 0,
+        Some(Reason::Count) => 0,
+        Some(Reason::ClearValue) => 0,
     }
 }
 
@@ -137,49 +137,49 @@ fn of_side(side: Side) -> u32
 }
 
 // The number of the side that is told with a reason; 0 where there is none to tell.
-fn side_with(reason: Reason) -> u32
+fn side_with(reason: Option<Reason>) -> u32
     ensures { result ≡ reason_side reason }
 {
     match reason {
-        Reason::Item { address: _, side } => of_side(side),
-        Reason::Address { address: _ } => 0,
-        Reason::None => 0,
-        Reason::TooShort => 0,
-        Reason::TooLong => 0,
-        Reason::Check => 0,
-        Reason::Station => 0,
-        Reason::Function => 0,
-        Reason::BodyLength => 0,
-        Reason::Count => 0,
-        Reason::ClearValue => 0,
+        Some(Reason::Item { address: _, side }) => of_side(side),
+        Some(Reason::Address { address: _ }) => 0,
+        None => 0,
+        Some(Reason::TooShort) => 0,
+        Some(Reason::TooLong) => 0,
+        Some(Reason::Check) => 0,
+        Some(Reason::Station) => 0,
+        Some(Reason::Function) => 0,
+        Some(Reason::BodyLength) => 0,
+        Some(Reason::Count) => 0,
+        Some(Reason::ClearValue) => 0,
     }
 }
 
 // The number of the reason, its address, and the number of its side; 0 with a refusal.
-pub(crate) fn reason_in(explained: Explained) -> u32
+pub(crate) fn reason_in(explained: Result<Option<Reason>, Refusal>) -> u32
     ensures { result ≡ reason_in explained }
 {
     match explained {
-        Explained::Refused(_) => 0,
-        Explained::Because(reason) => of_reason(reason),
+        Err(_) => 0,
+        Ok(reason) => of_reason(reason),
     }
 }
 
-pub(crate) fn address_in(explained: Explained) -> u32
+pub(crate) fn address_in(explained: Result<Option<Reason>, Refusal>) -> u32
     ensures { result ≡ address_in explained }
 {
     match explained {
-        Explained::Refused(_) => 0,
-        Explained::Because(reason) => address_with(reason),
+        Err(_) => 0,
+        Ok(reason) => address_with(reason),
     }
 }
 
-pub(crate) fn side_in(explained: Explained) -> u32
+pub(crate) fn side_in(explained: Result<Option<Reason>, Refusal>) -> u32
     ensures { result ≡ side_in explained }
 {
     match explained {
-        Explained::Refused(_) => 0,
-        Explained::Because(reason) => side_with(reason),
+        Err(_) => 0,
+        Ok(reason) => side_with(reason),
     }
 }
 
@@ -215,54 +215,54 @@ pub(crate) fn order_of(kind: u32, address: u32, number: u32) -> Order
 }
 
 // The number of what building a query answers, and the length of the query; 0 with a refusal.
-pub(crate) fn of_built(built: Built) -> u32
+pub(crate) fn of_built(built: Result<u32, Refusal>) -> u32
     ensures { result ≡ built_number built }
 {
     match built {
-        Built::Query { length: _ } => 0,
-        Built::Refused(refusal) => of_refusal(refusal),
+        Ok(_) => 0,
+        Err(refusal) => of_refusal(refusal),
     }
 }
 
-pub(crate) fn length_built(built: Built) -> u32
+pub(crate) fn length_built(built: Result<u32, Refusal>) -> u32
     ensures { result ≡ built_length built }
 {
     match built {
-        Built::Query { length } => length,
-        Built::Refused(_) => 0,
+        Ok(length) => length,
+        Err(_) => 0,
     }
 }
 
 // The number of what reading a reply answers, the length of the values and the error code; 0 where there is none.
-pub(crate) fn of_reading(reading: Reading) -> u32
+pub(crate) fn of_reading(reading: Result<Reading, Refusal>) -> u32
     ensures { result ≡ reading_number reading }
 {
     match reading {
-        Reading::Values { length: _ } => 0,
-        Reading::Done => 0,
-        Reading::Error { code: _ } => 0,
-        Reading::Refused(refusal) => of_refusal(refusal),
+        Ok(Reading::Values { length: _ }) => 0,
+        Ok(Reading::Done) => 0,
+        Ok(Reading::Error { code: _ }) => 0,
+        Err(refusal) => of_refusal(refusal),
     }
 }
 
-pub(crate) fn length_read(reading: Reading) -> u32
+pub(crate) fn length_read(reading: Result<Reading, Refusal>) -> u32
     ensures { result ≡ reading_length reading }
 {
     match reading {
-        Reading::Values { length } => length,
-        Reading::Done => 0,
-        Reading::Error { code: _ } => 0,
-        Reading::Refused(_) => 0,
+        Ok(Reading::Values { length }) => length,
+        Ok(Reading::Done) => 0,
+        Ok(Reading::Error { code: _ }) => 0,
+        Err(_) => 0,
     }
 }
 
-pub(crate) fn error_read(reading: Reading) -> u32
+pub(crate) fn error_read(reading: Result<Reading, Refusal>) -> u32
     ensures { result ≡ reading_error reading }
 {
     match reading {
-        Reading::Values { length: _ } => 0,
-        Reading::Done => 0,
-        Reading::Error { code } => code as u32,
-        Reading::Refused(_) => 0,
+        Ok(Reading::Values { length: _ }) => 0,
+        Ok(Reading::Done) => 0,
+        Ok(Reading::Error { code }) => code as u32,
+        Err(_) => 0,
     }
 }

@@ -5,12 +5,12 @@ use mathlib.Core.List.{List}
 use Prim.Native.Nat.{ℕ, ◌≤◌}
 use native.Mathlib.Omega.{arith}
 use lib.ListN.{length}
+use Rattle.std.specs.Prelude.{Ok}
 use Rattle.lists.specs.Cases.{first_case}
 use Rattle.frame.specs.Frame.{writes_many}
 use Rattle.frame.specs.Reply.{Filled, with_check, laid, small_buffer}
 use Rattle.controller_rules.specs.declared.Order.{Order}
 use Rattle.controller_rules.specs.declared.Order.TheVariants.{Read, Record, Write, Writes, Clear, Unknown}
-use Rattle.controller_rules.specs.declared.Built.TheVariants.{Query}
 use Rattle.controller_rules.specs.Order.{Asked, function_of, wrong_number, no_frame}
 use Rattle.controller_rules.specs.Query.{query_outcome, query, built_query, build_outcome}
 use Rattle.controller_rules.proofs.Framed.{framed, address_fits_lem, second_fits_lem, values_fit_lem}
@@ -50,10 +50,10 @@ module _ (asked : Asked) (has : no_frame asked ≡ false) where
 
   pub built : (buffer : List ℕ) → small_buffer buffer ≡ false
       → {filled : Filled} → filled ≡ laid_query asked.station (wanted_of asked.order asked.values) asked.values buffer
-      → query_outcome (Query filled.length) filled.buffer ≡ build_outcome asked buffer
+      → query_outcome (Ok filled.length) filled.buffer ≡ build_outcome asked buffer
   unfolding build_outcome built_query first_case laid_query
   built buffer large made =
       let is = body_is asked.order asked.station asked.values in
       simp (has, large)
-      (ap (λ (f : Filled). query_outcome (Query f.length) f.buffer) made
-      ∙ ap (λ (q : List ℕ). query_outcome (Query (length q)) (laid q buffer)) is)
+      (ap (λ (f : Filled). query_outcome (Ok f.length) f.buffer) made
+      ∙ ap (λ (q : List ℕ). query_outcome (Ok (length q)) (laid q buffer)) is)

@@ -5,26 +5,27 @@ use mathlib.Core.List.{List, [], ◌∷◌}
 use Prim.Native.Nat.{ℕ, ◌*◌}
 use lib.Dec.{eqb}
 use lib.ListN.{take, drop}
+use Rattle.std.specs.Prelude.{Err}
 use Rattle.lists.specs.Cases.{when, first_case, mapped}
 use Rattle.check_value.specs.Frame.{passes}
 use Rattle.refusals.specs.declared.Refusal.TheVariants.{ReplyFunction, ReplyBody}
 use Rattle.frame.specs.Frame.{station, function, parts_of}
 use Rattle.frame.specs.Reply.{laid, small_buffer}
 use Rattle.controller_rules.specs.declared.Order.{Order}
-use Rattle.controller_rules.specs.declared.Reading.TheVariants.{Values, Done, Error, Refused}
 use Rattle.controller_rules.specs.Order.{Asked, function_of, word_count, no_frame}
 use Rattle.controller_rules.specs.Reading.{reply_outcome, code_in, is_error, error_fits, values_fit, done_fits, brings_values, read_with, reading_of, reading_outcome}
+use Rattle.controller_rules.specs.declared.Reading.TheVariants.{Values, Done, Error}
 use Rattle.controller.specs.Stages.{wanted_of, body_read}
 
 -- function and body, by what holds of them: error, the query's function, brings values, and what fits
 same_body : (n code : ℕ) (reply buffer : List ℕ) (error same brings errs values done : Bool)
     → read_with
-    (first_case (mapped Refused (when (not (same || error)) ReplyFunction ∷ when (not (cond error errs (cond brings values done))) ReplyBody ∷ []))
+    (first_case (mapped Err (when (not (same || error)) ReplyFunction ∷ when (not (cond error errs (cond brings values done))) ReplyBody ∷ []))
     (cond error (Error code) (cond brings (Values n) Done))) reply buffer
-    ≡ cond error (reply_outcome (cond errs (Error code) (Refused ReplyBody)) buffer)
-    (cond (not same) (reply_outcome (Refused ReplyFunction) buffer)
-    (cond brings (cond values (reply_outcome (Values n) (laid (take n (drop 3 reply)) buffer)) (reply_outcome (Refused ReplyBody) buffer))
-    (reply_outcome (cond done Done (Refused ReplyBody)) buffer)))
+    ≡ cond error (reply_outcome (cond errs (Error code) (Err ReplyBody)) buffer)
+    (cond (not same) (reply_outcome (Err ReplyFunction) buffer)
+    (cond brings (cond values (reply_outcome (Values n) (laid (take n (drop 3 reply)) buffer)) (reply_outcome (Err ReplyBody) buffer))
+    (reply_outcome (cond done Done (Err ReplyBody)) buffer)))
 unfolding first_case
 same_body n code reply buffer true true brings true values done = refl
 same_body n code reply buffer true true brings false values done = refl

@@ -1,15 +1,16 @@
 -- What the parts of building a query and of reading a reply answer. Only private promises cite this file. Assumes nothing.
-use Rattle.std.specs.Prelude.{ℕ, ◌+◌, ◌*◌, ◌≤◌, not, cond, ◌&&◌, List, ◌∷◌, ◌++◌, eqb, length, take, drop}
+use Rattle.std.specs.Prelude.{ℕ, ◌+◌, ◌*◌, ◌≤◌, not, cond, ◌&&◌, List, ◌∷◌, ◌++◌, eqb, length, take, drop, Result, Err, Ok}
 use Rattle.words.specs.Words.{byte_at, word_bytes}
 use Rattle.refusals.specs.declared.Refusal.TheVariants.{ReplyFunction, ReplyBody}
+use Rattle.refusals.specs.declared.Refusal.{Refusal}
 use Rattle.frame.specs.declared.Parts.{Parts}
 use Rattle.frame.specs.Frame.{reads, writes_many}
 use Rattle.frame.specs.Reply.{Filled, top_bit_set, with_check, laid, fill}
 use Rattle.controller_rules.specs.declared.Order.{Order}
-use Rattle.controller_rules.specs.declared.Reading.{Reading}
-use Rattle.controller_rules.specs.declared.Reading.TheVariants.{Values, Done, Error, Refused}
 use Rattle.controller_rules.specs.Order.{function_of, address_of, second_of, address_count, word_count}
 use Rattle.controller_rules.specs.Reading.{ReplyOutcome, reply_outcome, code_in, error_fits, done_length}
+use Rattle.controller_rules.specs.declared.Reading.{Reading}
+use Rattle.controller_rules.specs.declared.Reading.TheVariants.{Values, Done, Error}
 use Rattle.controller.specs.declared.Wanted.{Wanted}
 
 -- what an order with values shows
@@ -39,21 +40,21 @@ laid_query station wanted values buffer =
     fill (length (with_check (body station wanted values))) (laid (with_check (body station wanted values)) buffer)
 
 -- what is read of a reply, by what of it fits
-abbrev pub error_read : List ℕ → Reading
-error_read reply = cond (error_fits reply) (Error (code_in reply)) (Refused ReplyBody)
+abbrev pub error_read : List ℕ → Result Reading Refusal
+error_read reply = cond (error_fits reply) (Ok (Error (code_in reply))) (Err ReplyBody)
 
 abbrev pub values_read : ℕ → List ℕ → List ℕ → ReplyOutcome
 values_read words reply buffer =
     cond (eqb (length reply) (5 + 2 * words) && eqb (byte_at reply 2) (2 * words))
-    (reply_outcome (Values (2 * words)) (laid (take (2 * words) (drop 3 reply)) buffer))
-    (reply_outcome (Refused ReplyBody) buffer)
+    (reply_outcome (Ok (Values (2 * words))) (laid (take (2 * words) (drop 3 reply)) buffer))
+    (reply_outcome (Err ReplyBody) buffer)
 
-abbrev pub done_read : Wanted → Parts → Reading
+abbrev pub done_read : Wanted → Parts → Result Reading Refusal
 done_read wanted parts =
-    cond (eqb parts.length done_length && eqb parts.start wanted.address && eqb parts.second wanted.second) Done (Refused ReplyBody)
+    cond (eqb parts.length done_length && eqb parts.start wanted.address && eqb parts.second wanted.second) (Ok Done) (Err ReplyBody)
 
 unfoldable pub body_read : Wanted → Parts → List ℕ → List ℕ → ReplyOutcome
 body_read wanted parts reply buffer =
     cond (eqb parts.function (top_bit_set wanted.function)) (reply_outcome (error_read reply) buffer)
-    (cond (not (eqb parts.function wanted.function)) (reply_outcome (Refused ReplyFunction) buffer)
+    (cond (not (eqb parts.function wanted.function)) (reply_outcome (Err ReplyFunction) buffer)
     (cond (eqb wanted.function reads) (values_read wanted.words reply buffer) (reply_outcome (done_read wanted parts) buffer)))

@@ -10,8 +10,8 @@ ghost use Rattle.controller_rules.specs.Query.{query_outcome, build_outcome};
 ghost use Rattle.controller_rules.specs.Reading.{reply_outcome, reading_outcome};
 ghost use Rattle.controller.specs.Stages.{HeadFits, wanted_by, wanted_of, head, laid_query, error_read, values_read, done_read, body_read};
 
-use controller_rules::{Built, Order, Reading};
-use frame::{Parts, Passed};
+use controller_rules::{Order, Reading};
+use frame::Parts;
 use refusals::Refusal;
 
 // Rules Q11 to Q15.
@@ -168,70 +168,69 @@ fn lay_query(station: u32, wanted: Wanted, values: &[u8], buffer: &mut [u8]) -> 
 }
 
 // Builds the query of an order in the first bytes of a buffer, for a station and, where it is for several writes, of values.
-pub fn query(order: Order, station: u32, values: &[u8], buffer: &mut [u8]) -> Built
+pub fn query(order: Order, station: u32, values: &[u8], buffer: &mut [u8]) -> Result<u32, Refusal>
     ensures { query_outcome result buffer.new ≡ build_outcome (ask order station values.now) buffer.old }
 {
     if has_no_frame(order, station, values) {
-        return Built::Refused(Refusal::NoFrame);
+        return Err(Refusal::NoFrame);
     }
     if buffer.len() < frame::LEAST_BUFFER {
-        return Built::Refused(Refusal::SmallBuffer);
+        return Err(Refusal::SmallBuffer);
     }
     let wanted = wanted_of(order, values);
-    let length = lay_query(station, wanted, values, buffer);
-    Built::Query { length }
+    Ok(lay_query(station, wanted, values, buffer))
 }
 
 // Rule Q33: an error, by its code.
-fn error_read(reply: &[u8]) -> Reading
+fn error_read(reply: &[u8]) -> Result<Reading, Refusal>
     ensures { result ≡ error_read reply.now }
 {
     if reply.len() != frame::ERROR_LENGTH as usize {
-        return Reading::Refused(Refusal::ReplyBody);
+        return Err(Refusal::ReplyBody);
     }
     let code = words::byte_at(reply, 2);
     if outside(code as usize, MOST_CODE) {
-        return Reading::Refused(Refusal::ReplyBody);
+        return Err(Refusal::ReplyBody);
     }
-    Reading::Error { code }
+    Ok(Reading::Error { code })
 }
 
 // Rules Q34 and Q42: so many words, laid in a buffer.
-fn values_read(words: usize, reply: &[u8], buffer: &mut [u8]) -> Reading
+fn values_read(words: usize, reply: &[u8], buffer: &mut [u8]) -> Result<Reading, Refusal>
     requires words_bound { words ≤ 47 }
     requires in_bounds { 100 ≤ length buffer.old }
     ensures { reply_outcome result buffer.new ≡ values_read words reply.now buffer.old }
 {
     if reply.len() != 5 + 2 * words {
-        return Reading::Refused(Refusal::ReplyBody);
+        return Err(Refusal::ReplyBody);
     }
     if words::byte_at(reply, 2) as usize != 2 * words {
-        return Reading::Refused(Refusal::ReplyBody);
+        return Err(Refusal::ReplyBody);
     }
     copy(reply, 3, buffer, 0, 2 * words);
-    Reading::Values {
+    Ok(Reading::Values {
         length: (2 * words) as u32,
-    }
+    })
 }
 
 // Rule Q35: done, by the parts of a reply.
-fn done_read(wanted: Wanted, parts: Parts) -> Reading
+fn done_read(wanted: Wanted, parts: Parts) -> Result<Reading, Refusal>
     ensures { result ≡ done_read wanted parts }
 {
     if parts.length != frame::ECHO_LENGTH as usize {
-        return Reading::Refused(Refusal::ReplyBody);
+        return Err(Refusal::ReplyBody);
     }
     if parts.start as u32 != wanted.address {
-        return Reading::Refused(Refusal::ReplyBody);
+        return Err(Refusal::ReplyBody);
     }
     if parts.second as usize != wanted.second {
-        return Reading::Refused(Refusal::ReplyBody);
+        return Err(Refusal::ReplyBody);
     }
-    Reading::Done
+    Ok(Reading::Done)
 }
 
 // Rules Q32 to Q36: the function and the body of a reply that is taken apart.
-fn body_read(wanted: Wanted, parts: Parts, reply: &[u8], buffer: &mut [u8]) -> Reading
+fn body_read(wanted: Wanted, parts: Parts, reply: &[u8], buffer: &mut [u8]) -> Result<Reading, Refusal>
     requires words_bound { wanted.words ≤ 47 }
     requires in_bounds { 100 ≤ length buffer.old }
     ensures { reply_outcome result buffer.new ≡ body_read wanted parts reply.now buffer.old }
@@ -240,7 +239,7 @@ fn body_read(wanted: Wanted, parts: Parts, reply: &[u8], buffer: &mut [u8]) -> R
         return error_read(reply);
     }
     if parts.function != wanted.function {
-        return Reading::Refused(Refusal::ReplyFunction);
+        return Err(Refusal::ReplyFunction);
     }
     if wanted.function == frame::READS {
         return values_read(wanted.words, reply, buffer);
@@ -249,20 +248,20 @@ fn body_read(wanted: Wanted, parts: Parts, reply: &[u8], buffer: &mut [u8]) -> R
 }
 
 // Reads a reply against the order that it answers: values, in the first bytes of a buffer, done, or an error.
-pub fn reply(order: Order, station: u32, values: &[u8], reply: &[u8], buffer: &mut [u8]) -> Reading
+pub fn reply(order: Order, station: u32, values: &[u8], reply: &[u8], buffer: &mut [u8]) -> Result<Reading, Refusal>
     ensures { reply_outcome result buffer.new ≡ reading_outcome (ask order station values.now) reply.now buffer.old }
 {
     if has_no_frame(order, station, values) {
-        return Reading::Refused(Refusal::NoFrame);
+        return Err(Refusal::NoFrame);
     }
     if buffer.len() < frame::LEAST_BUFFER {
-        return Reading::Refused(Refusal::SmallBuffer);
+        return Err(Refusal::SmallBuffer);
     }
-    let Passed::Frame(parts) = frame::taken_apart(reply) else {
-        return Reading::Refused(Refusal::ReplyDamaged);
+    let Some(parts) = frame::taken_apart(reply) else {
+        return Err(Refusal::ReplyDamaged);
     };
     if parts.station as u32 != station {
-        return Reading::Refused(Refusal::ReplyStation);
+        return Err(Refusal::ReplyStation);
     }
     let wanted = wanted_of(order, values);
     body_read(wanted, parts, reply, buffer)

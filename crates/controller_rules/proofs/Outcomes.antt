@@ -5,6 +5,7 @@ use mathlib.Core.List.{List, [], ◌∷◌}
 use Prim.Native.Nat.{ℕ, zero, suc, ◌*◌}
 use native.Mathlib.Omega.{arith}
 use lib.ListN.{length, take, drop}
+use Rattle.std.specs.Prelude.{Result, Ok, Err}
 use Rattle.lists.specs.Cases.{when, first_case, mapped, InOrder}
 use Rattle.lists.proofs.Cases.{differ, told_in_order}
 use Rattle.words.specs.Words.{Bytes}
@@ -14,25 +15,22 @@ use Rattle.refusals.specs.declared.Refusal.TheVariants.{SmallBuffer, NoFrame, Re
 use Rattle.refusals.proofs.Numbers.{refusal_from_two}
 use Rattle.frame.specs.Reply.{laid, small_buffer}
 use Rattle.controller_rules.specs.declared.Order.{Order}
-use Rattle.controller_rules.specs.declared.Built.{Built}
-use Rattle.controller_rules.specs.declared.Built.TheVariants as built
-use Rattle.controller_rules.specs.declared.Built.TheVariants.{Query}
-use Rattle.controller_rules.specs.declared.Reading.{Reading}
-use Rattle.controller_rules.specs.declared.Reading.TheVariants.{Values, Done, Error, Refused}
 use Rattle.controller_rules.specs.Order.{Asked, word_count, no_frame}
-use Rattle.controller_rules.specs.Query.{QueryOutcome, query_outcome, query, query_refusals, built_query, built_with, build_outcome, built_number, built_length}
+use Rattle.controller_rules.specs.Query.{QueryOutcome, query_outcome, query, query_refusals, built_query, built_with, build_outcome, built_number, built_length, Built}
 use Rattle.controller_rules.specs.Reading.{ReplyOutcome, reply_outcome, damaged_reply, from_other, is_error, other_function, code_in, brings_values, body_fits, reply_refusals, taken, reading_of, read_with, reading_outcome, reading_number, reading_length, reading_error}
 use Rattle.controller_rules.proofs.Queries.{query_bytes}
+use Rattle.controller_rules.specs.declared.Reading.{Reading}
+use Rattle.controller_rules.specs.declared.Reading.TheVariants.{Values, Done, Error}
 
 -- ---- building
 
 module _ (asked : Asked) (buffer : List ℕ) where
   pub query_numbers : InOrder (built_number (built_query asked buffer)) [] (when (no_frame asked) 9 ∷ when (small_buffer buffer) 5 ∷ [])
   unfolding built_query differ
-  query_numbers = told_in_order built_number (mapped built.Refused (query_refusals asked buffer)) (Query (length (query asked))) refl refl
+  query_numbers = told_in_order built_number (mapped Err (query_refusals asked buffer)) (Ok (length (query asked))) refl refl
 
   -- what is built is the order's query, where the order has a frame and the buffer is large enough
-  pub built_is : no_frame asked ≡ false → small_buffer buffer ≡ false → build_outcome asked buffer ≡ query_outcome (Query (length (query asked))) (laid (query asked) buffer)
+  pub built_is : no_frame asked ≡ false → small_buffer buffer ≡ false → build_outcome asked buffer ≡ query_outcome (Ok (length (query asked))) (laid (query asked) buffer)
   unfolding build_outcome built_query first_case
   built_is has large = simp (has, large)
 
@@ -42,18 +40,18 @@ module _ (asked : Asked) (buffer : List ℕ) where
   built_told = go (built_query asked buffer)
     where
       go : (b : Built) → (built_with b asked buffer).built ≡ b
-      go (Query length) = refl
-      go (built.Refused refusal) = refl
+      go (Ok length) = refl
+      go (Err refusal) = refl
 
   -- building is refused, or it is done
-  pub built_cases : (P : QueryOutcome → Type 0) → ((refusal : Refusal) → P (query_outcome (built.Refused refusal) buffer))
-      → (no_frame asked ≡ false → small_buffer buffer ≡ false → P (query_outcome (Query (length (query asked))) (laid (query asked) buffer)))
+  pub built_cases : (P : QueryOutcome → Type 0) → ((refusal : Refusal) → P (query_outcome (Err refusal) buffer))
+      → (no_frame asked ≡ false → small_buffer buffer ≡ false → P (query_outcome (Ok (length (query asked))) (laid (query asked) buffer)))
       → P (build_outcome asked buffer)
   unfolding build_outcome built_query first_case
   built_cases P refused done = go (no_frame asked) refl (small_buffer buffer) refl
     where
       go : (no : Bool) → no_frame asked ≡ no → (small : Bool) → small_buffer buffer ≡ small
-          → P (built_with (cond no (built.Refused NoFrame) (cond small (built.Refused SmallBuffer) (Query (length (query asked))))) asked buffer)
+          → P (built_with (cond no (Err NoFrame) (cond small (Err SmallBuffer) (Ok (length (query asked))))) asked buffer)
       go true e small f = refused NoFrame
       go false e true f = refused SmallBuffer
       go false e false f = done e f
@@ -118,21 +116,21 @@ module _ (asked : Asked) (reply buffer : List ℕ) where
       (when (no_frame asked) 9 ∷ when (small_buffer buffer) 5 ∷ when (damaged_reply reply) 10 ∷ when (from_other asked reply) 11
       ∷ when (other_function asked.order reply) 12 ∷ when (not (body_fits asked reply)) 13 ∷ [])
   unfolding reading_of differ
-  reading_numbers = told_in_order reading_number (mapped Refused (reply_refusals asked reply buffer)) (taken asked.order reply) (taken_number asked.order reply) refl
+  reading_numbers = told_in_order reading_number (mapped Err (reply_refusals asked reply buffer)) (taken asked.order reply) (taken_number asked.order reply) refl
 
   -- the outcome says what was read
   pub reading_told : (reading_outcome asked reply buffer).reading ≡ reading_of asked reply buffer
   unfolding reading_outcome
   reading_told = go (reading_of asked reply buffer)
     where
-      go : (r : Reading) → (read_with r reply buffer).reading ≡ r
+      go : (r : Result Reading Refusal) → (read_with r reply buffer).reading ≡ r
       go (Values length) = refl
       go Done = refl
       go (Error code) = refl
-      go (Refused refusal) = refl
+      go (Err refusal) = refl
 
   -- reading is refused, or the reply is taken
-  pub reading_cases : (P : ReplyOutcome → Type 0) → ((refusal : Refusal) → P (reply_outcome (Refused refusal) buffer))
+  pub reading_cases : (P : ReplyOutcome → Type 0) → ((refusal : Refusal) → P (reply_outcome (Err refusal) buffer))
       → (Taken asked reply buffer → P (read_with (taken asked.order reply) reply buffer)) → P (reading_outcome asked reply buffer)
   unfolding reading_outcome reading_of first_case
   reading_cases P refused done =
@@ -143,10 +141,10 @@ module _ (asked : Asked) (reply buffer : List ℕ) where
           → (other : Bool) → from_other asked reply ≡ other → (unknown : Bool) → other_function asked.order reply ≡ unknown
           → (misfits : Bool) → not (body_fits asked reply) ≡ misfits
           → P (read_with
-          (cond no (Refused NoFrame)
-          (cond small (Refused SmallBuffer)
-          (cond damaged (Refused ReplyDamaged)
-          (cond other (Refused ReplyStation) (cond unknown (Refused ReplyFunction) (cond misfits (Refused ReplyBody) (taken asked.order reply))))))) reply buffer)
+          (cond no (Err NoFrame)
+          (cond small (Err SmallBuffer)
+          (cond damaged (Err ReplyDamaged)
+          (cond other (Err ReplyStation) (cond unknown (Err ReplyFunction) (cond misfits (Err ReplyBody) (taken asked.order reply))))))) reply buffer)
       go true a small b damaged c other d unknown e misfits f = refused NoFrame
       go false a true b damaged c other d unknown e misfits f = refused SmallBuffer
       go false a false b true c other d unknown e misfits f = refused ReplyDamaged

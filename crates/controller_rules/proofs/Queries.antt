@@ -6,11 +6,11 @@ use Prim.Native.Nat.{ℕ, ◌+◌, ◌*◌, ◌/◌, ◌%◌, ◌≤◌, ◌<◌
 use native.Mathlib.Omega.{arith}
 use lib.ListN.{length, get_or-append}
 use lib.Seq.{get_or-append-add}
+use Rattle.std.specs.Prelude.{Some}
 use Rattle.words.specs.Words.{Bytes, byte_at, word_at, word_bytes}
 use Rattle.words.proofs.Small.{bytes_none, bytes_one, bytes_both, bytes_word}
 use Rattle.check_value.specs.Check.{value_of}
 use Rattle.check_value.specs.Frame.{passes}
-use Rattle.frame.specs.declared.Passed.TheVariants.{Frame}
 use Rattle.frame.specs.Frame.{station, function, start, second, byte_count, sent, passed_frame}
 use Rattle.frame.specs.Reply.{with_check}
 use Rattle.frame.proofs.Closing.{Closed, closing, closed_length, closed_checked, closed_bytes}
@@ -107,7 +107,7 @@ module _ (asked : Asked) where
 
     -- rule Q24: step 1 takes it apart as what was asked
     pub query_apart : passed_frame (query asked)
-        ≡ Frame
+        ≡ Some
         record {
           station = asked.station;
           function = function_of asked.order;
@@ -120,7 +120,7 @@ module _ (asked : Asked) where
     query_apart =
         simp query_passes
         (λ i.
-        Frame
+        Some
         record {
           station = query_station i;
           function = query_function i;

@@ -15,10 +15,10 @@ use Rattle.frame.specs.Frame.{station, function, start, second}
 use Rattle.frame.specs.Reply.{top_bit, top_bit_set, error_length, laid, small_buffer}
 use Rattle.controller_rules.specs.declared.Order.{Order}
 use Rattle.controller_rules.specs.declared.Order.TheVariants.{Read, Record, Write, Writes, Clear, Unknown}
-use Rattle.controller_rules.specs.declared.Reading.TheVariants.{Values, Done, Error}
 use Rattle.controller_rules.specs.Order.{Asked, function_of, address_of, second_of, word_count, no_frame}
 use Rattle.controller_rules.specs.Reading.{reply_outcome, is_error, code_in, most_code, error_fits, values_fit, done_length, done_fits, brings_values, body_fits, taken, read_with, reading_outcome}
 use Rattle.controller_rules.proofs.Outcomes.{Taken, taken_is}
+use Rattle.controller_rules.specs.declared.Reading.TheVariants.{Values, Done, Error}
 
 -- ---- a function, and the same with its top bit set
 

@@ -1,5 +1,5 @@
 -- The query of an order, and the whole outcome of building it: what is answered, and the buffer afterwards (rules Q20 to Q23). Assumes nothing.
-use Rattle.std.specs.Prelude.{ℕ, List, [], ◌∷◌, ◌++◌, length}
+use Rattle.std.specs.Prelude.{ℕ, List, [], ◌∷◌, ◌++◌, length, Ok, Err, Result}
 use Rattle.lists.specs.Cases.{Case, when, first_case, mapped}
 use Rattle.words.specs.Words.{word_bytes}
 use Rattle.refusals.specs.declared.Refusal.{Refusal}
@@ -8,8 +8,6 @@ use Rattle.refusals.specs.Answers.{refusal_number}
 use Rattle.frame.specs.Reply.{with_check, laid, small_buffer}
 use Rattle.controller_rules.specs.declared.Order.{Order}
 use Rattle.controller_rules.specs.declared.Order.TheVariants.{Read, Record, Write, Writes, Clear, Unknown}
-use Rattle.controller_rules.specs.declared.Built.{Built}
-use Rattle.controller_rules.specs.declared.Built.TheVariants.{Query, Refused}
 use Rattle.controller_rules.specs.Order.{Asked, function_of, address_of, second_of, no_frame}
 
 -- rule Q21, what stands behind the second word: of several writes their byte count and the values, else nothing
@@ -33,8 +31,12 @@ query asked =
 abbrev pub query_refusals : Asked → List ℕ → List (Case Refusal)
 query_refusals asked buffer = when (no_frame asked) NoFrame ∷ when (small_buffer buffer) SmallBuffer ∷ []
 
+-- refused, or how many bytes the query has
+abbrev pub Built : Type 0
+Built = Result ℕ Refusal
+
 unfoldable pub built_query : Asked → List ℕ → Built
-built_query asked buffer = first_case (mapped Refused (query_refusals asked buffer)) (Query (length (query asked)))
+built_query asked buffer = first_case (mapped Err (query_refusals asked buffer)) (Ok (length (query asked)))
 
 -- what is answered, and the buffer afterwards
 pub record QueryOutcome : Type 0 where
@@ -46,8 +48,8 @@ query_outcome built buffer = record { built = built; buffer = buffer }
 
 -- rules Q22 and Q23: the query is laid in the buffer; a refusal leaves it as it was
 abbrev pub built_with : Built → Asked → List ℕ → QueryOutcome
-built_with (Query length) asked buffer = query_outcome (Query length) (laid (query asked) buffer)
-built_with (Refused refusal) asked buffer = query_outcome (Refused refusal) buffer
+built_with (Ok length) asked buffer = query_outcome (Ok length) (laid (query asked) buffer)
+built_with (Err refusal) asked buffer = query_outcome (Err refusal) buffer
 
 unfoldable pub build_outcome : Asked → List ℕ → QueryOutcome
 build_outcome asked buffer = built_with (built_query asked buffer) asked buffer
@@ -56,10 +58,10 @@ build_outcome asked buffer = built_with (built_query asked buffer) asked buffer
 
 -- rules N0, N5 and N9
 abbrev pub built_number : Built → ℕ
-built_number (Query length) = 0
-built_number (Refused refusal) = refusal_number refusal
+built_number (Ok length) = 0
+built_number (Err refusal) = refusal_number refusal
 
 -- rule Q23: how many bytes the query has, 0 with a refusal
 abbrev pub built_length : Built → ℕ
-built_length (Query length) = length
-built_length (Refused refusal) = 0
+built_length (Ok length) = length
+built_length (Err refusal) = 0

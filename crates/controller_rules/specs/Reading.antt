@@ -1,5 +1,5 @@
 -- The reading of a reply against an order, and the whole outcome: what is answered, and the buffer afterwards (rules Q30 to Q42). Assumes nothing.
-use Rattle.std.specs.Prelude.{ℕ, ◌+◌, ◌*◌, Bool, not, cond, ◌&&◌, ◌||◌, List, [], ◌∷◌, eqb, length, take, drop}
+use Rattle.std.specs.Prelude.{ℕ, ◌+◌, ◌*◌, Bool, not, cond, ◌&&◌, ◌||◌, List, [], ◌∷◌, eqb, length, take, drop, Result, Err, Ok}
 use Rattle.lists.specs.Cases.{Case, when, first_case, mapped}
 use Rattle.lists.specs.Lists.{between}
 use Rattle.words.specs.Words.{byte_at}
@@ -10,9 +10,9 @@ use Rattle.refusals.specs.Answers.{refusal_number}
 use Rattle.frame.specs.Frame.{reads, station, function, start, second}
 use Rattle.frame.specs.Reply.{top_bit_set, error_length, laid, small_buffer}
 use Rattle.controller_rules.specs.declared.Order.{Order}
-use Rattle.controller_rules.specs.declared.Reading.{Reading}
-use Rattle.controller_rules.specs.declared.Reading.TheVariants.{Values, Done, Error, Refused}
 use Rattle.controller_rules.specs.Order.{Asked, function_of, address_of, second_of, word_count, no_frame}
+use Rattle.controller_rules.specs.declared.Reading.{Reading}
+use Rattle.controller_rules.specs.declared.Reading.TheVariants.{Values, Done, Error}
 
 -- rule Q30: a reply whose length or check step 1 does not take
 abbrev pub damaged_reply : List ℕ → Bool
@@ -78,23 +78,23 @@ abbrev pub taken : Order → List ℕ → Reading
 taken order reply =
     cond (is_error order reply) (Error (code_in reply)) (cond (brings_values order) (Values (2 * word_count order)) Done)
 
-unfoldable pub reading_of : Asked → List ℕ → List ℕ → Reading
-reading_of asked reply buffer = first_case (mapped Refused (reply_refusals asked reply buffer)) (taken asked.order reply)
+unfoldable pub reading_of : Asked → List ℕ → List ℕ → Result Reading Refusal
+reading_of asked reply buffer = first_case (mapped Err (reply_refusals asked reply buffer)) (Ok (taken asked.order reply))
 
 -- what is answered, and the buffer afterwards
 pub record ReplyOutcome : Type 0 where
-  pub reading : Reading
+  pub reading : Result Reading Refusal
   pub buffer : List ℕ
 
-abbrev pub reply_outcome : Reading → List ℕ → ReplyOutcome
+abbrev pub reply_outcome : Result Reading Refusal → List ℕ → ReplyOutcome
 reply_outcome reading buffer = record { reading = reading; buffer = buffer }
 
 -- rule Q42: values stand behind station, function and byte count, and are laid in the buffer; all else leaves it as it was
-abbrev pub read_with : Reading → List ℕ → List ℕ → ReplyOutcome
-read_with (Values length) reply buffer = reply_outcome (Values length) (laid (take length (drop 3 reply)) buffer)
-read_with Done reply buffer = reply_outcome Done buffer
-read_with (Error code) reply buffer = reply_outcome (Error code) buffer
-read_with (Refused refusal) reply buffer = reply_outcome (Refused refusal) buffer
+abbrev pub read_with : Result Reading Refusal → List ℕ → List ℕ → ReplyOutcome
+read_with (Ok (Values length)) reply buffer = reply_outcome (Ok (Values length)) (laid (take length (drop 3 reply)) buffer)
+read_with (Ok Done) reply buffer = reply_outcome (Ok Done) buffer
+read_with (Ok (Error code)) reply buffer = reply_outcome (Ok (Error code)) buffer
+read_with (Err refusal) reply buffer = reply_outcome (Err refusal) buffer
 
 unfoldable pub reading_outcome : Asked → List ℕ → List ℕ → ReplyOutcome
 reading_outcome asked reply buffer = read_with (reading_of asked reply buffer) reply buffer
@@ -102,21 +102,21 @@ reading_outcome asked reply buffer = read_with (reading_of asked reply buffer) r
 -- ---- the numbers
 
 -- rules N0, N5 and N9 to N13
-abbrev pub reading_number : Reading → ℕ
-reading_number (Values length) = 0
-reading_number Done = 0
-reading_number (Error code) = 0
-reading_number (Refused refusal) = refusal_number refusal
+abbrev pub reading_number : Result Reading Refusal → ℕ
+reading_number (Ok (Values length)) = 0
+reading_number (Ok Done) = 0
+reading_number (Ok (Error code)) = 0
+reading_number (Err refusal) = refusal_number refusal
 
 -- rule Q41: how many bytes the values have, and the code of the error; 0 where there is none
-abbrev pub reading_length : Reading → ℕ
-reading_length (Values length) = length
-reading_length Done = 0
-reading_length (Error code) = 0
-reading_length (Refused refusal) = 0
+abbrev pub reading_length : Result Reading Refusal → ℕ
+reading_length (Ok (Values length)) = length
+reading_length (Ok Done) = 0
+reading_length (Ok (Error code)) = 0
+reading_length (Err refusal) = 0
 
-abbrev pub reading_error : Reading → ℕ
-reading_error (Values length) = 0
-reading_error Done = 0
-reading_error (Error code) = code
-reading_error (Refused refusal) = 0
+abbrev pub reading_error : Result Reading Refusal → ℕ
+reading_error (Ok (Values length)) = 0
+reading_error (Ok Done) = 0
+reading_error (Ok (Error code)) = code
+reading_error (Err refusal) = 0

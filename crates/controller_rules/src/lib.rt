@@ -2,8 +2,6 @@
 // meter. Here are the types that they speak of; there is no code.
 #![tactic(auto)]
 
-use refusals::Refusal;
-
 // What a box asks of a meter, in the numbers that it hands over: rules Q1 and Q2. The values of several writes are lent beside it. An order of no
 // known kind has no frame: rule Q10.
 #[derive(Clone, Copy)]
@@ -16,18 +14,10 @@ pub enum Order {
     Unknown,
 }
 
-// What building the query of an order answers.
-#[derive(Clone, Copy)]
-pub enum Built {
-    Query { length: u32 },
-    Refused(Refusal),
-}
-
-// What reading a reply against an order answers. The length of values is in bytes.
+// What reading a reply against an order answers, where the reply is taken. The length of values is in bytes.
 #[derive(Clone, Copy)]
 pub enum Reading {
     Values { length: u32 },
     Done,
     Error { code: u8 },
-    Refused(Refusal),
 }

@@ -7,10 +7,10 @@ use mathlib.Core.Logic.{◌↔◌}
 use Prim.Native.Nat.{ℕ, ◌≤◌}
 use native.Mathlib.Omega.{arith}
 use lib.Dec.{eqb}
+use Rattle.std.specs.Prelude.{Ok, Err}
 use Rattle.lists.specs.Cases.{first_case, mapped, InOrder}
-use Rattle.refusals.specs.declared.Answer.{Answer}
-use Rattle.refusals.specs.declared.Answer.TheVariants.{Done, Refused}
 use Rattle.refusals.proofs.Numbers.{refusal_from_two}
+use Rattle.refusals.specs.Answers.{Answer, done}
 use Rattle.sheet_rules.specs.Rules.{sound}
 use Rattle.bank_rules.specs.Calls.{Lent}
 use Rattle.bank_rules.proofs.Changes.{Passed}
@@ -50,8 +50,8 @@ module _ (given : Lent) (frame : List ℕ) {told : Said} (call : Explains given 
   explained = go (lent_answer given) refl (explains_is call)
     where
       go : (answer : Answer) → lent_answer given ≡ answer → told ≡ said_of (explained_by answer (reason_of given frame)) → Explained
-      go Done e is = record { passed = (lent_passed given e).0; is = is }
-      go (Refused refusal) e is = absurd (omega (arith, refusal_from_two refusal, ap (λ (s : Said). s.number) is, taken))
+      go (Ok tt) e is = record { passed = (lent_passed given e).0; is = is }
+      go (Err refusal) e is = absurd (omega (arith, refusal_from_two refusal, ap (λ (s : Said). s.number) is, taken))
 
   sheet_bytes : Bytes given.sheet
   sheet_bytes = (explains_bytes call).0
@@ -148,7 +148,7 @@ module _ (given : Lent) (frame buffer : List ℕ) (accepted : Accepted given buf
   both p q = (λ a. q.0 (p.0 a), λ c. p.1 (q.1 c))
 
   -- what is accepted for an answer is for a reason too
-  done : lent_answer given ≡ Done
+  done : lent_answer given ≡ done
   unfolding lent_answer first_case
   done = simp (accepted.sheet_sound, accepted.bank_fits, accepted.bank_whole, accepted.ring_goes)
 

@@ -13,10 +13,9 @@ use Rattle.lists.proofs.Among.{Among, each_among, some_among}
 use Rattle.bank_rules.proofs.Inside.{number_among}
 use lib.Dec.{eqb}
 use borrow.Author.Tests.{eqb-true}
+use Rattle.std.specs.Prelude.{Ok, Err}
 use Rattle.lists.proofs.Cases.{told_among, differ}
-use Rattle.refusals.specs.declared.Answer.{Answer}
-use Rattle.refusals.specs.declared.Answer.TheVariants.{Done, Refused}
-use Rattle.refusals.specs.Answers.{refusal_number, answer_number}
+use Rattle.refusals.specs.Answers.{refusal_number, answer_number, Answer, done}
 use Rattle.refusals.proofs.Answers.{numbers_in_order}
 use Rattle.sheet_rules.specs.Rules.{broken_sheet, sheet_refusals}
 use Rattle.bank_rules.specs.Stores.{Store, stored}
@@ -137,10 +136,10 @@ module _ (given : Lent) (frame buffer : List ℕ) where
 
       go : (answer : Answer) → Among (answer_number answer) (2 ∷ 3 ∷ 4 ∷ 8 ∷ 5 ∷ 0 ∷ [])
           → Among (answered_number (unless_refused answer given buffer acted).answered) numbers
-      go Done m =
+      go done m =
           let few : answered_number acted.answered < 2 = omega (arith, acted_number) in
           listed (each_among (λ n. some (eqb n) numbers) (number_among 2 few) refl)
-      go (Refused refusal) m = listed (each_among (λ n. some (eqb n) numbers) m refl)
+      go (Err refusal) m = listed (each_among (λ n. some (eqb n) numbers) m refl)
 
   -- a number from 2 on is that of the refusal
   exactly : {condition : Type 0} (k : ℕ) → 2 ≤ k → (answer_number (frame_check given buffer) ≡ k) ↔ condition
@@ -150,11 +149,11 @@ module _ (given : Lent) (frame buffer : List ℕ) where
     where
       go : (answer : Answer) → (answer_number answer ≡ k) ↔ condition
           → (answered_number (unless_refused answer given buffer acted).answered ≡ k) ↔ condition
-      go Done told = (
+      go (Ok tt) told = (
         λ e. absurd (omega (arith, acted_number, e)),
         λ holds. absurd (let z : ◌≡◌ 0 k = told.1 holds in omega arith),
       )
-      go (Refused refusal) told = told
+      go (Err refusal) told = told
 
   nothing_written_lem : 2 ≤ answered_number result.answered → handed_of result ≡ handed (answered_number result.answered) 0 0 given.bank buffer
   nothing_written_lem =
@@ -193,8 +192,8 @@ why_refuses given frame call = subst (RefusesWhy given) (sym (explains_is call))
         → InOrder (answer_number answer) []
         (when (broken_sheet given.sheet) 2 ∷ when (misfitting_bank given) 3 ∷ when (unsound_bank given) 4 ∷ when (bad_ring given.sheet given.ring) 8 ∷ [])
         → RefusesWhy given (said_of (explained_by answer (reason_of given frame)))
-    go Done numbers = record { by_number = by_number_lem _ refl numbers; zeros = λ some. absurd (some refl) }
-    go (Refused refusal) numbers = record { by_number = by_number_lem _ refl numbers; zeros = λ some. refl }
+    go (Ok tt) numbers = record { by_number = by_number_lem _ refl numbers; zeros = λ some. absurd (some refl) }
+    go (Err refusal) numbers = record { by_number = by_number_lem _ refl numbers; zeros = λ some. refl }
 
 -- ---- the calls on a ring
 

@@ -16,10 +16,9 @@ use Rattle.lists.specs.Cases.{first_case}
 use Rattle.lists.specs.Lists.{each, some, up_from, same_places}
 use Rattle.lists.proofs.Among.{Among, here, there, among_left, among_right}
 use Rattle.sheet_rules.specs.declared.Area.{Area}
-use Rattle.sheet_rules.specs.declared.Lies.TheVariants.{At}
 use Rattle.sheet_rules.specs.Rows.{areas, items, record_area}
 use Rattle.sheet_rules.specs.Rules.{sound, header_sound, areas_sound, items_sound, settings_sound, records_sound, item_places, covered_places, places_follow, areas_ascend, lengths_sum}
-use Rattle.sheet_rules.specs.Lookup.{lies_in}
+use Rattle.sheet_rules.specs.Lookup.{lies_in, found_at}
 use Rattle.sheet_rules.proofs.Addresses.{lies_there}
 use Rattle.sheet_rules.proofs.Sound.{sound_areas}
 use Rattle.makers.specs.Maps.{Row, aswe_rows_in_front, aswe_rows_behind, bore40, presets, aswe40, preset, pair}
@@ -63,7 +62,7 @@ abbrev aswe_sheet : List ℕ
 aswe_sheet = sheet_of aswe40
 
 -- where each half lies
-half_lies : {at place : ℕ} → Half at place → lies_in (areas aswe_sheet) at ≡ At place 2
+half_lies : {at place : ℕ} → Half at place → lies_in (areas aswe_sheet) at ≡ found_at place 2
 unfolding lies_in sheet_of areas word_at
 half_lies second_upper = refl
 half_lies second_lower = refl
@@ -209,7 +208,7 @@ presets_written = refl
 abbrev preset_area : Area
 preset_area = record { first = 0x0118; last = 0x011E; place = 20; access = 2 }
 
-preset_lies : (k : ℕ) → k < 7 → lies_in (areas aswe_sheet) (0x0118 + k) ≡ At (20 + (0x0118 + k - 0x0118)) 2
+preset_lies : (k : ℕ) → k < 7 → lies_in (areas aswe_sheet) (0x0118 + k) ≡ found_at (20 + (0x0118 + k - 0x0118)) 2
 preset_lies k less =
     lies_there (0x0118 + k) (subst (Among preset_area) (sym (areas_printed_lem aswe_40)) (there (there (there here)))) (sound_areas aswe_sheet aswe_sound).ascend
     (omega arith) (omega (arith, less))

@@ -12,11 +12,11 @@ use Rattle.lists.specs.Cases.{first_case}
 use Rattle.words.specs.Words.{byte_at}
 use Rattle.frame.specs.Frame.{reads, station, function, start, second}
 use Rattle.frame.specs.Reply.{top_bit_set, laid}
-use Rattle.controller_rules.specs.declared.Reading.TheVariants.{Values}
 use Rattle.controller_rules.specs.Order.{Asked, function_of, address_of, second_of, word_count, no_frame}
 use Rattle.controller_rules.specs.Reading.{reply_outcome, is_error, brings_values, reading_of, reading_outcome}
 use Rattle.controller_rules.proofs.Outcomes.{Taken, reading_taken}
 use Rattle.controller_rules.proofs.Readings.{function_plain, marked_is, reads_error, reads_values, reads_done, Fits, an_error, its_values, its_done, taken_ours, taken_whole, taken_fits}
+use Rattle.controller_rules.specs.declared.Reading.TheVariants.{Values}
 use Rattle.cedarskein.specs.Door.{ReplyTold, reply_told, reply_told_of}
 use Rattle.demands.proofs.Calls.{Reads, reads_is}
 use Rattle.exchange.specs.Alike.{Alike}

@@ -8,10 +8,11 @@ use Prim.Native.Nat.{ℕ, ◌+◌, ◌*◌, ◌≤◌, ◌<◌}
 use native.Mathlib.Omega.{arith}
 use lib.Dec.{eqb}
 use lib.ListN.{length}
-use Rattle.sheet_rules.specs.declared.Lies.TheVariants.{At, Nowhere}
+use Rattle.std.specs.Prelude.{None}
 use Rattle.sheet_rules.specs.Rows.{record_area}
 use Rattle.sheet_rules.specs.Rules.{sound, in_records}
 use Rattle.sheet_rules.proofs.Records.{record_nowhere}
+use Rattle.sheet_rules.specs.Lookup.{found_at}
 use Rattle.bank_rules.specs.Calls.{Lent}
 use Rattle.bank_rules.specs.Bank.{bank_bytes, bank_sound}
 use Rattle.bank_rules.proofs.Stores.{stored_length}
@@ -132,7 +133,7 @@ module _ (given : Lent) (keeps : sound given.sheet ≡ true) (start count statio
 
       go : (inside : Bool) → in_records start (record_area given.sheet) ≡ inside → inside ≡ false
       go true e =
-          let here : At first.place first.access ≡ Nowhere = sym (plain_lies given.sheet keeps first.lies) ∙ record_nowhere given.sheet keeps start e in
+          let here : found_at first.place first.access ≡ None = sym (plain_lies given.sheet keeps first.lies) ∙ record_nowhere given.sheet keeps start e in
           absurd (let y : ◌≡◌ {A = ℕ} 0 1 = cc in omega arith)
       go false e = refl
 

@@ -4,33 +4,32 @@ use mathlib.Core.Bool.{Bool, true, false, cond}
 use mathlib.Core.List.{List}
 use Prim.Native.Nat.{ℕ}
 use native.Mathlib.Omega.{arith}
+use Rattle.std.specs.Prelude.{Option, Some, None}
 use Rattle.check_value.specs.Frame.{passes}
 use Rattle.frame.specs.declared.Parts.{Parts}
-use Rattle.frame.specs.declared.Passed.{Passed}
-use Rattle.frame.specs.declared.Passed.TheVariants.{Frame, Fails}
 use Rattle.frame.specs.Frame.{parts_of, passed_frame}
 
-module _ (frame : List ℕ) {answer : Passed} (is : answer ≡ passed_frame frame) where
-  pub passed_parts : {parts : Parts} → answer ≡ Frame parts → parts ≡ parts_of frame
+module _ (frame : List ℕ) {answer : (Option Parts)} (is : answer ≡ passed_frame frame) where
+  pub passed_parts : {parts : Parts} → answer ≡ Some parts → parts ≡ parts_of frame
   unfolding passed_frame
   passed_parts {parts} told = go (passes frame) (sym told ∙ is)
     where
-      go : (b : Bool) → Frame parts ≡ cond b (Frame (parts_of frame)) Fails → parts ≡ parts_of frame
+      go : (b : Bool) → Some parts ≡ cond b (Some (parts_of frame)) None → parts ≡ parts_of frame
       go true e = cc
       go false e = let z : ◌≡◌ {A = ℕ} 0 1 = cc in absurd (omega arith)
 
-  pub passed_true : {parts : Parts} → answer ≡ Frame parts → passes frame ≡ true
+  pub passed_true : {parts : Parts} → answer ≡ Some parts → passes frame ≡ true
   unfolding passed_frame
   passed_true {parts} told = go (passes frame) (sym told ∙ is)
     where
-      go : (b : Bool) → Frame parts ≡ cond b (Frame (parts_of frame)) Fails → b ≡ true
+      go : (b : Bool) → Some parts ≡ cond b (Some (parts_of frame)) None → b ≡ true
       go true e = refl
       go false e = let z : ◌≡◌ {A = ℕ} 0 1 = cc in absurd (omega arith)
 
-  pub passed_false : answer ≡ Fails → passes frame ≡ false
+  pub passed_false : answer ≡ None → passes frame ≡ false
   unfolding passed_frame
   passed_false told = go (passes frame) (sym told ∙ is)
     where
-      go : (b : Bool) → Fails ≡ cond b (Frame (parts_of frame)) Fails → b ≡ false
+      go : (b : Bool) → None ≡ cond b (Some (parts_of frame)) None → b ≡ false
       go true e = let z : ◌≡◌ {A = ℕ} 0 1 = cc in absurd (omega arith)
       go false e = refl

@@ -1,10 +1,8 @@
 -- The parts of a frame, and what its function makes of them. Total: a byte past the end is 0. Assumes nothing.
-use Rattle.std.specs.Prelude.{ℕ, ◌+◌, ◌*◌, Bool, cond, ◌||◌, List, eqb, length}
+use Rattle.std.specs.Prelude.{ℕ, ◌+◌, ◌*◌, Bool, cond, ◌||◌, List, eqb, length, Option, Some, None}
 use Rattle.words.specs.Words.{byte_at, word_at}
 use Rattle.check_value.specs.Frame.{passes}
 use Rattle.lists.specs.Lists.{up_from}
-use Rattle.frame.specs.declared.Passed.{Passed}
-use Rattle.frame.specs.declared.Passed.TheVariants.{Frame, Fails}
 use Rattle.frame.specs.declared.Parts.{Parts}
 
 -- rule J3: the functions
@@ -78,5 +76,5 @@ parts_of frame =
     }
 
 -- what step 1 answers: a frame that passes, taken apart, or that it fails
-unfoldable pub passed_frame : List ℕ → Passed
-passed_frame frame = cond (passes frame) (Frame (parts_of frame)) Fails
+unfoldable pub passed_frame : List ℕ → Option Parts
+passed_frame frame = cond (passes frame) (Some (parts_of frame)) None

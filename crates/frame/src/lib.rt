@@ -38,21 +38,14 @@ pub struct Parts {
     pub length: usize,
 }
 
-// What step 1 answers: a frame that passes, taken apart, or that it fails.
-#[derive(Clone, Copy)]
-pub enum Passed {
-    Frame(Parts),
-    Fails,
-}
-
-// Step 1: takes a frame that passes apart.
-pub fn taken_apart(frame: &[u8]) -> Passed
+// Step 1: takes a frame apart, where it passes.
+pub fn taken_apart(frame: &[u8]) -> Option<Parts>
     ensures { result ≡ passed_frame frame.now }
 {
     if !check_value::passes(frame) {
-        return Passed::Fails;
+        return None;
     }
-    Passed::Frame(Parts {
+    Some(Parts {
         station: words::byte_at(frame, 0),
         function: words::byte_at(frame, 1),
         start: words::word_at(frame, 2),

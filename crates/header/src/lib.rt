@@ -9,13 +9,6 @@ ghost use Rattle.header.specs.Checked.{checked_header};
 
 use sheet_rules::Header;
 
-// What the check of a header gives.
-#[derive(Clone, Copy)]
-pub enum Checked {
-    Sound(Header),
-    Broken,
-}
-
 // Whether a number lies between two others, or is one of them.
 fn between(low: u16, high: u16, n: u16) -> bool
     ensures { result ≡ between low high n }
@@ -45,14 +38,14 @@ fn header_sound(sheet: &[u8], header: Header) -> bool
 }
 
 // The header of a sheet, where it breaks no rule.
-pub fn check(sheet: &[u8]) -> Checked
+pub fn check(sheet: &[u8]) -> Option<Header>
     ensures { result ≡ checked_header sheet.now }
 {
     let header = rows::header(sheet);
     if !header_sound(sheet, header) {
-        return Checked::Broken;
+        return None;
     }
-    Checked::Sound(header)
+    Some(header)
 }
 
 // Rule S13: whether 05 is in the sum.

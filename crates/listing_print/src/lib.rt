@@ -5,7 +5,7 @@ ghost use Rattle.std.specs.Prelude.{◌≡◌};
 ghost use Rattle.sheet_rules.specs.Rules.{sheet_answer};
 
 use listing::Line;
-use refusals::Answer;
+use refusals::Refusal;
 use std::io::Stdout;
 
 // Bytes as they are. A write that fails is passed over: what is answered is what the check of the sheet did.
@@ -37,16 +37,16 @@ fn print_items(out: Stdout, sheet: &[u8]) {
 }
 
 // Prints the listing of a sheet, or that it is refused, and answers what its check did. No promise can say what is written.
-pub fn print(out: Stdout, sheet: &[u8]) -> Answer
+pub fn print(out: Stdout, sheet: &[u8]) -> Result<(), Refusal>
     ensures { result ≡ sheet_answer sheet.now }
 {
     let checked = sheet::check(sheet);
     match checked {
-        Answer::Done => {
+        Ok(()) => {
             print_line(out, listing::summary(sheet));
             print_items(out, sheet);
         }
-        Answer::Refused(_) => {
+        Err(_) => {
             print_bytes(out, b"sheet refused\n");
         }
     }

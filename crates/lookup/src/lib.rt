@@ -17,7 +17,7 @@ const WRITE_ONLY: u16 = 2;
 const READ_AND_WRITE: u16 = 3;
 
 // What lies at an address: a place of the bank with the access of its area, or nothing.
-pub fn lies_at(sheet: &[u8], address: u32) -> Lies
+pub fn lies_at(sheet: &[u8], address: u32) -> Option<Lies>
     ensures { result ≡ lies_in (areas sheet.now) address }
 {
     let count = rows::area_count(sheet);
@@ -25,23 +25,23 @@ pub fn lies_at(sheet: &[u8], address: u32) -> Lies
     while k < count {
         let area = rows::area_row(sheet, k);
         if one_row::in_area(address, area) {
-            return Lies::At {
+            return Some(Lies {
                 place: area.place as u32 + (address - area.first as u32),
                 access: area.access,
-            };
+            });
         }
         k += 1;
     }
-    Lies::Nowhere
+    None
 }
 
 // The place of what lies somewhere; 0 where nothing lies there.
-pub fn place_in(lies: Lies) -> u32
+pub fn place_in(lies: Option<Lies>) -> u32
     ensures { result ≡ place_in lies }
 {
     match lies {
-        Lies::At { place, access: _ } => place,
-        Lies::Nowhere => 0,
+        Some(lies) => lies.place,
+        None => 0,
     }
 }
 

@@ -5,16 +5,16 @@ use mathlib.Core.Path.{◌≡◌, refl, ap}
 use mathlib.Core.Bool.{Bool, true}
 use mathlib.Core.List.{List, [], ◌∷◌}
 use lib.ListN.{length}
+use Rattle.std.specs.Prelude.{Option, None, Some}
 use Rattle.range.specs.Range.{in_range}
 use Rattle.words.specs.Words.{word_at}
 use Rattle.sheet_rules.specs.declared.Area.{Area}
 use Rattle.sheet_rules.specs.declared.Item.{Item}
-use Rattle.sheet_rules.specs.declared.Lies.{Lies}
-use Rattle.sheet_rules.specs.declared.Lies.TheVariants.{At, Nowhere}
 use Rattle.sheet_rules.specs.Rows.{version, area_count, item_count, bank_words, functions, clear_address, address_place, rate_place, areas, items}
 use Rattle.sheet_rules.specs.Rules.{sound, header_sound, areas_sound, items_sound, settings_sound, records_sound, item_places, covered_places, places_follow, areas_ascend, lengths_sum}
 use Rattle.lists.specs.Lists.{each, some, up_from, same_places}
-use Rattle.sheet_rules.specs.Lookup.{address_of, lies_in}
+use Rattle.sheet_rules.specs.Lookup.{address_of, lies_in, found_at}
+use Rattle.sheet_rules.specs.declared.Lies.{Lies}
 use Rattle.makers.specs.Maps.{Row, Map, plain, pair, preset, ux, aswe, aswe40, bore50, bore80}
 use Rattle.makers.specs.Sheets.{Run, runs_of, areas_of, items_of, item_words, sheet_of}
 
@@ -41,9 +41,9 @@ counts_of aswe_50 = record { areas = 5; items = 22; bank = 38 }
 counts_of aswe_80 = record { areas = 5; items = 22; bank = 38 }
 
 -- the access of what lies somewhere; 0, which is none, where nothing does
-abbrev pub access_in : Lies → ℕ
-access_in (At place access) = access
-access_in Nowhere = 0
+abbrev pub access_in : Option Lies → ℕ
+access_in (Some lies) = lies.access
+access_in None = 0
 
 -- an item as a row of a map: by the address of its place, with the access there
 abbrev pub row_of : List Area → Item → Row

@@ -10,6 +10,7 @@ use borrow.Author.Rules.{rules}
 use borrow.Author.Tests.{eq-eqb, ne_eqb}
 use denote.Enum.Declared.{tag_of}
 use types.Run.{OneOf, miss}
+use Rattle.std.specs.Prelude.{Result}
 use Rattle.lists.specs.Lists.{up_from}
 use Rattle.range.specs.declared.Side.{Side}
 use Rattle.bank_rules.specs.Stores.{stored}
@@ -17,8 +18,6 @@ use Rattle.bank_rules.specs.Bank.{rate_of}
 use Rattle.bank_rules.specs.Calls.{Lent}
 use Rattle.frame.proofs.Reading.{write_echo, check_length}
 use Rattle.frame.specs.Reply.{echo, error_reply, with_check, laid, has_room, Filled, fill, lay_reply}
-use Rattle.meter_rules.specs.declared.Answered.{Answered}
-use Rattle.meter_rules.specs.declared.Answered.TheVariants.{Reply, Error, Silence}
 use Rattle.meter_rules.specs.declared.Judged.{Judged}
 use Rattle.meter_rules.specs.declared.Judged.TheVariants.{FailsCheck, OtherStation, FunctionNotAllowed, WrongLength, WrongCount, WrongAddress, WrongValue, BadItem, GoodRead, GoodRecord, GoodClear, GoodWrite}
 use Rattle.meter_rules.specs.contracts.Judged.{the_type}
@@ -27,6 +26,9 @@ use Rattle.meter_rules.specs.Reply.{error_code, good_reply, reply_to, stores_of}
 use Rattle.meter_rules.specs.Answer.{outcome, answered_by, acted_on}
 use Rattle.meter.specs.Acting.{replied}
 use Rattle.meter_rules.proofs.Outcomes.{quiet, quiet_stores, good_reply_lem, error_reply_lem}
+use Rattle.meter_rules.specs.declared.Answered.{Answered}
+use Rattle.meter_rules.specs.declared.Answered.TheVariants.{Reply, Error, Silence}
+use Rattle.refusals.specs.declared.Refusal.{Refusal}
 
 -- ---- the reply that is laid
 
@@ -42,11 +44,11 @@ module _ (judged : Judged) (bank ring frame buffer : List ℕ) (rate : ℕ) (roo
       let whole : fill n after ≡ fill (length reply) (laid reply buffer) = simp room at there in
       (ap (λ (f : Filled). f.length) whole, ap (λ (f : Filled). f.buffer) whole)
 
-  answers : {answered : Answered} {reply : List ℕ} → reply_to judged bank ring frame ≡ reply → fill n after ≡ lay_reply reply buffer
+  answers : {answered : (Result Answered Refusal)} {reply : List ℕ} → reply_to judged bank ring frame ≡ reply → fill n after ≡ lay_reply reply buffer
       → answered ≡ answered_by code (length reply) rate → outcome answered bank after ≡ replied judged rate bank ring frame buffer
   unfolding replied
   answers {answered} {reply} is made told =
-      ap₂ (λ (a : Answered) (b : List ℕ). outcome a bank b)
+      ap₂ (λ (a : Result Answered Refusal) (b : List ℕ). outcome a bank b)
       (told ∙ ap₂ (λ (k : ℕ) (l : List ℕ). answered_by k (length l) rate) coded (sym is)) (lies is made).1
 
   pub answers_error : (code ≡ 0 → ⊥) → fill n after ≡ lay_reply (with_check (error_reply frame code)) buffer
@@ -204,7 +206,7 @@ module _ (judged : Judged) (given : Lent) (frame buffer : List ℕ) {made : List
   pub room_same : has_room (reply_to judged given.bank given.ring frame) buffer ≡ true → has_room (reply_to judged made given.ring frame) buffer ≡ true
   room_same room = ap (λ (reply : List ℕ). has_room reply buffer) reply_same ∙ room
 
-  pub acts : {answered : Answered} {after : List ℕ} {rate : ℕ} → rate ≡ rate_of given.sheet given.bank
+  pub acts : {answered : (Result Answered Refusal)} {after : List ℕ} {rate : ℕ} → rate ≡ rate_of given.sheet given.bank
       → outcome answered made after ≡ replied judged rate made given.ring frame buffer → outcome answered made after ≡ acted_on judged given frame buffer
   unfolding acted_on replied
   acts {answered} {after} {rate} rated answers =

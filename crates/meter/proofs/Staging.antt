@@ -7,6 +7,7 @@ use Prim.Native.Nat.{ℕ, ◌+◌, ◌-◌, ◌*◌, ◌%◌, ◌≤◌, ◌<◌
 use native.Mathlib.Omega.{arith}
 use lib.Dec.{ltb, eqb}
 use borrow.Author.Tests.{ne_eqb, not-false, lt-ltb, le-ltb}
+use Rattle.std.specs.Prelude.{Option, Some, None}
 use Rattle.lists.specs.Lists.{up_from}
 use Rattle.lists.specs.Cases.{when}
 use Rattle.sheet_rules.specs.declared.RecordArea.{RecordArea}
@@ -18,8 +19,6 @@ use Rattle.ring_rules.specs.Ring.{newest_place, stored_count, place_of, record_s
 use Rattle.bank_rules.specs.Bank.{station_of}
 use Rattle.bank_rules.specs.Calls.{Lent}
 use Rattle.frame.specs.declared.Parts.{Parts}
-use Rattle.frame.specs.declared.Passed.{Passed}
-use Rattle.frame.specs.declared.Passed.TheVariants.{Frame, Fails}
 use Rattle.frame.proofs.Passing.{passed_parts, passed_true, passed_false}
 use Rattle.frame.specs.Frame.{reads, clears, writes_one, writes_many, function, start, second, is_write, count, most_read, parts_of, passed_frame}
 use Rattle.meter_rules.specs.declared.Judged.{Judged}
@@ -167,11 +166,11 @@ module _ (given : Lent) (frame : List ℕ) {passed : Parts} (apart : passed ≡ 
 
 -- ---- steps 1 to 3, from what each stage answers
 
-module _ (given : Lent) (frame : List ℕ) {first : Passed} (is : first ≡ passed_frame frame) where
-  pub fails_first : first ≡ Fails → FailsCheck ≡ judged_frame given frame
+module _ (given : Lent) (frame : List ℕ) {first : (Option Parts)} (is : first ≡ passed_frame frame) where
+  pub fails_first : first ≡ None → FailsCheck ≡ judged_frame given frame
   fails_first told = stops_check given frame (ap not (passed_false frame is told))
 
-  module _ {passed : Parts} (told : first ≡ Frame passed) {next : Addressed} (is-next : next ≡ addressed_to given.sheet given.bank passed) where
+  module _ {passed : Parts} (told : first ≡ Some passed) {next : Addressed} (is-next : next ≡ addressed_to given.sheet given.bank passed) where
     passing : fails_check frame ≡ false
     passing = ap not (passed_true frame is told)
 

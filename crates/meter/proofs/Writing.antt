@@ -4,6 +4,7 @@ use Prim.Native.Nat.{ℕ}
 use mathlib.Core.Path.{◌≡◌, refl, ◌∙◌, sym, ap, ap₂}
 use mathlib.Core.Bool.{Bool, true, false, not, cond, ◌&&◌, true≢false}
 use mathlib.Core.List.{List}
+use Rattle.std.specs.Prelude.{Option, None}
 use Rattle.range.specs.declared.Side.{Side}
 use Rattle.range.specs.declared.Side.TheVariants.{InRange}
 use Rattle.range.specs.Range.{inside}
@@ -18,15 +19,14 @@ use Rattle.meter_rules.specs.declared.Judged.TheVariants.{WrongAddress, BadItem,
 use Rattle.sheet_rules.specs.declared.Purpose.TheVariants.{Write}
 use Rattle.frame.specs.Frame.{parts_of, many_of, is_write, count}
 use Rattle.sheet_rules.specs.Runs.{all_open}
-use Rattle.meter_rules.specs.declared.Stop.{Stop}
-use Rattle.meter_rules.specs.declared.Stop.TheVariants.{StopsAt, NoBadItem}
-use Rattle.meter_rules.specs.Write.{first_place, would_be, touched, bad_item, stop_in, stop_of, place_of_stop, side_of_stop, stop_place, stop_side}
+use Rattle.meter_rules.specs.Write.{first_place, would_be, touched, bad_item, stop_in, stop_of, place_of_stop, side_of_stop, stop_place, stop_side, stops_with}
 use Rattle.meter_rules.specs.Steps.{wrong_address}
 use Rattle.meter.specs.Stages.{judged_from, side_left}
 use Rattle.meter.proofs.Staging.{stops_address, stops_item, good_write}
 use Rattle.meter_rules.proofs.Order.{write_address, write_value, write_bad}
 use Rattle.meter_rules.proofs.Stopping as stopping
 use Rattle.meter_rules.proofs.Soundness.{some_stops}
+use Rattle.meter_rules.specs.declared.Stop.{Stop}
 
 -- ---- an item, by the side at which a write would leave it
 
@@ -70,7 +70,7 @@ module _ (given : Lent) (frame : List ℕ) (write : is_write frame ≡ true) (pa
   write_shut_lem shut = stops_address given frame (address_is ∙ ap not shut)
 
   module _ (all : all_open Write given.sheet (up_from parts.start many) ≡ true) {first : ℕ} (places : first ≡ place_in (lies_in (areas given.sheet) parts.start))
-      {stop : Stop} (stops : stop ≡ stop_in first many given.bank frame (items given.sheet)) where
+      {stop : (Option Stop)} (stops : stop ≡ stop_in first many given.bank frame (items given.sheet)) where
     placed : first ≡ first_place given.sheet frame
     placed = places ∙ ap (λ (p : Parts). place_in (lies_in (areas given.sheet) p.start)) apart
 
@@ -79,17 +79,17 @@ module _ (given : Lent) (frame : List ℕ) (write : is_write frame ≡ true) (pa
     stopped = stops ∙ ap₂ (λ (first many : ℕ). stop_in first many given.bank frame (items given.sheet)) placed counted
 
     -- the write stops
-    pub write_stopped : {place : ℕ} {side : Side} → stop ≡ StopsAt place side → BadItem first place side ≡ judged_from 5 given frame
+    pub write_stopped : {place : ℕ} {side : Side} → stop ≡ stops_with place side → BadItem first place side ≡ judged_from 5 given frame
     unfolding stop_place stop_side
     write_stopped {place} {side} at =
-        let found : stop_of given frame ≡ StopsAt place side = sym stopped ∙ at in
+        let found : stop_of given frame ≡ stops_with place side = sym stopped ∙ at in
         ap (λ (n : ℕ). BadItem n place side) placed
-        ∙ sym (ap (λ (s : Stop). BadItem (first_place given.sheet frame) (place_of_stop s) (side_of_stop s)) found)
+        ∙ sym (ap (λ (s : Option Stop). BadItem (first_place given.sheet frame) (place_of_stop s) (side_of_stop s)) found)
         ∙ stops_item given frame (address_is ∙ ap not all) (write_value frame write)
         (write_bad frame write given ∙ sym (some_stops given frame) ∙ ap stopping.stops found)
 
     -- it does not
-    pub write_good : stop ≡ NoBadItem → GoodWrite first many ≡ judged_from 5 given frame
+    pub write_good : stop ≡ None → GoodWrite first many ≡ judged_from 5 given frame
     write_good none =
         ap₂ GoodWrite placed counted
         ∙ good_write given frame write (address_is ∙ ap not all) (sym (some_stops given frame) ∙ ap stopping.stops (sym stopped ∙ none))

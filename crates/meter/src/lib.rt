@@ -10,32 +10,26 @@ mod replies;
 mod stages;
 mod values;
 
-use meter_rules::{Answered, Judgement};
-use refusals::{Answer, Refusal};
+use meter_rules::{Answered, Judged};
+use refusals::Refusal;
 
 // The refusals of every call with a frame, 2, 3, 4 and 8 in this order: those of the bank's check, and a ring that does not go with the sheet.
-fn check(sheet: &[u8], bank: &[u8], ring: &[u8]) -> Answer
+fn check(sheet: &[u8], bank: &[u8], ring: &[u8]) -> Result<(), Refusal>
     ensures { result ≡ lent_answer (lent_with sheet.now bank.now ring.now) }
 {
-    let checked = bank::check(sheet, bank);
-    let Answer::Done = checked else {
-        return checked;
-    };
+    bank::check(sheet, bank)?;
     if !ring::fits(sheet, ring) {
-        return Answer::Refused(Refusal::BadRing);
+        return Err(Refusal::BadRing);
     }
-    Answer::Done
+    Ok(())
 }
 
 // Judges one frame and does nothing: the refusals 2, 3, 4 and 8 in this order, then where the frame stops.
-pub fn judge(sheet: &[u8], bank: &[u8], ring: &[u8], frame: &[u8]) -> Judgement
+pub fn judge(sheet: &[u8], bank: &[u8], ring: &[u8], frame: &[u8]) -> Result<Judged, Refusal>
     ensures { result ≡ judgement (lent_with sheet.now bank.now ring.now) frame.now }
 {
-    match check(sheet, bank, ring) {
-        Answer::Done => {}
-        Answer::Refused(refusal) => return Judgement::Refused(refusal),
-    }
-    Judgement::Stops(stages::judged_frame(sheet, bank, ring, frame))
+    check(sheet, bank, ring)?;
+    Ok(stages::judged_frame(sheet, bank, ring, frame))
 }
 
 // Answers one frame: the refusals 2, 3, 4, 8 and 5 in this order, then silence or a reply.
@@ -45,16 +39,13 @@ pub fn answer(
     ring: &[u8],
     frame: &[u8],
     buffer: &mut [u8],
-) -> Answered
+) -> Result<Answered, Refusal>
     ensures { outcome result bank.new buffer.new ≡ answer_outcome (lent_with sheet.now bank.old ring.now) frame.now buffer.old }
 {
-    match check(sheet, bank, ring) {
-        Answer::Done => {}
-        Answer::Refused(refusal) => return Answered::Refused(refusal),
-    }
+    check(sheet, bank, ring)?;
     if buffer.len() < frame::LEAST_BUFFER {
-        return Answered::Refused(Refusal::SmallBuffer);
+        return Err(Refusal::SmallBuffer);
     }
     let judged = stages::judged_frame(sheet, bank, ring, frame);
-    replies::acted(judged, sheet, bank, ring, frame, buffer)
+    Ok(replies::acted(judged, sheet, bank, ring, frame, buffer))
 }

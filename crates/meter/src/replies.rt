@@ -1,5 +1,5 @@
 // What becomes of a judged frame: its error code, its reply in the answer buffer, and its stores.
-ghost use Rattle.std.specs.Prelude.{◌≡◌, ◌-◌, true};
+ghost use Rattle.std.specs.Prelude.{◌≡◌, ◌-◌, true, Ok};
 ghost use Rattle.bank_rules.specs.Stores.{stored};
 ghost use Rattle.bank_rules.specs.Calls.{lent_with};
 ghost use Rattle.frame.specs.Reply.{has_room};
@@ -44,7 +44,7 @@ fn lay_reply(
     buffer: &mut [u8],
 ) -> Answered
     requires { has_room (reply_to judged bank.now ring.now frame.now) buffer.old ≡ true }
-    ensures { outcome result bank.now buffer.new ≡ replied judged rate bank.now ring.now frame.now buffer.old }
+    ensures { outcome (Ok result) bank.now buffer.new ≡ replied judged rate bank.now ring.now frame.now buffer.old }
 {
     let code = error_code(judged);
     if code != 0 {
@@ -108,7 +108,7 @@ pub(crate) fn acted(
     buffer: &mut [u8],
 ) -> Answered
     requires { has_room (reply_to judged bank.old ring.now frame.now) buffer.old ≡ true }
-    ensures { outcome result bank.new buffer.new ≡ acted_on judged (lent_with sheet.now bank.old ring.now) frame.now buffer.old }
+    ensures { outcome (Ok result) bank.new buffer.new ≡ acted_on judged (lent_with sheet.now bank.old ring.now) frame.now buffer.old }
 {
     let rate = words::word_at(bank, 2 * (rows::rate_place(sheet) as usize));
     make_stores(judged, sheet, bank, frame);

@@ -8,8 +8,8 @@ ghost use Rattle.meter_rules.specs.Steps.{code_allowed, judged_frame};
 
 use crate::values;
 use crate::values::Write;
-use frame::{Parts, Passed};
-use meter_rules::{Judged, Stop};
+use frame::Parts;
+use meter_rules::Judged;
 use sheet_rules::{Purpose, RecordArea};
 
 // The bits that allow the functions 03, 05, 06 and 10, of whose sum the sheet has one word.
@@ -21,22 +21,15 @@ const BIT_OF_06: u16 = 4;
 
 const BIT_OF_10: u16 = 8;
 
-// What step 2 answers: a frame for the bank's station, taken apart, or that it is for another.
-#[derive(Clone, Copy)]
-pub enum Addressed {
-    Here(Parts),
-    Elsewhere,
-}
-
-// Step 2: the station byte is the bank's address.
-fn for_station(sheet: &[u8], bank: &[u8], parts: Parts) -> Addressed
+// Step 2: the station byte is the bank's address. Hands the parts on, where the frame is for the bank's station.
+fn for_station(sheet: &[u8], bank: &[u8], parts: Parts) -> Option<Parts>
     ensures { result ≡ addressed_to sheet.now bank.now parts }
 {
     let address = words::word_at(bank, 2 * (rows::address_place(sheet) as usize));
     if parts.station as u16 != address {
-        return Addressed::Elsewhere;
+        return None;
     }
-    Addressed::Here(parts)
+    Some(parts)
 }
 
 // Whether a function is one of the four and the sheet allows it.
@@ -64,10 +57,10 @@ pub(crate) fn judged_frame(sheet: &[u8], bank: &[u8], ring: &[u8], frame: &[u8])
     requires { sound sheet.now ≡ true }
     ensures { result ≡ judged_frame (lent_with sheet.now bank.now ring.now) frame.now }
 {
-    let Passed::Frame(passed) = frame::taken_apart(frame) else {
+    let Some(passed) = frame::taken_apart(frame) else {
         return Judged::FailsCheck;
     };
-    let Addressed::Here(parts) = for_station(sheet, bank, passed) else {
+    let Some(parts) = for_station(sheet, bank, passed) else {
         return Judged::OtherStation;
     };
     if !function_allowed(sheet, parts.function) {
@@ -227,12 +220,12 @@ fn judged_write(sheet: &[u8], bank: &[u8], ring: &[u8], frame: &[u8], parts: Par
         many: many as u32,
     };
     match values::stop_of(sheet, bank, frame, write) {
-        Stop::StopsAt { place, side } => Judged::BadItem {
+        Some(stop) => Judged::BadItem {
             first: write.first,
-            stop: place,
-            side,
+            stop: stop.place,
+            side: stop.side,
         },
-        Stop::NoBadItem => Judged::GoodWrite {
+        None => Judged::GoodWrite {
             first: write.first,
             many: write.many,
         },

@@ -120,7 +120,7 @@ fn first_near(sheet: &[u8], place: u32) -> u16
 }
 
 // Where a write stops: at the first bad item, or that there is none. Items ascend, so those that end in front of the run, or begin behind it, are passed over.
-pub(crate) fn stop_of(sheet: &[u8], bank: &[u8], frame: &[u8], write: Write) -> Stop
+pub(crate) fn stop_of(sheet: &[u8], bank: &[u8], frame: &[u8], write: Write) -> Option<Stop>
     requires sheet_value { sound sheet.now ≡ true }
     requires values_value { write.values ≡ values_at frame.now }
     requires many_bound { write.first + write.many < 0x100000000 }
@@ -132,18 +132,18 @@ pub(crate) fn stop_of(sheet: &[u8], bank: &[u8], frame: &[u8], write: Write) -> 
     while rows::item_end(areas, k) <= sheet.len() {
         let item = rows::item_row(sheet, areas, k);
         if end <= item.place as u32 {
-            return Stop::NoBadItem;
+            return None;
         }
         let side = side_left(bank, frame, write, item);
         if !range::inside(side) {
-            return Stop::StopsAt {
+            return Some(Stop {
                 place: item.place as u32,
                 side,
-            };
+            });
         }
         k += 1;
     }
-    Stop::NoBadItem
+    None
 }
 
 // Stores so many of the words sent, from a first place on.

@@ -6,6 +6,7 @@ use mathlib.Core.List.{List, [], ◌∷◌, ◌++◌}
 use Prim.Native.Nat.{ℕ}
 use lib.Dec.{eqb}
 use lib.ListN.{length, drop, replicate}
+use Rattle.std.specs.Prelude.{Ok}
 use Rattle.words.specs.Words.{word_at, with_word, bytes_of}
 use Rattle.words.specs.Changes.{Change, at, changed}
 use Rattle.check_value.specs.Check.{value_of}
@@ -20,7 +21,6 @@ use Rattle.makers.specs.Maps.{ux, aswe40}
 use Rattle.makers.specs.Sheets.{sheet_of}
 use Rattle.bank_rules.specs.Stores.{stored}
 use Rattle.bank_rules.specs.Bank.{bank_sound, good_by, low_stores, fresh_stores}
-use Rattle.refusals.specs.declared.Answer.TheVariants.{Done}
 use Rattle.bank_rules.specs.Calls.{bank_outcome, fresh_answer, fresh_outcome, lent}
 use Rattle.lists.specs.Cases.{first_case}
 use Rattle.sheet_rules.specs.Runs.{all_open}
@@ -29,6 +29,7 @@ use Rattle.meter_rules.specs.Steps.{judged_frame}
 use Rattle.meter_rules.specs.Reply.{reply_to, stores_of}
 use Rattle.frame.specs.Reply.{with_check}
 use Rattle.meter_rules.specs.Answer.{Outcome, answered_number, length_in, rate_in, frame_check, acted_on, answer_outcome}
+use Rattle.refusals.specs.Answers.{done}
 
 -- ---- the two meters of the table
 
@@ -55,11 +56,11 @@ aswe_meter =
     }
 
 -- the fresh words are what the call for a fresh bank makes of that many bytes, here of FF
-pub ux_fresh_made : fresh_outcome (lent ux_meter.sheet (replicate 70 0xFF)) ≡ bank_outcome Done (bytes_of ux_meter.fresh)
+pub ux_fresh_made : fresh_outcome (lent ux_meter.sheet (replicate 70 0xFF)) ≡ bank_outcome done (bytes_of ux_meter.fresh)
 unfolding bytes_of fresh_outcome fresh_answer fresh_stores low_stores stored first_case sound header_sound areas_sound items_sound settings_sound records_sound each some up_from same_places item_places covered_places places_follow areas_ascend lengths_sum areas items word_at with_word in_range sheet_of
 ux_fresh_made = refl
 
-pub aswe_fresh_made : fresh_outcome (lent aswe_meter.sheet (replicate 92 0xFF)) ≡ bank_outcome Done (bytes_of aswe_meter.fresh)
+pub aswe_fresh_made : fresh_outcome (lent aswe_meter.sheet (replicate 92 0xFF)) ≡ bank_outcome done (bytes_of aswe_meter.fresh)
 unfolding bytes_of fresh_outcome fresh_answer fresh_stores low_stores stored first_case sound header_sound areas_sound items_sound settings_sound records_sound each some up_from same_places item_places covered_places places_follow areas_ascend lengths_sum areas items word_at with_word in_range sheet_of
 aswe_fresh_made = refl
 

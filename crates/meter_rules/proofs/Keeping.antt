@@ -7,6 +7,7 @@ use Prim.Native.Nat.{ℕ, zero, suc, ◌+◌, ◌-◌, ◌≤◌, ◌<◌}
 use native.Mathlib.Omega.{arith}
 use lib.Dec.{leb, ltb, eqb}
 use borrow.Author.Tests.{lt-ltb, leb-true, ltb-true, ltb-false, eqb-true, not-false}
+use Rattle.std.specs.Prelude.{None}
 use Rattle.sheet_rules.specs.declared.Item.{Item}
 use Rattle.lists.specs.Lists.{rows}
 use Rattle.sheet_rules.specs.Rows.{items, item_at, item_count, bank_words}
@@ -26,7 +27,6 @@ use Rattle.sheet_rules.specs.declared.Purpose.TheVariants.{Write}
 use Rattle.frame.specs.Frame.{start, count, run, sent}
 use Rattle.sheet_rules.specs.Runs.{all_open}
 use Rattle.meter_rules.specs.Write.{first_place, in_run, would_be, touched, bad_item, stop_in, stop_of, run_stores}
-use Rattle.meter_rules.specs.declared.Stop.TheVariants.{NoBadItem}
 use Rattle.meter_rules.proofs.Judging.{run_above}
 use Rattle.meter_rules.proofs.Stopping.{run_below, stores_to, stops_at, stop_bound}
 use Rattle.meter_rules.proofs.Written.{run_inside, run_store_lem, words_written}
@@ -96,16 +96,16 @@ module _ (first many : ℕ) where
     -- ---- the stop
 
     -- there is none, or it is at a bad item, with the side of the value that this item would have
-    pub stop_at : (l : List Item) → (stop_in first many bank frame l ≡ NoBadItem)
+    pub stop_at : (l : List Item) → (stop_in first many bank frame l ≡ None)
         ⊎ ((item : Item) × Among item l × (bad_item first many bank frame item ≡ true) × (stops_at first many bank frame item ≡ stop_in first many bank frame l))
     unfolding stop_in
     stop_at [] = inl refl
     stop_at (item ∷ behind) = go (bad_item first many bank frame item) refl (stop_at behind)
       where
-        go : (bad : Bool) → bad_item first many bank frame item ≡ bad → (stop_in first many bank frame behind ≡ NoBadItem)
+        go : (bad : Bool) → bad_item first many bank frame item ≡ bad → (stop_in first many bank frame behind ≡ None)
             ⊎ ((other : Item) × Among other behind × (bad_item first many bank frame other ≡ true)
             × (stops_at first many bank frame other ≡ stop_in first many bank frame behind))
-            → (cond bad (stops_at first many bank frame item) (stop_in first many bank frame behind) ≡ NoBadItem)
+            → (cond bad (stops_at first many bank frame item) (stop_in first many bank frame behind) ≡ None)
             ⊎ ((other : Item) × Among other (item ∷ behind) × (bad_item first many bank frame other ≡ true)
             × (stops_at first many bank frame other ≡ cond bad (stops_at first many bank frame item) (stop_in first many bank frame behind)))
         go true says rest = inr (item, here, says, refl)
@@ -212,7 +212,7 @@ module _ (given : Lent) (frame : List ℕ) (passed : Passed given) (all : all_op
   unfolding stop_of
   front_places {item} m less place held = go (stop_at first (count frame) given.bank frame (items given.sheet))
     where
-      go : (stop_of given frame ≡ NoBadItem)
+      go : (stop_of given frame ≡ None)
           ⊎ ((other : Item) × Among other (items given.sheet) × (bad_item first (count frame) given.bank frame other ≡ true)
           × (stops_at first (count frame) given.bank frame other ≡ stop_of given frame))
           → (stop ≡ first + count frame) ⊎ (place < stop)

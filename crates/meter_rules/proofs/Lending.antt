@@ -4,14 +4,13 @@ use mathlib.Core.Bool.{true, false, not}
 use mathlib.Core.List.{List, [], ◌∷◌}
 use Prim.Native.Nat.{ℕ}
 use borrow.Author.Tests.{not-false}
+use Rattle.std.specs.Prelude.{Ok, Err}
 use Rattle.lists.specs.Cases.{Case, when, first_case, InOrder}
 use Rattle.lists.proofs.Cases.{differ}
 use Rattle.refusals.specs.declared.Refusal.{Refusal}
 use Rattle.refusals.specs.declared.Refusal.TheVariants.{BadRing}
-use Rattle.refusals.specs.declared.Answer.{Answer}
-use Rattle.refusals.specs.declared.Answer.TheVariants.{Done, Refused}
 use Rattle.refusals.proofs.Answers.{front_refuses, front_passes, refused_here, passed_here, done_none, numbers_in_order}
-use Rattle.refusals.specs.Answers.{answer_number}
+use Rattle.refusals.specs.Answers.{answer_number, Answer, done}
 use Rattle.sheet_rules.specs.Rules.{broken_sheet}
 use Rattle.bank_rules.specs.Calls.{Lent, lent, lent_with, misfitting_bank, unsound_bank, check_refusals, check_answer}
 use Rattle.bank_rules.proofs.Changes.{Passed, passed}
@@ -26,20 +25,20 @@ module _ (sheet bank ring : List ℕ) {checked : Answer} (is : checked ≡ check
   abbrev misfits : Case Refusal
   misfits = when (bad_ring sheet ring) BadRing
 
-  pub lent_refused : {refusal : Refusal} → checked ≡ Refused refusal → Refused refusal ≡ lent_answer given
+  pub lent_refused : {refusal : Refusal} → checked ≡ Err refusal → Err refusal ≡ lent_answer given
   unfolding lent_answer check_answer
   lent_refused told = sym (front_refuses (check_refusals given) (misfits ∷ []) is told)
 
-  pub lent_misfits : checked ≡ Done → ring_fits sheet ring ≡ false → Refused BadRing ≡ lent_answer given
+  pub lent_misfits : checked ≡ done → ring_fits sheet ring ≡ false → Err BadRing ≡ lent_answer given
   unfolding lent_answer check_answer
   lent_misfits told bad = sym (front_passes (check_refusals given) (misfits ∷ []) is told ∙ refused_here misfits [] (ap not bad))
 
-  pub lent_done : checked ≡ Done → ring_fits sheet ring ≡ true → Done ≡ lent_answer given
+  pub lent_done : checked ≡ done → ring_fits sheet ring ≡ true → done ≡ lent_answer given
   unfolding lent_answer check_answer first_case
   lent_done told good = sym (front_passes (check_refusals given) (misfits ∷ []) is told ∙ passed_here misfits [] (ap not good))
 
 -- where nothing of them is refused
-pub lent_passed : (given : Lent) → lent_answer given ≡ Done → Passed given × (ring_fits given.sheet given.ring ≡ true)
+pub lent_passed : (given : Lent) → lent_answer given ≡ done → Passed given × (ring_fits given.sheet given.ring ≡ true)
 unfolding lent_answer
 lent_passed given done =
     let none = done_none (lent_refusals given) done in

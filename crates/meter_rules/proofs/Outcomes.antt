@@ -9,14 +9,12 @@ use lib.ListN.{length, take, drop}
 use lib.Seq.{take_at}
 use lib.Dec.{eqb}
 use borrow.Author.Tests.{eq-eqb, ne_eqb, eqb-true, eqb-false, not-false}
+use Rattle.std.specs.Prelude.{Result, Ok, Err}
 use Rattle.check_value.specs.Frame.{passes}
 use Rattle.frame.specs.Reply.{error_reply, with_check, small_buffer}
 use Rattle.refusals.specs.declared.Refusal.{Refusal}
 use Rattle.refusals.proofs.Numbers.{refusal_from_two}
-use Rattle.refusals.specs.declared.Answer.{Answer}
-use Rattle.refusals.specs.declared.Answer.TheVariants as answer
-use Rattle.refusals.specs.declared.Answer.TheVariants.{Done}
-use Rattle.refusals.specs.Answers.{answer_number}
+use Rattle.refusals.specs.Answers.{answer_number, Answer, done}
 use Rattle.refusals.proofs.Answers.{done_none, numbers_in_order}
 use Rattle.lists.specs.Cases.{when, InOrder}
 use Rattle.lists.proofs.Cases.{differ}
@@ -26,14 +24,14 @@ use Rattle.bank_rules.specs.Bank.{rate_of}
 use Rattle.bank_rules.specs.Calls.{Lent, misfitting_bank, unsound_bank, effect_of}
 use Rattle.bank_rules.proofs.Changes.{Passed, passed}
 use Rattle.ring_rules.specs.Calls.{ring_fits, bad_ring}
-use Rattle.meter_rules.specs.declared.Answered.{Answered}
-use Rattle.meter_rules.specs.declared.Answered.TheVariants.{Reply, Error, Silence, Refused}
 use Rattle.meter_rules.specs.declared.Judged.{Judged}
 use Rattle.meter_rules.specs.declared.Judged.TheVariants.{FailsCheck, OtherStation, FunctionNotAllowed, WrongLength, WrongCount, WrongAddress, WrongValue, BadItem, GoodRead, GoodRecord, GoodClear, GoodWrite}
 use Rattle.meter_rules.specs.Steps.{judged_frame}
 use Rattle.meter_rules.specs.Reply.{error_code, good_reply, reply_to, stores_of}
 use Rattle.meter_rules.specs.Answer.{Outcome, outcome, answered_number, length_in, answered_by, frame_refusals, frame_check, frame_effect, unless_refused, acted_on, answer_outcome}
 use Rattle.meter_rules.proofs.Closing.{read_fits, judged_fits, reply_sized, reply_passes}
+use Rattle.meter_rules.specs.declared.Answered.{Answered}
+use Rattle.meter_rules.specs.declared.Answered.TheVariants.{Reply, Error, Silence}
 
 -- ---- a refusal, or what becomes of the frame
 
@@ -42,7 +40,7 @@ module _ (given : Lent) (frame buffer : List ℕ) where
   acted = acted_on (judged_frame given frame) given frame buffer
 
   -- a call that is not refused: its sheet is sound, its bank fits it and is sound, and its ring goes with it
-  pub frame_passed : frame_check given buffer ≡ Done → Passed given × (ring_fits given.sheet given.ring ≡ true)
+  pub frame_passed : frame_check given buffer ≡ done → Passed given × (ring_fits given.sheet given.ring ≡ true)
   unfolding frame_check
   frame_passed done =
       let none = done_none (frame_refusals given buffer) done in
@@ -50,14 +48,14 @@ module _ (given : Lent) (frame buffer : List ℕ) where
 
   -- what holds of every refusal, which leaves the bank and the buffer, and of what becomes of the frame over a sound sheet, a bank that
   -- fits it and is sound, and a ring that goes with it, holds of the call
-  pub outcome_cases : (P : Outcome → Type 0) → ((refusal : Refusal) → P (outcome (Refused refusal) given.bank buffer))
+  pub outcome_cases : (P : Outcome → Type 0) → ((refusal : Refusal) → P (outcome (Err refusal) given.bank buffer))
       → (Passed given → ring_fits given.sheet given.ring ≡ true → P acted) → P (answer_outcome given frame buffer)
   unfolding answer_outcome
   outcome_cases P refused passes_on = go (frame_check given buffer) refl
     where
       go : (answer : Answer) → frame_check given buffer ≡ answer → P (unless_refused answer given buffer acted)
-      go Done e = passes_on (frame_passed e).0 (frame_passed e).1
-      go (answer.Refused refusal) e = refused refusal
+      go (Ok tt) e = passes_on (frame_passed e).0 (frame_passed e).1
+      go (Err refusal) e = refused refusal
 
   -- the bank afterwards is the bank with the effect of the call
   pub answer_stored : (answer_outcome given frame buffer).bank ≡ stored given.bank (frame_effect given frame buffer)
@@ -65,8 +63,8 @@ module _ (given : Lent) (frame buffer : List ℕ) where
   answer_stored = go (frame_check given buffer)
     where
       go : (answer : Answer) → (unless_refused answer given buffer acted).bank ≡ stored given.bank (effect_of answer (stores_of (judged_frame given frame) given.sheet frame))
-      go Done = refl
-      go (answer.Refused refusal) = refl
+      go (Ok tt) = refl
+      go (Err refusal) = refl
 
 -- each number of a refusal is handed back exactly if its condition holds and none does that comes before it
 pub frame_numbers : (given : Lent) (buffer : List ℕ) → InOrder (answer_number (frame_check given buffer)) []
@@ -77,7 +75,7 @@ frame_numbers given buffer = numbers_in_order (frame_refusals given buffer) refl
 
 -- ---- silence, a reply or an error
 
-pub answered_cases : (P : Answered → Type 0) (code n rate : ℕ) → (code ≡ 0 → n ≡ 0 → P Silence) → (code ≡ 0 → (n ≡ 0 → ⊥) → P (Reply n rate))
+pub answered_cases : (P : Result Answered Refusal → Type 0) (code n rate : ℕ) → (code ≡ 0 → n ≡ 0 → P Silence) → (code ≡ 0 → (n ≡ 0 → ⊥) → P (Reply n rate))
     → ((code ≡ 0 → ⊥) → P (Error code rate)) → P (answered_by code n rate)
 answered_cases P code n rate silent replied erred = go (eqb code 0) (eqb n 0) refl refl
   where
@@ -96,7 +94,7 @@ module _ (judged : Judged) (bank ring frame : List ℕ) where
   error_reply_lem some = simp (ne_eqb (error_code judged) 0 some)
 
   module _ (rate : ℕ) where
-    abbrev answers : Answered
+    abbrev answers : Result Answered Refusal
     answers = answered_by (error_code judged) (length (reply_to judged bank ring frame)) rate
 
     -- the length that is handed back is that of the reply, and with number 0 there is one
@@ -191,11 +189,11 @@ quiet_answer given frame buffer e =
     (λ found ringed. quiet_changes_nothing (judged_frame given frame) given frame buffer e)
 
 -- a refusal leaves the bank and the buffer
-pub refused_as_before : (given : Lent) (frame buffer : List ℕ) (refusal : Refusal) → (answer_outcome given frame buffer).answered ≡ Refused refusal
+pub refused_as_before : (given : Lent) (frame buffer : List ℕ) (refusal : Refusal) → (answer_outcome given frame buffer).answered ≡ Err refusal
     → ((answer_outcome given frame buffer).bank ≡ given.bank) × ((answer_outcome given frame buffer).buffer ≡ buffer)
 unfolding acted_on
 refused_as_before given frame buffer refusal =
-    outcome_cases given frame buffer (λ o. o.answered ≡ Refused refusal → (o.bank ≡ given.bank) × (o.buffer ≡ buffer))
+    outcome_cases given frame buffer (λ o. o.answered ≡ Err refusal → (o.bank ≡ given.bank) × (o.buffer ≡ buffer))
     (λ other e. (refl, refl))
     (λ found ringed e. absurd (omega (
       arith,

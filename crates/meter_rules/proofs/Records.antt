@@ -6,15 +6,16 @@ use Prim.Native.Nat.{ℕ, ◌+◌, ◌≤◌}
 use native.Mathlib.Omega.{arith}
 use lib.Dec.{eqb}
 use borrow.Author.Tests.{eqb-true}
+use Rattle.std.specs.Prelude.{Option}
 use Rattle.lists.specs.Lists.{each, up_from}
 use Rattle.lists.proofs.Among.{up_among, each_among}
 use Rattle.sheet_rules.specs.Rows.{areas, record_area}
 use Rattle.sheet_rules.specs.Rules.{sound, in_records}
 use Rattle.sheet_rules.specs.Lookup.{lies_in}
-use Rattle.sheet_rules.specs.declared.Lies.{Lies}
 use Rattle.sheet_rules.specs.declared.Purpose.TheVariants.{Read}
 use Rattle.sheet_rules.specs.Runs.{opens, all_open}
 use Rattle.sheet_rules.proofs.Records.{record_nowhere}
+use Rattle.sheet_rules.specs.declared.Lies.{Lies}
 use Rattle.frame.specs.Frame.{reads, function, start, second, run}
 use Rattle.meter_rules.specs.Steps.{starts_in_records, wrong_count}
 use Rattle.meter_rules.proofs.Order.{asks_for, many_is}
@@ -38,7 +39,7 @@ module _ (sheet frame : List ℕ) (is : function frame ≡ reads) (inside : star
   unfolding all_open each up_from
   record_shut keeps one =
       ap (λ (n : ℕ). all_open Read sheet (up_from (start frame) n)) (many_is frame (asks_for frame reads is) ∙ one)
-      ∙ ap (λ (lies : Lies). opens Read lies && true) (record_nowhere sheet keeps (start frame) inside)
+      ∙ ap (λ (lies : Option Lies). opens Read lies && true) (record_nowhere sheet keeps (start frame) inside)
 
 -- where each address of a run is open, the first is no record's
 pub open_outside : (sheet : List ℕ) (first many : ℕ) → sound sheet ≡ true → 1 ≤ many → all_open Read sheet (up_from first many) ≡ true

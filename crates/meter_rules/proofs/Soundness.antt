@@ -5,9 +5,8 @@ use mathlib.Core.List.{List, [], ◌∷◌}
 use Prim.Native.Nat.{ℕ, ◌+◌}
 use lib.Dec.{eqb}
 use borrow.Author.Tests.{eq-eqb, eqb-false}
+use Rattle.std.specs.Prelude.{Option, None, Some}
 use Rattle.sheet_rules.specs.Rows.{items, clear_address, record_area}
-use Rattle.meter_rules.specs.declared.Stop.{Stop}
-use Rattle.meter_rules.specs.declared.Stop.TheVariants.{StopsAt, NoBadItem}
 use Rattle.lists.proofs.Tests.{first_of, second_of_lem}
 use Rattle.bank_rules.specs.Stores.{stored}
 use Rattle.bank_rules.specs.Bank.{bank_sound}
@@ -20,13 +19,14 @@ use Rattle.sheet_rules.specs.declared.Purpose.TheVariants.{Write}
 use Rattle.frame.specs.Frame.{reads, clears, writes_one, writes_many, function, start, is_write, count, run}
 use Rattle.meter_rules.specs.Steps.{starts_in_records, asked_start, wrong_read, good_read, function_allowed, fails_check, other_station, wrong_length, wrong_count, wrong_address, wrong_value, bad_write, good_frame, judged_frame}
 use Rattle.sheet_rules.specs.Runs.{all_open}
-use Rattle.meter_rules.specs.Write.{first_place, some_bad, stop_of, place_of_stop, stop_place, stop_side, run_stores}
+use Rattle.meter_rules.specs.Write.{first_place, some_bad, stop_of, place_of_stop, stop_place, stop_side, run_stores, stops_with}
 use Rattle.meter_rules.specs.Reply.{stores_of}
 use Rattle.meter_rules.specs.Answer.{acted_on, answer_outcome}
 use Rattle.meter_rules.proofs.Order.{last_function}
 use Rattle.meter_rules.proofs.Stopping.{stops, stores_to, stop_some}
 use Rattle.meter_rules.proofs.Outcomes.{quiet, quiet_changes_nothing, outcome_cases}
 use Rattle.meter_rules.proofs.Keeping.{write_sound, clear_sound}
+use Rattle.meter_rules.specs.declared.Stop.{Stop}
 
 -- ---- what is known of a frame that changes the bank
 
@@ -112,18 +112,18 @@ module _ (given : Lent) (frame : List ℕ) where
   unfolding stop_place
   stores_to_stop one = go (stop_of given frame) (some_stops ∙ one)
     where
-      go : (stop : Stop) → stops stop ≡ true → stores_to (first_place given.sheet frame + count frame) stop ≡ place_of_stop stop
-      go (StopsAt place side) e = refl
-      go NoBadItem e = absurd (false≢true e)
+      go : (stop : Option Stop) → stops stop ≡ true → stores_to (first_place given.sheet frame + count frame) stop ≡ place_of_stop stop
+      go (Some stop) e = refl
+      go None e = absurd (false≢true e)
 
   pub stores_to_end : some_bad given frame ≡ false
       → stores_to (first_place given.sheet frame + count frame) (stop_of given frame) ≡ first_place given.sheet frame + count frame
   stores_to_end none = go (stop_of given frame) (some_stops ∙ none)
     where
-      go : (stop : Stop) → stops stop ≡ false
+      go : (stop : Option Stop) → stops stop ≡ false
           → stores_to (first_place given.sheet frame + count frame) stop ≡ first_place given.sheet frame + count frame
-      go (StopsAt place side) e = absurd (true≢false e)
-      go NoBadItem e = refl
+      go (Some stop) e = absurd (true≢false e)
+      go None e = refl
 
 -- ---- a sound bank stays sound
 

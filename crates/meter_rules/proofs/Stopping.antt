@@ -7,6 +7,7 @@ use Prim.Native.Nat.{ℕ, zero, suc, ◌+◌, ◌-◌, ◌≤◌, ◌<◌}
 use native.Mathlib.Omega.{arith}
 use lib.Dec.{leb, ltb}
 use borrow.Author.Tests.{ltb-true, ltb-false}
+use Rattle.std.specs.Prelude.{Option, None, Some}
 use Rattle.sheet_rules.specs.declared.Item.{Item}
 use Rattle.lists.specs.Lists.{rows, some}
 use Rattle.sheet_rules.specs.Rows.{item_at, item_count, items}
@@ -16,10 +17,9 @@ use Rattle.lists.proofs.Walks.{rows_on, rows_end_lem, rows_all}
 use Rattle.sheet_rules.proofs.Rows.{items_rows}
 use Rattle.sheet_rules.proofs.Places.{items_ascend}
 use Rattle.bank_rules.specs.Bank.{side_by, good_by}
-use Rattle.meter_rules.specs.declared.Stop.{Stop}
-use Rattle.meter_rules.specs.declared.Stop.TheVariants.{StopsAt, NoBadItem}
-use Rattle.meter_rules.specs.Write.{in_run, would_be, touched, bad_item, stop_in}
+use Rattle.meter_rules.specs.Write.{in_run, would_be, touched, bad_item, stop_in, stops_with}
 use Rattle.meter_rules.proofs.Judging.{run_above}
+use Rattle.meter_rules.specs.declared.Stop.{Stop}
 
 -- the items from an index on
 abbrev pub items_from : List ℕ → ℕ → List Item
@@ -42,14 +42,14 @@ module _ (sheet : List ℕ) (keeps : sound sheet ≡ true) where
   all_in_front place middle inside low k less = omega (arith, low, in_order k middle (omega arith) inside)
 
 -- there is a stop
-abbrev pub stops : Stop → Bool
-stops (StopsAt place side) = true
-stops NoBadItem = false
+abbrev pub stops : Option Stop → Bool
+stops (Some stop) = true
+stops None = false
 
 -- up to where a write stores: its stop, or the end of its run where no item is bad
-abbrev pub stores_to : ℕ → Stop → ℕ
-stores_to end (StopsAt place side) = place
-stores_to end NoBadItem = end
+abbrev pub stores_to : ℕ → Option Stop → ℕ
+stores_to end (Some stop) = stop.place
+stores_to end None = end
 
 -- a place of the run stands in front of its end
 pub run_below : (first many place : ℕ) → in_run first many place ≡ true → place < first + many
@@ -78,8 +78,8 @@ module _ (first many : ℕ) where
 
   module _ (bank frame : List ℕ) where
     -- the stop at an item that is bad
-    abbrev pub stops_at : Item → Stop
-    stops_at item = StopsAt item.place (side_by (would_be first many bank frame) item)
+    abbrev pub stops_at : Item → Option Stop
+    stops_at item = stops_with item.place (side_by (would_be first many bank frame) item)
 
     -- so does that of a bad item
     pub bad_below : (item : Item) → bad_item first many bank frame item ≡ true → item.place < first + many
@@ -105,7 +105,7 @@ module _ (first many : ℕ) where
 
     -- rows that all stand behind the run stop nothing
     rows_past : (row : ℕ → Item) (k n : ℕ) → ((i : ℕ) → k ≤ i → i < k + n → first + many ≤ (row i).place)
-        → stop_in first many bank frame (rows row k n) ≡ NoBadItem
+        → stop_in first many bank frame (rows row k n) ≡ None
     unfolding rows stop_in
     rows_past row k zero behind = refl
     rows_past row k (suc n) behind =
@@ -135,7 +135,7 @@ module _ (first many : ℕ) where
         go false says rest = rest
 
     -- a walk over the items, where the item at hand is the one at an index
-    module _ (sheet : List ℕ) (k : ℕ) (whole : Stop) (left : stop_in first many bank frame (items_from sheet k) ≡ whole) where
+    module _ (sheet : List ℕ) (k : ℕ) (whole : Option Stop) (left : stop_in first many bank frame (items_from sheet k) ≡ whole) where
       module _ (item : Item) (here : item ≡ item_at sheet k) (inside : k < item_count sheet) where
         stop_cases : cond (bad_item first many bank frame item) (stops_at item) (stop_in first many bank frame (items_from sheet (k + 1))) ≡ whole
         unfolding stop_in
@@ -150,12 +150,12 @@ module _ (first many : ℕ) where
         pub stop_goes_on : bad_item first many bank frame item ≡ false → stop_in first many bank frame (items_from sheet (k + 1)) ≡ whole
         stop_goes_on fine = simp fine at stop_cases
 
-      pub stop_none : item_count sheet ≤ k → NoBadItem ≡ whole
+      pub stop_none : item_count sheet ≤ k → None ≡ whole
       unfolding stop_in
       stop_none past = sym (ap (stop_in first many bank frame) (rows_end_lem (item_at sheet) k (item_count sheet) past)) ∙ left
 
       -- at an item behind the run, as those behind it are
-      pub stop_past : sound sheet ≡ true → k < item_count sheet → first + many ≤ (item_at sheet k).place → NoBadItem ≡ whole
+      pub stop_past : sound sheet ≡ true → k < item_count sheet → first + many ≤ (item_at sheet k).place → None ≡ whole
       stop_past keeps inside high =
           sym (rows_past (item_at sheet) k (item_count sheet - k)
           (λ i low under. omega (arith, in_order sheet keeps k i low (omega arith))))

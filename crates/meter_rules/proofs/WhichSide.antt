@@ -6,6 +6,7 @@ use mathlib.Core.List.{List}
 use mathlib.Core.Logic.{◌⊎◌, inl, inr}
 use Prim.Native.Nat.{ℕ, ◌+◌, ◌-◌, ◌*◌}
 use borrow.Author.Tests.{not-true}
+use Rattle.std.specs.Prelude.{None}
 use Rattle.range.specs.Range.{side_of, inside}
 use Rattle.sheet_rules.specs.declared.Item.{Item}
 use Rattle.sheet_rules.specs.Rows.{items}
@@ -16,7 +17,6 @@ use Rattle.bank_rules.specs.Stores.{word_of}
 use Rattle.bank_rules.specs.Bank.{value_by, side_by, good_by}
 use Rattle.bank_rules.specs.Calls.{Lent}
 use Rattle.frame.specs.Frame.{count, sent}
-use Rattle.meter_rules.specs.declared.Stop.TheVariants.{NoBadItem}
 use Rattle.meter_rules.specs.Write.{first_place, in_run, would_be, touched, bad_item, some_bad, stop_of, place_of_stop, side_of_stop, stop_place, stop_side}
 use Rattle.meter_rules.proofs.Stopping.{stops_at, stops}
 use Rattle.meter_rules.proofs.Keeping.{stop_at}
@@ -37,7 +37,7 @@ module _ (given : Lent) (frame : List ℕ) where
   unfolding stop_place stop_side
   stopped one = go (stop_at (first_place given.sheet frame) (count frame) given.bank frame (items given.sheet))
     where
-      go : (stop_of given frame ≡ NoBadItem)
+      go : (stop_of given frame ≡ None)
           ⊎ ((item : Item) × Among item (items given.sheet)
           × (bad_item (first_place given.sheet frame) (count frame) given.bank frame item ≡ true)
           × (stops_at (first_place given.sheet frame) (count frame) given.bank frame item ≡ stop_of given frame))

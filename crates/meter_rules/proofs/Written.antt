@@ -7,12 +7,11 @@ use Prim.Native.Nat.{ℕ, ◌+◌, ◌-◌, ◌≤◌, ◌<◌}
 use native.Mathlib.Omega.{arith}
 use lib.Dec.{ltb}
 use borrow.Author.Tests.{le-leb, lt-ltb}
-use Rattle.sheet_rules.specs.declared.Lies.{Lies}
-use Rattle.sheet_rules.specs.declared.Lies.TheVariants.{At, Nowhere}
+use Rattle.std.specs.Prelude.{Option, None, Some}
 use Rattle.sheet_rules.specs.Rows.{bank_words, areas}
 use Rattle.lists.specs.Lists.{up_from}
 use Rattle.sheet_rules.specs.Rules.{sound}
-use Rattle.sheet_rules.specs.Lookup.{lies_in, place_in}
+use Rattle.sheet_rules.specs.Lookup.{lies_in, place_in, found_at}
 use Rattle.lists.proofs.Among.{Among, each_among, up_among}
 use Rattle.sheet_rules.proofs.Addresses.{run_consecutive, lies_below}
 use Rattle.bank_rules.specs.Stores.{Store, word_of, stored}
@@ -21,19 +20,20 @@ use Rattle.bank_rules.proofs.Inside.{among_map, map_among, number_among, among_n
 use Rattle.sheet_rules.specs.declared.Purpose.{Purpose}
 use Rattle.frame.specs.Frame.{sent}
 use Rattle.sheet_rules.specs.Runs.{permits, opens, all_open}
+use Rattle.sheet_rules.specs.declared.Lies.{Lies}
 use Rattle.meter_rules.specs.Write.{in_run, would_be, run_store, run_stores}
 use Rattle.meter_rules.proofs.Judging.{run_above}
 use Rattle.meter_rules.proofs.Stopping.{run_below}
 
 -- what is open to a purpose lies at its place
-pub record Opened (purpose : Purpose) (lies : Lies) : Type 0 where
+pub record Opened (purpose : Purpose) (lies : Option Lies) : Type 0 where
   pub access : ℕ
-  pub at : lies ≡ At (place_in lies) access
+  pub at : lies ≡ found_at (place_in lies) access
   pub permitted : permits purpose access ≡ true
 
-opened : (purpose : Purpose) (lies : Lies) → opens purpose lies ≡ true → Opened purpose lies
-opened purpose (At place access) e = record { access = access; at = refl; permitted = e }
-opened purpose Nowhere e = absurd (false≢true e)
+opened : (purpose : Purpose) (lies : Option Lies) → opens purpose lies ≡ true → Opened purpose lies
+opened purpose (Some lies) e = record { access = lies.access; at = refl; permitted = e }
+opened purpose None e = absurd (false≢true e)
 
 module _ (purpose : Purpose) (sheet : List ℕ) (keeps : sound sheet ≡ true) (start many : ℕ)
     (all : all_open purpose sheet (up_from start many) ≡ true) where
@@ -53,7 +53,7 @@ module _ (purpose : Purpose) (sheet : List ℕ) (keeps : sound sheet ≡ true) (
       (λ i less. let one = each_open i (omega arith) in (place_in (lies_in (areas sheet) (start + i)), one.access, one.at))
       (place_in (lies_in (areas sheet) start)) (place_in (lies_in (areas sheet) (start + k))) here.access there.access
       (ap (lies_in (areas sheet)) (sym same) ∙ here.at
-      ∙ ap (λ (n : ℕ). At (place_in (lies_in (areas sheet) n)) here.access) same)
+      ∙ ap (λ (n : ℕ). found_at (place_in (lies_in (areas sheet) n)) here.access) same)
       there.at
 
   pub run_inside : (k : ℕ) → k < many → place_in (lies_in (areas sheet) start) + k < bank_words sheet

@@ -1,50 +1,47 @@
 -- The whole outcome of a call with one frame: what is handed back, the bank afterwards and the answer buffer afterwards. Assumes nothing.
-use Rattle.std.specs.Prelude.{ℕ, cond, List, [], ◌∷◌, ◌++◌, eqb, length}
+use Rattle.std.specs.Prelude.{ℕ, cond, List, [], ◌∷◌, ◌++◌, eqb, length, Result, Ok, Err}
 use Rattle.bank_rules.specs.Stores.{Store, stored}
 use Rattle.bank_rules.specs.Bank.{rate_of}
 use Rattle.lists.specs.Cases.{Case, when}
 use Rattle.refusals.specs.declared.Refusal.{Refusal}
 use Rattle.refusals.specs.declared.Refusal.TheVariants.{SmallBuffer}
-use Rattle.refusals.specs.declared.Answer.{Answer}
-use Rattle.refusals.specs.declared.Answer.TheVariants as answer
-use Rattle.refusals.specs.declared.Answer.TheVariants.{Done}
-use Rattle.refusals.specs.Answers.{refusal_number, answer_by}
+use Rattle.refusals.specs.Answers.{refusal_number, answer_by, Answer}
 use Rattle.bank_rules.specs.Calls.{Lent, effect_of}
-use Rattle.meter_rules.specs.declared.Answered.{Answered}
-use Rattle.meter_rules.specs.declared.Answered.TheVariants.{Reply, Error, Silence, Refused}
 use Rattle.meter_rules.specs.declared.Judged.{Judged}
 use Rattle.meter_rules.specs.Steps.{judged_frame}
 use Rattle.meter_rules.specs.Judgement.{lent_refusals}
 use Rattle.meter_rules.specs.Reply.{error_code, reply_to, stores_of}
+use Rattle.meter_rules.specs.declared.Answered.{Answered}
+use Rattle.meter_rules.specs.declared.Answered.TheVariants.{Reply, Error, Silence}
 use Rattle.frame.specs.Reply.{error_length, laid, small_buffer}
 
 -- rules N0 to N5, N8 and F4: the number of each answer
-abbrev pub answered_number : Answered → ℕ
-answered_number (Reply length rate) = 0
-answered_number (Error code rate) = 0
-answered_number Silence = 1
-answered_number (Refused refusal) = refusal_number refusal
+abbrev pub answered_number : Result Answered Refusal → ℕ
+answered_number (Ok (Reply length rate)) = 0
+answered_number (Ok (Error code rate)) = 0
+answered_number (Ok Silence) = 1
+answered_number (Err refusal) = refusal_number refusal
 
 -- rules N0, N1, N53 and N54: length and rate; with silence and refusals both are 0
-abbrev pub length_in : Answered → ℕ
-length_in (Reply length rate) = length
-length_in (Error code rate) = error_length
-length_in Silence = 0
-length_in (Refused refusal) = 0
+abbrev pub length_in : Result Answered Refusal → ℕ
+length_in (Ok (Reply length rate)) = length
+length_in (Ok (Error code rate)) = error_length
+length_in (Ok Silence) = 0
+length_in (Err refusal) = 0
 
-abbrev pub rate_in : Answered → ℕ
-rate_in (Reply length rate) = rate
-rate_in (Error code rate) = rate
-rate_in Silence = 0
-rate_in (Refused refusal) = 0
+abbrev pub rate_in : Result Answered Refusal → ℕ
+rate_in (Ok (Reply length rate)) = rate
+rate_in (Ok (Error code rate)) = rate
+rate_in (Ok Silence) = 0
+rate_in (Err refusal) = 0
 
 -- what a call hands back, the bank afterwards, and the answer buffer afterwards
 pub record Outcome : Type 0 where
-  pub answered : Answered
+  pub answered : Result Answered Refusal
   pub bank : List ℕ
   pub buffer : List ℕ
 
-abbrev pub outcome : Answered → List ℕ → List ℕ → Outcome
+abbrev pub outcome : Result Answered Refusal → List ℕ → List ℕ → Outcome
 outcome answered bank buffer = record { answered = answered; bank = bank; buffer = buffer }
 
 -- an error by its code; else a reply by its length, or silence where there is none
@@ -54,7 +51,7 @@ answered_by code length rate = cond (eqb code 0) (cond (eqb length 0) Silence (R
 -- what becomes of a judged frame; rule R7: the rate is the bank's before the frame
 unfoldable pub acted_on : Judged → Lent → List ℕ → List ℕ → Outcome
 acted_on judged given frame buffer =
-    outcome (answered_by (error_code judged) (length (reply_to judged given.bank given.ring frame)) (rate_of given.sheet given.bank))
+    outcome (Ok (answered_by (error_code judged) (length (reply_to judged given.bank given.ring frame)) (rate_of given.sheet given.bank)))
     (stored given.bank (stores_of judged given.sheet frame))
     (laid (reply_to judged given.bank given.ring frame) buffer)
 
@@ -72,8 +69,8 @@ frame_effect given frame buffer =
 
 -- rule N52: a refusal writes nothing
 abbrev pub unless_refused : Answer → Lent → List ℕ → Outcome → Outcome
-unless_refused Done given buffer acted = acted
-unless_refused (answer.Refused refusal) given buffer acted = outcome (Refused refusal) given.bank buffer
+unless_refused (Ok tt) given buffer acted = acted
+unless_refused (Err refusal) given buffer acted = outcome (Err refusal) given.bank buffer
 
 -- unless the call is refused the frame is judged, and acted on
 unfoldable pub answer_outcome : Lent → List ℕ → List ℕ → Outcome

@@ -1,6 +1,6 @@
 -- A write, item by item: the places of a run, the item that a write stops at and its side, and what it stores (rules K1 to K7, K11, K12 and J71).
 -- Assumes nothing.
-use Rattle.std.specs.Prelude.{ℕ, ◌+◌, ◌-◌, Bool, not, cond, ◌&&◌, ◌||◌, List, [], ◌∷◌, map, leb, ltb}
+use Rattle.std.specs.Prelude.{ℕ, ◌+◌, ◌-◌, Bool, not, cond, ◌&&◌, ◌||◌, List, [], ◌∷◌, map, leb, ltb, Option, None, Some}
 use Rattle.range.specs.declared.Side.{Side}
 use Rattle.range.specs.declared.Side.TheVariants.{InRange}
 use Rattle.sheet_rules.specs.declared.Item.{Item}
@@ -13,7 +13,6 @@ use Rattle.bank_rules.specs.Bank.{side_by, good_by}
 use Rattle.bank_rules.specs.Calls.{Lent}
 use Rattle.frame.specs.Frame.{start, count, sent}
 use Rattle.meter_rules.specs.declared.Stop.{Stop}
-use Rattle.meter_rules.specs.declared.Stop.TheVariants.{StopsAt, NoBadItem}
 
 -- the place of the run's first address; the places of a run of addresses that all lie in areas follow each other from there
 abbrev pub first_place : List ℕ → List ℕ → ℕ
@@ -39,25 +38,29 @@ bad_item first many bank frame item = touched first many item && not (good_by (w
 unfoldable pub some_bad : Lent → List ℕ → Bool
 some_bad given frame = some (bad_item (first_place given.sheet frame) (count frame) given.bank frame) (items given.sheet)
 
+-- a write stops at a place, with a side
+abbrev pub stops_with : ℕ → Side → Option Stop
+stops_with place side = Some (record { place = place; side = side })
+
 -- rules K5 and K12, where a write stops: at the first place of the first bad item, with the side at which the value that it would have misses its
 -- range; or that no item is bad
-unfoldable pub stop_in : ℕ → ℕ → List ℕ → List ℕ → List Item → Stop
-stop_in first many bank frame [] = NoBadItem
+unfoldable pub stop_in : ℕ → ℕ → List ℕ → List ℕ → List Item → Option Stop
+stop_in first many bank frame [] = None
 stop_in first many bank frame (item ∷ behind) =
-    cond (bad_item first many bank frame item) (StopsAt item.place (side_by (would_be first many bank frame) item))
+    cond (bad_item first many bank frame item) (stops_with item.place (side_by (would_be first many bank frame) item))
     (stop_in first many bank frame behind)
 
-unfoldable pub stop_of : Lent → List ℕ → Stop
+unfoldable pub stop_of : Lent → List ℕ → Option Stop
 stop_of given frame = stop_in (first_place given.sheet frame) (count frame) given.bank frame (items given.sheet)
 
 -- the place and the side of a stop. Where no item is bad nothing asks for them: they are 0 and in range
-abbrev pub place_of_stop : Stop → ℕ
-place_of_stop (StopsAt place side) = place
-place_of_stop NoBadItem = 0
+abbrev pub place_of_stop : Option Stop → ℕ
+place_of_stop (Some stop) = stop.place
+place_of_stop None = 0
 
-abbrev pub side_of_stop : Stop → Side
-side_of_stop (StopsAt place side) = side
-side_of_stop NoBadItem = InRange
+abbrev pub side_of_stop : Option Stop → Side
+side_of_stop (Some stop) = stop.side
+side_of_stop None = InRange
 
 unfoldable pub stop_place : Lent → List ℕ → ℕ
 unfolding stop_of

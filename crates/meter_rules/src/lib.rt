@@ -3,13 +3,12 @@
 #![tactic(auto)]
 
 use range::Side;
-use refusals::Refusal;
 
-// Where a write stops: at the first place of its first bad item, with the side at which that item would miss its range; or that no item is bad.
+// Where a write stops, where it has a bad item: at the first place of the first one, with the side at which that item would miss its range.
 #[derive(Clone, Copy)]
-pub enum Stop {
-    StopsAt { place: u32, side: Side },
-    NoBadItem,
+pub struct Stop {
+    pub place: u32,
+    pub side: Side,
 }
 
 // Where a frame stops in the order of judgement, or that it is good. `first` is the place of its first address, `stop` the first
@@ -31,18 +30,10 @@ pub enum Judged {
     GoodWrite { first: u32, many: u32 },
 }
 
-// The judgement of a frame by what a call is lent: refused, or where the frame stops.
-#[derive(Clone, Copy)]
-pub enum Judgement {
-    Refused(Refusal),
-    Stops(Judged),
-}
-
-// What a call with one frame answers. An error is a reply too: five bytes, by its code.
+// What a call with one frame answers that is not refused. An error is a reply too: five bytes, by its code.
 #[derive(Clone, Copy)]
 pub enum Answered {
     Reply { length: u32, rate: u16 },
     Error { code: u8, rate: u16 },
     Silence,
-    Refused(Refusal),
 }

@@ -7,17 +7,17 @@ use Prim.Native.Nat.{ℕ, zero, suc, ◌+◌, ◌≤◌, ◌<◌}
 use native.Mathlib.Omega.{arith}
 use lib.Dec.{ltb, eqb}
 use borrow.Author.Tests.{eqb-true, eq-eqb, le-ltb, ltb-false, not-false}
+use Rattle.std.specs.Prelude.{Option, None}
 use Rattle.lists.specs.Lists.{each, up_from}
 use Rattle.lists.proofs.Among.{up_among, each_among}
 use Rattle.sheet_rules.specs.Rows.{areas, clear_address, record_area}
 use Rattle.sheet_rules.specs.Rules.{sound}
-use Rattle.sheet_rules.specs.declared.Lies.{Lies}
-use Rattle.sheet_rules.specs.declared.Lies.TheVariants.{At, Nowhere}
-use Rattle.sheet_rules.specs.Lookup.{lies_in, record_number}
+use Rattle.sheet_rules.specs.Lookup.{lies_in, record_number, found_at}
 use Rattle.sheet_rules.proofs.Addresses.{lies_word}
 use Rattle.sheet_rules.specs.declared.Purpose.{Purpose}
 use Rattle.sheet_rules.specs.declared.Purpose.TheVariants.{Read, Write}
 use Rattle.sheet_rules.specs.Runs.{permits, opens, all_open}
+use Rattle.sheet_rules.specs.declared.Lies.{Lies}
 use Rattle.frame.specs.Frame.{function, start, second, is_write, count, run}
 use Rattle.bank_rules.specs.Calls.{Lent}
 use Rattle.ring_rules.specs.Ring.{stored_count}
@@ -67,8 +67,8 @@ module _ (sheet : List ℕ) (keeps : sound sheet ≡ true) (bytes : Bytes sheet)
     pub open_at : (at : ℕ) → opens purpose (lies_in (areas sheet) at) ≡ true → Open purpose at
     open_at at = go (lies_in (areas sheet) at) refl
       where
-        go : (lies : Lies) → lies_in (areas sheet) at ≡ lies → opens purpose lies ≡ true → Open purpose at
-        go (At place access) is e =
+        go : (lies : Option Lies) → lies_in (areas sheet) at ≡ lies → opens purpose lies ≡ true → Open purpose at
+        go (found_at place access) is e =
             record {
               small = omega (arith, lies_word sheet bytes at place access is);
               place = place;
@@ -76,7 +76,7 @@ module _ (sheet : List ℕ) (keeps : sound sheet ≡ true) (bytes : Bytes sheet)
               lies = lies_plain sheet keeps is;
               permitted = e;
             }
-        go Nowhere is e = absurd (false≢true e)
+        go None is e = absurd (false≢true e)
 
     pub at_open : (at : ℕ) → Open purpose at → opens purpose (lies_in (areas sheet) at) ≡ true
     at_open at one = ap (opens purpose) (plain_lies sheet keeps one.lies) ∙ one.permitted

@@ -18,8 +18,7 @@ use Rattle.sheet_rules.specs.declared.Purpose.{Purpose}
 use Rattle.sheet_rules.specs.declared.Purpose.TheVariants.{Read, Write}
 use Rattle.sheet_rules.specs.Rows.{areas, items, clear_address, record_area}
 use Rattle.sheet_rules.specs.Rules.{sound}
-use Rattle.sheet_rules.specs.declared.Lies.TheVariants.{At}
-use Rattle.sheet_rules.specs.Lookup.{lies_in, address_of, record_number}
+use Rattle.sheet_rules.specs.Lookup.{lies_in, address_of, record_number, found_at}
 use Rattle.sheet_rules.specs.Runs.{opens, all_open}
 use Rattle.sheet_rules.proofs.Addresses.{place_address}
 use Rattle.range.specs.declared.Side.{Side}
@@ -319,7 +318,7 @@ module _ (given : Lent) (frame : List ℕ) (passed : Passed given) (write : is_w
             let earlier : Item = record { kind = kind; place = other; low = low; high = high } in
             fine_so earlier value (front_fine given frame passed all (row_item given.sheet row) (fronted (omega (arith, front, found.at_place)))) touch is;
         its_address = let stop = stop_lies given frame one passed.right in
-            writable_plain given.sheet passed.right (stop.1 ∙ ap (λ (n : ℕ). At n stop.0) (sym found.at_place)) stop.2;
+            writable_plain given.sheet passed.right (stop.1 ∙ ap (λ (n : ℕ). found_at n stop.0) (sym found.at_place)) stop.2;
       }
     where
       fronted : {place : ℕ} → place < stop_place given frame → place < stop given frame passed all

@@ -7,6 +7,7 @@ use native.Mathlib.Omega.{arith}
 use lib.Dec.{eqb}
 use lib.ListN.{length}
 use borrow.Author.Tests.{eqb-true, eqb-false, ne_eqb}
+use Rattle.std.specs.Prelude.{Result}
 use Rattle.words.specs.Words.{word_at}
 use Rattle.lists.specs.Cases.{when, first_case}
 use Rattle.sheet_rules.specs.declared.RecordArea.{RecordArea}
@@ -25,8 +26,6 @@ use Rattle.frame.specs.Reply.{read_reply, echo, error_reply, with_check, laid}
 use Rattle.frame.proofs.Reading.{read_length, check_length, write_echo}
 use Rattle.meter_rules.specs.declared.Judged.{Judged}
 use Rattle.meter_rules.specs.declared.Judged.TheVariants.{FailsCheck, OtherStation, FunctionNotAllowed, WrongLength, WrongCount, WrongAddress, WrongValue, BadItem, GoodRead, GoodRecord, GoodClear, GoodWrite}
-use Rattle.meter_rules.specs.declared.Answered.{Answered}
-use Rattle.meter_rules.specs.declared.Answered.TheVariants.{Reply, Silence}
 use Rattle.sheet_rules.specs.declared.Purpose.TheVariants.{Read}
 use Rattle.sheet_rules.specs.Runs.{all_open}
 use Rattle.meter_rules.specs.Write.{first_place, stop_place, stop_side}
@@ -34,6 +33,8 @@ use Rattle.meter_rules.specs.Steps.{starts_in_records, asked_number, asked_start
 use Rattle.meter_rules.specs.Reply.{reply_to, stores_of}
 use Rattle.meter_rules.specs.Answer.{Outcome, outcome, answered_number, length_in, rate_in, answered_by, acted_on}
 use Rattle.meter_rules.proofs.Written.{run_place}
+use Rattle.meter_rules.specs.declared.Answered.{Answered}
+use Rattle.meter_rules.specs.declared.Answered.TheVariants.{Reply, Silence}
 use Rattle.plain.specs.Numbers.{byte, word, Bytes}
 use Rattle.plain.specs.Sheet.{LiesAt}
 use Rattle.plain.specs.Records.{RecordAt, AtRecord, StandsAt}
@@ -48,6 +49,7 @@ use Rattle.plain.proofs.Addresses.{address_same, registers_same, address_tells, 
 use Rattle.plain.proofs.Fates.{tested, judged_fate, judged_gets}
 use Rattle.plain.proofs.Words.{words_left}
 use Rattle.plain.proofs.Replies.{closed_by, error_plain, echo_plain, read_word}
+use Rattle.refusals.specs.declared.Refusal.{Refusal}
 
 -- an outcome as the plain numbers have it
 abbrev pub left_of : Outcome → Left
@@ -112,7 +114,7 @@ module _ (given : Lent) (frame buffer : List ℕ) (passed : Passed given) (ringe
     hands_read : (after : List ℕ) → HandsBack given frame buffer
         (left_of (outcome (answered_by 0 (length (with_check body)) (rate_of given.sheet given.bank)) after (laid (with_check body) buffer))) good
     hands_read after =
-        subst (λ (a : Answered). HandsBack given frame buffer (left_of (outcome a after (laid (with_check body) buffer))) good) (sym replied)
+        subst (λ (a : Result Answered Refusal). HandsBack given frame buffer (left_of (outcome a after (laid (with_check body) buffer))) good) (sym replied)
         (left.read is none refl (check_length body ∙ omega (arith, size, registers_same frame)) rated read_plain)
       where
         replied : answered_by 0 (length (with_check body)) (rate_of given.sheet given.bank) ≡ Reply (length (with_check body)) (rate_of given.sheet given.bank)
@@ -161,7 +163,7 @@ module _ (given : Lent) (frame buffer : List ℕ) (passed : Passed given) (ringe
     hands_record : (after : List ℕ) → HandsBack given frame buffer
         (left_of (outcome (answered_by 0 (length (with_check record_body)) (rate_of given.sheet given.bank)) after (laid (with_check record_body) buffer))) good
     hands_record after =
-        subst (λ (a : Answered). HandsBack given frame buffer (left_of (outcome a after (laid (with_check record_body) buffer))) good) (sym replied)
+        subst (λ (a : Result Answered Refusal). HandsBack given frame buffer (left_of (outcome a after (laid (with_check record_body) buffer))) good) (sym replied)
         (left.recorded is number area.records area.words one refl (check_length record_body ∙ omega (arith, record_size)) rated record_plain)
       where
         replied : answered_by 0 (length (with_check record_body)) (rate_of given.sheet given.bank)

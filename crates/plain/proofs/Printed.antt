@@ -14,10 +14,9 @@ use Rattle.lists.proofs.Tests.{first_of, second_of_lem}
 use Rattle.lists.proofs.Among.{Among, here, there, among_nil, each_among, some_among}
 use Rattle.sheet_rules.specs.declared.Area.{Area}
 use Rattle.sheet_rules.specs.declared.Item.{Item}
-use Rattle.sheet_rules.specs.declared.Lies.TheVariants.{At}
 use Rattle.sheet_rules.specs.Rows.{areas, items}
 use Rattle.sheet_rules.specs.Rules.{sound, is_pair, length_of, place_in_area, pair_within, pair_rule, kind_rule, bounds_rule, low_high_rule, cover_rule, items_sound}
-use Rattle.sheet_rules.specs.Lookup.{address_of}
+use Rattle.sheet_rules.specs.Lookup.{address_of, found_at}
 use Rattle.sheet_rules.proofs.Sound.{sound_parts, sound_areas}
 use Rattle.sheet_rules.proofs.Addresses.{address_there, lies_there, address_lies, lies_word}
 use Rattle.bank_rules.specs.Calls.{Lent}
@@ -85,7 +84,7 @@ module _ (given : Lent) (keeps : sound given.sheet ≡ true) (bytes : Bytes give
             let at = address_there 0 p m rules.follow low high in
             let there-now = lies_there (first + 1) m rules.ascend (omega (arith, at, low)) (omega (arith, at, low, top)) in
             let place : area.place + (first + 1 - area.first) ≡ p + 1 = omega (arith, at, low) in
-            let lies = there-now ∙ ap (λ (n : ℕ). At n area.access) place in
+            let lies = there-now ∙ ap (λ (n : ℕ). found_at n area.access) place in
             writable_plain given.sheet keeps lies (covered_access given.sheet keeps (first + 1) (p + 1) area.access lies
             (held_covered given.sheet keeps (p + 1) among (holds_second item (p + 1) (eq-eqb item.kind 2 pair) refl)))
 

@@ -6,10 +6,9 @@ use mathlib.Core.Logic.{◌⊎◌, inl, inr}
 use mathlib.Core.List.{List}
 use Prim.Native.Nat.{ℕ, ◌*◌, ◌<◌}
 use native.Mathlib.Omega.{arith}
-use Rattle.sheet_rules.specs.declared.Lies.TheVariants.{At}
 use Rattle.sheet_rules.specs.Rows.{areas}
 use Rattle.sheet_rules.specs.Rules.{sound}
-use Rattle.sheet_rules.specs.Lookup.{lies_in}
+use Rattle.sheet_rules.specs.Lookup.{lies_in, found_at}
 use Rattle.sheet_rules.proofs.Addresses.{place_address, lies_below}
 use Rattle.bank_rules.specs.Calls.{Lent}
 use Rattle.plain.specs.Numbers.{byte, word}
@@ -26,7 +25,7 @@ module _ (sheet : List ℕ) (keeps : sound sheet ≡ true) where
       let here = plain_lies sheet keeps one in
       let there = plain_lies sheet keeps other in
       let same : a ≡ b = sym (place_address sheet keeps a place x here) ∙ place_address sheet keeps b place y there in
-      let both : At place x ≡ At place y = sym here ∙ ap (lies_in (areas sheet)) same ∙ there in
+      let both : found_at place x ≡ found_at place y = sym here ∙ ap (lies_in (areas sheet)) same ∙ there in
       cc
 
   below : {a place x : ℕ} → LiesAt sheet a place x → place < word sheet 10

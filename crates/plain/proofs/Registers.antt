@@ -10,10 +10,9 @@ use borrow.Author.Tests.{eq-eqb}
 use Rattle.check_value.proofs.Zero.{closed_passes}
 use Rattle.lists.proofs.Among.{Among}
 use Rattle.sheet_rules.specs.declared.Item.{Item}
-use Rattle.sheet_rules.specs.declared.Lies.TheVariants.{At}
 use Rattle.sheet_rules.specs.Rows.{items}
 use Rattle.sheet_rules.specs.Rules.{sound}
-use Rattle.sheet_rules.specs.Lookup.{holds}
+use Rattle.sheet_rules.specs.Lookup.{holds, found_at}
 use Rattle.bank_rules.specs.Bank.{value_by}
 use Rattle.bank_rules.specs.Calls.{Lent}
 use Rattle.bank_rules.proofs.Held.{holds_first, holds_second, holder_alone}
@@ -49,7 +48,7 @@ module _ (given : Lent) (at v : ℕ) (small : at ≤ 0xFFFF) (word-sent : v < 65
 -- an address lies at one place
 pub lies_once : (sheet : List ℕ) → sound sheet ≡ true → {at p q x y : ℕ} → LiesAt sheet at p x → LiesAt sheet at q y → p ≡ q
 lies_once sheet keeps {at} {p} {q} {x} {y} one other =
-    let same : At p x ≡ At q y = sym (plain_lies sheet keeps one) ∙ plain_lies sheet keeps other in
+    let same : found_at p x ≡ found_at q y = sym (plain_lies sheet keeps one) ∙ plain_lies sheet keeps other in
     cc
 
 module _ (given : Lent) (keeps : sound given.sheet ≡ true) (bytes : Bytes given.sheet) (at v : ℕ) (small : at ≤ 0xFFFF) (word-sent : v < 65536)

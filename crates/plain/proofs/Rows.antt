@@ -10,10 +10,9 @@ use borrow.Author.Tests.{eqb-true, eq-eqb}
 use Rattle.words.specs.Words.{word_at}
 use Rattle.sheet_rules.specs.declared.Area.{Area}
 use Rattle.sheet_rules.specs.declared.Item.{Item}
-use Rattle.sheet_rules.specs.declared.Lies.TheVariants.{At}
 use Rattle.sheet_rules.specs.Rows.{area_count, item_count, area_at, item_at, areas, items, item_from}
 use Rattle.sheet_rules.specs.Rules.{writable, sound}
-use Rattle.sheet_rules.specs.Lookup.{lies_in}
+use Rattle.sheet_rules.specs.Lookup.{lies_in, found_at}
 use Rattle.sheet_rules.proofs.Sound.{sound_areas}
 use Rattle.sheet_rules.proofs.Addresses.{lies_found, lies_there}
 use Rattle.lists.proofs.Among.{Among, row_among, among_row}
@@ -81,7 +80,7 @@ module _ (sheet : List ℕ) where
   -- ---- what lies at an address
 
   module _ (keeps : sound sheet ≡ true) {address place access : ℕ} where
-    pub lies_plain : lies_in (areas sheet) address ≡ At place access → LiesAt sheet address place access
+    pub lies_plain : lies_in (areas sheet) address ≡ found_at place access → LiesAt sheet address place access
     lies_plain e =
         let found = lies_found (areas sheet) address place access e in
         let area = found.area in
@@ -95,17 +94,17 @@ module _ (sheet : List ℕ) where
           there = found.at;
         }
 
-    pub plain_lies : LiesAt sheet address place access → lies_in (areas sheet) address ≡ At place access
+    pub plain_lies : LiesAt sheet address place access → lies_in (areas sheet) address ≡ found_at place access
     plain_lies at =
         lies_there address (row_area at.row) (sound_areas sheet keeps).ascend at.not_before at.not_behind
-        ∙ ap (λ (n : ℕ). At n access) (sym at.there)
+        ∙ ap (λ (n : ℕ). found_at n access) (sym at.there)
 
     -- .. and can be written
-    pub writable_plain : lies_in (areas sheet) address ≡ At place access → writable access ≡ true → WritableAt sheet address place
+    pub writable_plain : lies_in (areas sheet) address ≡ found_at place access → writable access ≡ true → WritableAt sheet address place
     writable_plain e open? = record { access = access; lies = lies_plain e; permitted = one_of_lem access 2 3 open? }
 
   pub plain_writable : sound sheet ≡ true → {address place : ℕ} → WritableAt sheet address place
-      → (access : ℕ) × (lies_in (areas sheet) address ≡ At place access) × (writable access ≡ true)
+      → (access : ℕ) × (lies_in (areas sheet) address ≡ found_at place access) × (writable access ≡ true)
   plain_writable keeps one = (one.access, plain_lies keeps one.lies, of_one one.permitted)
 
   -- ---- item rows

@@ -17,10 +17,9 @@ use Rattle.range.proofs.Sides.{side_low, side_high, side_inside, in_range_betwee
 use Rattle.lists.proofs.Tests.{first_of, second_of_lem}
 use Rattle.lists.proofs.Among.{among_some, some_among}
 use Rattle.sheet_rules.specs.declared.Item.{Item}
-use Rattle.sheet_rules.specs.declared.Lies.TheVariants.{At}
 use Rattle.sheet_rules.specs.Rows.{areas, items}
 use Rattle.sheet_rules.specs.Rules.{sound, is_pair}
-use Rattle.sheet_rules.specs.Lookup.{lies_in, place_in}
+use Rattle.sheet_rules.specs.Lookup.{lies_in, place_in, found_at}
 use Rattle.bank_rules.specs.Stores.{word_of}
 use Rattle.bank_rules.specs.Bank.{value_by, good_by}
 use Rattle.bank_rules.specs.Calls.{Lent}
@@ -182,7 +181,7 @@ module _ (given : Lent) (frame : List ℕ) (keeps : sound given.sheet ≡ true) 
       let there : place_in (lies_in (areas given.sheet) (start frame + k)) ≡ place =
       run_place Write given.sheet keeps (start frame) many all k less ∙ (let sum : first + k ≡ place = omega arith in sum) in (
         omega (arith, registers_same frame),
-        writable_plain given.sheet keeps (ap (lies_in (areas given.sheet)) (address_same frame k) ∙ one.at ∙ ap (λ (n : ℕ). At n one.access) there)
+        writable_plain given.sheet keeps (ap (lies_in (areas given.sheet)) (address_same frame k) ∙ one.at ∙ ap (λ (n : ℕ). found_at n one.access) there)
             one.permitted,
       )
 

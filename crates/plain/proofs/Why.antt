@@ -9,6 +9,7 @@ use native.Mathlib.Omega.{arith}
 use lib.Dec.{eqb}
 use lib.ListN.{length}
 use borrow.Author.Tests.{eqb-true, eqb-false, eq-eqb, ne_eqb, lt-ltb, ltb-true, not-true}
+use Rattle.std.specs.Prelude.{Option, None}
 use Rattle.lists.specs.Cases.{Case, when, first_case}
 use Rattle.lists.proofs.Tests.{first_of, second_of_lem}
 use Rattle.sheet_rules.specs.declared.Purpose.TheVariants.{Write}
@@ -20,11 +21,11 @@ use Rattle.meter_rules.specs.Steps.{other_station, function_not_allowed, wrong_l
 use Rattle.meter_rules.specs.Write.{some_bad}
 use Rattle.meter_rules.proofs.Order.{write_value, write_bad}
 use Rattle.meter_rules.proofs.Soundness.{open_write}
-use Rattle.why_rules.specs.declared.Reason.{Reason}
-use Rattle.why_rules.specs.declared.Reason.TheVariants.{None, TooShort, TooLong, Check, Station, Function, BodyLength, Count, Address, ClearValue, Item}
 use Rattle.why_rules.specs.Facts.{too_short, too_long, check_differs, reads_too_many, bad_count, shut_address, first_bad_address, first_bad_item, first_bad_side}
 use Rattle.why_rules.specs.Reasons.{reason_number, reason_address, reason_side, reason_of}
 use Rattle.why_rules.proofs.Parts.{wrong_address_lem}
+use Rattle.why_rules.specs.declared.Reason.{Reason}
+use Rattle.why_rules.specs.declared.Reason.TheVariants.{TooShort, TooLong, Check, Station, Function, BodyLength, Count, Address, ClearValue, Item}
 use Rattle.plain.specs.Numbers.{Bytes}
 use Rattle.plain.specs.Frame as plain
 use Rattle.plain.specs.Frame.{Whole, RightCount, RightAddress, Fate, silence, error, good, Gets}
@@ -79,7 +80,7 @@ module _ (given : Lent) (frame : List ℕ) (passed : Passed given) (bytes : Byte
   -- ---- what is told is so
 
   -- a reason, in plain numbers
-  abbrev Plainly : Reason → Type 0
+  abbrev Plainly : Option Reason → Type 0
   Plainly reason = Why given frame (reason_number reason) (reason_address reason) (reason_side reason)
 
   pub why_so : Why given frame (reason_number (reason_of given frame)) (reason_address (reason_of given frame)) (reason_side (reason_of given frame))
@@ -139,7 +140,7 @@ module _ (given : Lent) (frame : List ℕ) (passed : Passed given) (bytes : Byte
       (sym (wrong_address_lem given frame) ∙ (address_tells given passed.right bytes frame).wrongly right)
 
   -- the facts that are left for a frame that passed as far as its function, and as far as its count
-  abbrev behind_count : List (Case Reason)
+  abbrev behind_count : List (Case (Option Reason))
   behind_count =
       when (shut_address given frame) (Address (first_bad_address given.sheet frame)) ∷ when (wrong_value frame) ClearValue
       ∷ when (bad_write given frame) (Item (first_bad_item given frame) (first_bad_side given frame)) ∷ []
@@ -161,7 +162,7 @@ module _ (given : Lent) (frame : List ℕ) (passed : Passed given) (bytes : Byte
 
   -- the reason that plain numbers give is the one by the facts
   reason_is : {number at side : ℕ} → Why given frame number at side
-      → (reason : Reason) × (reason_of given frame ≡ reason) × (number ≡ reason_number reason) × (at ≡ reason_address reason) × (side ≡ reason_side reason)
+      → (reason : Option Reason) × (reason_of given frame ≡ reason) × (number ≡ reason_number reason) × (at ≡ reason_address reason) × (side ≡ reason_side reason)
   unfolding reason_of first_case
   reason_is (by_too_short short) = (TooShort, simp (lt-ltb (length frame) 4 short), refl, refl, refl)
   reason_is (by_too_long long) =

@@ -7,6 +7,7 @@ use Prim.Native.Nat.{ℕ, ◌+◌, ◌-◌, ◌*◌, ◌≤◌, ◌<◌}
 use native.Mathlib.Omega.{arith}
 use lib.Dec.{ltb, eqb}
 use borrow.Author.Tests.{eqb-true, eqb-false, eq-eqb, lt-ltb, le-leb, ltb-true, ltb-false, not-true, not-false}
+use Rattle.std.specs.Prelude.{None}
 use Rattle.range.specs.Range.{in_range}
 use Rattle.lists.proofs.Tests.{first_of, second_of_lem}
 use Rattle.lists.proofs.Among.{Among}
@@ -25,7 +26,6 @@ use Rattle.meter_rules.specs.declared.Judged.{Judged}
 use Rattle.meter_rules.specs.declared.Judged.TheVariants.{FailsCheck, OtherStation, FunctionNotAllowed, WrongLength, WrongCount, WrongAddress, WrongValue, BadItem, GoodRead, GoodRecord, GoodClear, GoodWrite}
 use Rattle.meter_rules.specs.Reply.{stores_of}
 use Rattle.meter_rules.specs.Write.{first_place, in_run, would_be, touched, bad_item, some_bad, stop_of, stop_place, stop_side, run_stores}
-use Rattle.meter_rules.specs.declared.Stop.TheVariants.{NoBadItem}
 use Rattle.meter_rules.proofs.Judging.{run_above}
 use Rattle.meter_rules.proofs.Stopping.{stores_to, run_below, stops_at}
 use Rattle.meter_rules.proofs.Keeping as keeping
@@ -91,7 +91,7 @@ module _ (given : Lent) (frame : List ℕ) (passed : Passed given) (all : all_op
   unfolding stop_of bad_item good_by in_range
   stored_front k place is = go (keeping.stop_at first (count frame) given.bank frame (items given.sheet))
     where
-      go : (stop_of given frame ≡ NoBadItem)
+      go : (stop_of given frame ≡ None)
           ⊎ ((item : Item) × Among item (items given.sheet) × (bad_item first (count frame) given.bank frame item ≡ true)
           × (stops_at first (count frame) given.bank frame item ≡ stop_of given frame))
           → place < stop

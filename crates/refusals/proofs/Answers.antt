@@ -5,71 +5,70 @@ use mathlib.Core.Bool.{Bool, true, false, cond}
 use mathlib.Core.List.{List, [], ◌∷◌, ◌++◌}
 use Prim.Native.Nat.{ℕ}
 use native.Mathlib.Omega.{arith}
+use Rattle.std.specs.Prelude.{Ok, Err}
 use Rattle.lists.specs.Cases.{Case, first_case, mapped, conditions, NoneOf, InOrder}
 use Rattle.lists.proofs.Cases.{differ, told_in_order}
 use Rattle.refusals.specs.declared.Refusal.{Refusal}
-use Rattle.refusals.specs.declared.Answer.{Answer}
-use Rattle.refusals.specs.declared.Answer.TheVariants.{Done, Refused}
-use Rattle.refusals.specs.Answers.{answer_number, answer_by}
+use Rattle.refusals.specs.Answers.{answer_number, answer_by, Answer, done}
 
 -- a refusal is not done
-pub not_done : {refusal : Refusal} → Refused refusal ≡ Done → ⊥
+pub not_done : {refusal : Refusal} → Err refusal ≡ done → ⊥
 not_done e = let z : ◌≡◌ {A = ℕ} 0 1 = cc in omega arith
 
 -- a call that first makes the check of the refusals in front, and then has further ones
 module _ (front further : List (Case Refusal)) {checked : Answer} (is : checked ≡ answer_by front) where
   -- what that check refuses the call refuses
-  pub front_refuses : {refusal : Refusal} → checked ≡ Refused refusal → answer_by (front ++ further) ≡ Refused refusal
+  pub front_refuses : {refusal : Refusal} → checked ≡ Err refusal → answer_by (front ++ further) ≡ Err refusal
   unfolding first_case
   front_refuses {refusal} told = go front (sym is ∙ told)
     where
-      go : (l : List (Case Refusal)) → answer_by l ≡ Refused refusal → answer_by (l ++ further) ≡ Refused refusal
+      go : (l : List (Case Refusal)) → answer_by l ≡ Err refusal → answer_by (l ++ further) ≡ Err refusal
       go [] e = absurd (not_done (sym e))
       go (this ∷ behind) e = at this.holds e (go behind)
         where
-          at : (holds : Bool) → cond holds (Refused this.outcome) (answer_by behind) ≡ Refused refusal
-              → (answer_by behind ≡ Refused refusal → answer_by (behind ++ further) ≡ Refused refusal)
-              → cond holds (Refused this.outcome) (answer_by (behind ++ further)) ≡ Refused refusal
+          at : (holds : Bool) → cond holds (Err this.outcome) (answer_by behind) ≡ Err refusal
+              → (answer_by behind ≡ Err refusal → answer_by (behind ++ further) ≡ Err refusal)
+              → cond holds (Err this.outcome) (answer_by (behind ++ further)) ≡ Err refusal
           at true e rest = e
           at false e rest = rest e
 
   -- where it refuses nothing, none of those in front holds, and the further ones decide
-  pub front_passes : checked ≡ Done → answer_by (front ++ further) ≡ answer_by further
+  pub front_passes : checked ≡ done → answer_by (front ++ further) ≡ answer_by further
   unfolding first_case
   front_passes told = go front (sym is ∙ told)
     where
-      go : (l : List (Case Refusal)) → answer_by l ≡ Done → answer_by (l ++ further) ≡ answer_by further
+      go : (l : List (Case Refusal)) → answer_by l ≡ done → answer_by (l ++ further) ≡ answer_by further
       go [] e = refl
       go (this ∷ behind) e = at this.holds e (go behind)
         where
-          at : (holds : Bool) → cond holds (Refused this.outcome) (answer_by behind) ≡ Done
-              → (answer_by behind ≡ Done → answer_by (behind ++ further) ≡ answer_by further)
-              → cond holds (Refused this.outcome) (answer_by (behind ++ further)) ≡ answer_by further
+          at : (holds : Bool) → cond holds (Err this.outcome) (answer_by behind) ≡ done
+              → (answer_by behind ≡ done → answer_by (behind ++ further) ≡ answer_by further)
+              → cond holds (Err this.outcome) (answer_by (behind ++ further)) ≡ answer_by further
           at true e rest = absurd (not_done e)
           at false e rest = rest e
 
 -- the next refusal: its condition holds, or it is passed
 module _ (this : Case Refusal) (behind : List (Case Refusal)) where
-  pub refused_here : this.holds ≡ true → answer_by (this ∷ behind) ≡ Refused this.outcome
+  pub refused_here : this.holds ≡ true → answer_by (this ∷ behind) ≡ Err this.outcome
   unfolding first_case
-  refused_here e = ap (λ (holds : Bool). cond holds (Refused this.outcome) (answer_by behind)) e
+  refused_here e = ap (λ (holds : Bool). cond holds (Err this.outcome) (answer_by behind)) e
 
   pub passed_here : this.holds ≡ false → answer_by (this ∷ behind) ≡ answer_by behind
   unfolding first_case
-  passed_here e = ap (λ (holds : Bool). cond holds (Refused this.outcome) (answer_by behind)) e
+  passed_here e = ap (λ (holds : Bool). cond holds (Err this.outcome) (answer_by behind)) e
 
 -- a call that is done: none of its refusals holds
-pub done_none : (refusals : List (Case Refusal)) → answer_by refusals ≡ Done → NoneOf (conditions refusals)
+pub done_none : (refusals : List (Case Refusal)) → answer_by refusals ≡ done → NoneOf (conditions refusals)
 unfolding first_case
 done_none [] e = tt
 done_none (this ∷ behind) e = at this.holds refl e (done_none behind)
   where
-    at : (holds : Bool) → this.holds ≡ holds → cond holds (Refused this.outcome) (answer_by behind) ≡ Done
-        → (answer_by behind ≡ Done → NoneOf (conditions behind)) → NoneOf (conditions (this ∷ behind))
+    at : (holds : Bool) → this.holds ≡ holds → cond holds (Err this.outcome) (answer_by behind) ≡ done
+        → (answer_by behind ≡ done → NoneOf (conditions behind)) → NoneOf (conditions (this ∷ behind))
     at true h e rest = absurd (not_done e)
     at false h e rest = (h, rest e)
 
 -- each number is handed back exactly if its condition holds and none does that comes before it, and 0 exactly if none holds
-pub numbers_in_order : (refusals : List (Case Refusal)) → differ (mapped answer_number (mapped Refused refusals)) ≡ true
-    → InOrder (answer_number (answer_by refusals)) [] (mapped answer_number (mapped Refused refusals))
-numbers_in_order refusals e = told_in_order answer_number (mapped Refused refusals) Done refl e
+pub numbers_in_order : (refusals : List (Case Refusal)) → differ (mapped answer_number (mapped Err refusals)) ≡ true
+    → InOrder (answer_number (answer_by refusals)) [] (mapped answer_number (mapped Err refusals))
+numbers_in_order refusals e = told_in_order answer_number (mapped Err refusals) done refl e

@@ -4,36 +4,35 @@ use mathlib.Core.List.{List, [], ◌∷◌}
 use Prim.Native.Nat.{ℕ, ◌-◌, ◌≤◌}
 use native.Mathlib.Omega.{arith}
 use lib.ListN.{get_or}
+use Rattle.std.specs.Prelude.{Ok, Err}
 use Rattle.refusals.specs.declared.Refusal.{Refusal}
 use Rattle.refusals.specs.declared.Refusal.TheVariants.{BrokenSheet, MisfittingBank, UnsoundBank, SmallBuffer, NotReadOnly, BadInput, BadRing, NoFrame, ReplyDamaged, ReplyStation, ReplyFunction, ReplyBody}
-use Rattle.refusals.specs.declared.Answer.{Answer}
-use Rattle.refusals.specs.declared.Answer.TheVariants.{Done, Refused}
-use Rattle.refusals.specs.Answers.{refusal_number, answer_number}
+use Rattle.refusals.specs.Answers.{refusal_number, answer_number, Answer, done}
 
 -- the answers by their numbers; 1 is none of them
 abbrev answers : List Answer
 answers =
-    Done ∷ Done ∷ Refused BrokenSheet ∷ Refused MisfittingBank ∷ Refused UnsoundBank ∷ Refused SmallBuffer ∷ Refused NotReadOnly
-    ∷ Refused BadInput ∷ Refused BadRing ∷ Refused NoFrame ∷ Refused ReplyDamaged ∷ Refused ReplyStation ∷ Refused ReplyFunction
-    ∷ Refused ReplyBody ∷ []
+    done ∷ done ∷ Err BrokenSheet ∷ Err MisfittingBank ∷ Err UnsoundBank ∷ Err SmallBuffer ∷ Err NotReadOnly
+    ∷ Err BadInput ∷ Err BadRing ∷ Err NoFrame ∷ Err ReplyDamaged ∷ Err ReplyStation ∷ Err ReplyFunction
+    ∷ Err ReplyBody ∷ []
 
 abbrev answer_of : ℕ → Answer
-answer_of number = get_or answers number Done
+answer_of number = get_or answers number done
 
 found : (answer : Answer) → answer_of (answer_number answer) ≡ answer
-found Done = refl
-found (Refused BrokenSheet) = refl
-found (Refused MisfittingBank) = refl
-found (Refused UnsoundBank) = refl
-found (Refused SmallBuffer) = refl
-found (Refused NotReadOnly) = refl
-found (Refused BadInput) = refl
-found (Refused BadRing) = refl
-found (Refused NoFrame) = refl
-found (Refused ReplyDamaged) = refl
-found (Refused ReplyStation) = refl
-found (Refused ReplyFunction) = refl
-found (Refused ReplyBody) = refl
+found (Ok tt) = refl
+found (Err BrokenSheet) = refl
+found (Err MisfittingBank) = refl
+found (Err UnsoundBank) = refl
+found (Err SmallBuffer) = refl
+found (Err NotReadOnly) = refl
+found (Err BadInput) = refl
+found (Err BadRing) = refl
+found (Err NoFrame) = refl
+found (Err ReplyDamaged) = refl
+found (Err ReplyStation) = refl
+found (Err ReplyFunction) = refl
+found (Err ReplyBody) = refl
 
 pub number_tells : (a b : Answer) → answer_number a ≡ answer_number b → a ≡ b
 number_tells a b same = sym (found a) ∙ ap answer_of same ∙ found b

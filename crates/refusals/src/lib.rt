@@ -1,4 +1,4 @@
-// What a call answers: done, or refused and why. specs/ has the numbers of the refusals. There is no code here.
+// Why a call is refused: the error of every call. specs/ has the numbers of the refusals. There is no code here.
 #![tactic(auto)]
 
 // Why a call is refused: rules N2 to N13, in the order of their numbers.
@@ -16,11 +16,4 @@ pub enum Refusal {
     ReplyStation,
     ReplyFunction,
     ReplyBody,
-}
-
-// What a call answers.
-#[derive(Clone, Copy)]
-pub enum Answer {
-    Done,
-    Refused(Refusal),
 }

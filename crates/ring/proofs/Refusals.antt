@@ -6,14 +6,13 @@ use mathlib.Core.List.{List, [], ◌∷◌, map}
 use Prim.Native.Nat.{ℕ, ◌*◌}
 use lib.ListN.{length}
 use borrow.Author.Tests.{eq-eqb, ne_eqb}
+use Rattle.std.specs.Prelude.{Ok, Err}
 use Rattle.words.specs.Words.{with_word}
 use Rattle.lists.specs.Lists.{up_from}
 use Rattle.lists.specs.Cases.{Case, when, first_case}
 use Rattle.refusals.specs.declared.Refusal.{Refusal}
 use Rattle.refusals.specs.declared.Refusal.TheVariants.{BrokenSheet, BadInput, BadRing}
-use Rattle.refusals.specs.declared.Answer.{Answer}
-use Rattle.refusals.specs.declared.Answer.TheVariants.{Done, Refused}
-use Rattle.refusals.specs.Answers.{answer_by}
+use Rattle.refusals.specs.Answers.{answer_by, Answer, done}
 use Rattle.refusals.proofs.Answers.{front_refuses, front_passes, refused_here, passed_here}
 use Rattle.sheet_rules.specs.declared.RecordArea.{RecordArea}
 use Rattle.sheet_rules.specs.Rows.{has_records, record_area}
@@ -38,12 +37,12 @@ module _ (sheet ring bytes : List ℕ) where
   bad_bytes = when (wrong_record (record_area sheet) bytes) BadInput
 
   module _ {checked : Answer} (is : checked ≡ sheet_answer sheet) where
-    pub sheet_refused : {refusal : Refusal} → checked ≡ Refused refusal → add_answer sheet ring bytes ≡ Refused refusal
+    pub sheet_refused : {refusal : Refusal} → checked ≡ Err refusal → add_answer sheet ring bytes ≡ Err refusal
     unfolding add_answer
     sheet_refused told = front_refuses (sheet_refusals sheet) (no_area ∷ bad_ring_lem ∷ bad_bytes ∷ []) is told
 
-    module _ (told : checked ≡ Done) where
-      pub area_refused : has_records sheet ≡ false → add_answer sheet ring bytes ≡ Refused BrokenSheet
+    module _ (told : checked ≡ done) where
+      pub area_refused : has_records sheet ≡ false → add_answer sheet ring bytes ≡ Err BrokenSheet
       unfolding add_answer
       area_refused none =
           front_passes (sheet_refusals sheet) (no_area ∷ bad_ring_lem ∷ bad_bytes ∷ []) is told
@@ -56,7 +55,7 @@ module _ (sheet ring bytes : List ℕ) where
             front_passes (sheet_refusals sheet) (no_area ∷ bad_ring_lem ∷ bad_bytes ∷ []) is told
             ∙ passed_here no_area (bad_ring_lem ∷ bad_bytes ∷ []) (ap not has)
 
-        pub ring_refused : ring_sound (record_area sheet) ring ≡ false → add_answer sheet ring bytes ≡ Refused BadRing
+        pub ring_refused : ring_sound (record_area sheet) ring ≡ false → add_answer sheet ring bytes ≡ Err BadRing
         ring_refused bad = behind_area ∙ refused_here bad_ring_lem (bad_bytes ∷ []) (ap not (fits_by_records sheet ring has ∙ bad))
 
         -- the record's bytes, by the area at hand
@@ -64,14 +63,14 @@ module _ (sheet ring bytes : List ℕ) where
           behind_ring : add_answer sheet ring bytes ≡ answer_by (bad_bytes ∷ [])
           behind_ring = behind_area ∙ passed_here bad_ring_lem (bad_bytes ∷ []) (ap not (fits_by_records sheet ring has ∙ whole))
 
-          pub bytes_refused : (length bytes ≡ 2 * records.words → ⊥) → add_answer sheet ring bytes ≡ Refused BadInput
+          pub bytes_refused : (length bytes ≡ 2 * records.words → ⊥) → add_answer sheet ring bytes ≡ Err BadInput
           bytes_refused other =
               behind_ring
               ∙ refused_here bad_bytes []
               (ap not (ne_eqb (length bytes) (2 * (record_area sheet).words)
               (λ same. other (same ∙ sym (ap (λ (r : RecordArea). 2 * r.words) area)))))
 
-          pub add_passes : length bytes ≡ 2 * records.words → add_answer sheet ring bytes ≡ Done
+          pub add_passes : length bytes ≡ 2 * records.words → add_answer sheet ring bytes ≡ done
           unfolding first_case
           add_passes same =
               behind_ring
@@ -80,18 +79,18 @@ module _ (sheet ring bytes : List ℕ) where
 
   -- ---- what is left
 
-  pub outcome_refused : {refused : Answer} {refusal : Refusal} → refused ≡ Refused refusal → add_answer sheet ring bytes ≡ Refused refusal
+  pub outcome_refused : {refused : Answer} {refusal : Refusal} → refused ≡ Err refusal → add_answer sheet ring bytes ≡ Err refusal
       → ring_outcome refused ring ≡ add_outcome sheet ring bytes
   unfolding add_outcome stored
   outcome_refused told is =
       ap (λ (a : Answer). ring_outcome a ring) told
       ∙ ap (λ (a : Answer). ring_outcome a (stored ring (effect_of a (add_stores (record_area sheet) ring bytes)))) (sym is)
 
-  pub outcome_done : {made : List ℕ} {records : RecordArea} → add_answer sheet ring bytes ≡ Done → records ≡ record_area sheet → made ≡ added records ring bytes
-      → ring_outcome Done made ≡ add_outcome sheet ring bytes
+  pub outcome_done : {made : List ℕ} {records : RecordArea} → add_answer sheet ring bytes ≡ done → records ≡ record_area sheet → made ≡ added records ring bytes
+      → ring_outcome done made ≡ add_outcome sheet ring bytes
   unfolding add_outcome added
   outcome_done is area e =
-      ap (ring_outcome Done) (e ∙ ap (λ (r : RecordArea). added r ring bytes) area)
+      ap (ring_outcome done) (e ∙ ap (λ (r : RecordArea). added r ring bytes) area)
       ∙ ap (λ (a : Answer). ring_outcome a (stored ring (effect_of a (add_stores (record_area sheet) ring bytes)))) (sym is)
 
 -- the record's words, then the place, then the count

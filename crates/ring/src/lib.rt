@@ -6,7 +6,7 @@ ghost use Rattle.sheet_rules.specs.Rows.{record_area};
 ghost use Rattle.ring_rules.specs.Ring.{ring_bytes, ring_sound, next_place, next_count, added};
 ghost use Rattle.ring_rules.specs.Calls.{ring_fits, ring_answer, add_outcome, ring_outcome};
 
-use refusals::{Answer, Refusal};
+use refusals::Refusal;
 use sheet_rules::RecordArea;
 
 mod record_words;
@@ -57,17 +57,14 @@ pub fn fits(sheet: &[u8], ring: &[u8]) -> bool
 }
 
 // The refusals of every call with a ring: a sheet that breaks a rule, and a ring that does not go with it.
-pub fn check(sheet: &[u8], ring: &[u8]) -> Answer
+pub fn check(sheet: &[u8], ring: &[u8]) -> Result<(), Refusal>
     ensures { result ≡ ring_answer sheet.now ring.now }
 {
-    let checked = sheet::check(sheet);
-    let Answer::Done = checked else {
-        return checked;
-    };
+    sheet::check(sheet)?;
     if !fits(sheet, ring) {
-        return Answer::Refused(Refusal::BadRing);
+        return Err(Refusal::BadRing);
     }
-    Answer::Done
+    Ok(())
 }
 
 // The place of the next record: rule T30.
@@ -107,23 +104,20 @@ fn store_added(records: RecordArea, ring: &mut [u8], bytes: &[u8])
 }
 
 // Adds a record: rules T30 to T33.
-pub fn add(sheet: &[u8], ring: &mut [u8], bytes: &[u8]) -> Answer
+pub fn add(sheet: &[u8], ring: &mut [u8], bytes: &[u8]) -> Result<(), Refusal>
     ensures { ring_outcome result ring.new ≡ add_outcome sheet.now ring.old bytes.now }
 {
-    let checked = sheet::check(sheet);
-    let Answer::Done = checked else {
-        return checked;
-    };
+    sheet::check(sheet)?;
     if !rows::has_records(sheet) {
-        return Answer::Refused(Refusal::BrokenSheet);
+        return Err(Refusal::BrokenSheet);
     }
     if !sound_in(sheet, ring) {
-        return Answer::Refused(Refusal::BadRing);
+        return Err(Refusal::BadRing);
     }
     let records = rows::record_area(sheet);
     if bytes.len() != 2 * (records.words as usize) {
-        return Answer::Refused(Refusal::BadInput);
+        return Err(Refusal::BadInput);
     }
     store_added(records, ring, bytes);
-    Answer::Done
+    Ok(())
 }

@@ -3,8 +3,7 @@ use Rattle.std.specs.Prelude.{ℕ, Bool, not, cond, List, [], ◌∷◌, eqb, le
 use Rattle.lists.specs.Cases.{Case, when}
 use Rattle.refusals.specs.declared.Refusal.{Refusal}
 use Rattle.refusals.specs.declared.Refusal.TheVariants.{BrokenSheet, BadInput, BadRing}
-use Rattle.refusals.specs.declared.Answer.{Answer}
-use Rattle.refusals.specs.Answers.{answer_by}
+use Rattle.refusals.specs.Answers.{answer_by, Answer}
 use Rattle.sheet_rules.specs.Rows.{has_records, record_area}
 use Rattle.sheet_rules.specs.Rules.{broken_sheet}
 use Rattle.bank_rules.specs.Stores.{Store, stored}

@@ -8,25 +8,21 @@ mod area_rows;
 mod item_rows;
 mod record_rows;
 
-use header::Checked;
-use refusals::{Answer, Refusal};
+use refusals::Refusal;
 
 // Whether a sheet breaks a rule: its header, its areas, its items with the address and the rate, then its record area.
-pub fn check(sheet: &[u8]) -> Answer
+pub fn check(sheet: &[u8]) -> Result<(), Refusal>
     ensures { result ≡ sheet_answer sheet.now }
 {
-    let checked = header::check(sheet);
-    let Checked::Sound(header) = checked else {
-        return Answer::Refused(Refusal::BrokenSheet);
-    };
+    let header = header::check(sheet).ok_or(Refusal::BrokenSheet)?;
     if !area_rows::areas_sound(sheet, header) {
-        return Answer::Refused(Refusal::BrokenSheet);
+        return Err(Refusal::BrokenSheet);
     }
     if !item_rows::items_and_settings_sound(sheet, header) {
-        return Answer::Refused(Refusal::BrokenSheet);
+        return Err(Refusal::BrokenSheet);
     }
     if !record_rows::records_sound(sheet, header) {
-        return Answer::Refused(Refusal::BrokenSheet);
+        return Err(Refusal::BrokenSheet);
     }
-    Answer::Done
+    Ok(())
 }

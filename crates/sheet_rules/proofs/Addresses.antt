@@ -7,19 +7,19 @@ use Prim.Native.Nat.{ℕ, zero, suc, ◌+◌, ◌-◌, ◌*◌, ◌≤◌, ◌<�
 use native.Mathlib.Omega.{arith}
 use lib.Dec.{leb, ltb}
 use borrow.Author.Tests.{le-leb, lt-leb, lt-ltb, le-ltb, eqb-true, leb-true, leb-false, ltb-true, ltb-false}
+use Rattle.std.specs.Prelude.{Option, None, Some}
 use Rattle.words.specs.Words.{Bytes}
 use Rattle.words.proofs.Small.{word_below}
 use Rattle.sheet_rules.specs.declared.Area.{Area}
-use Rattle.sheet_rules.specs.declared.Lies.{Lies}
-use Rattle.sheet_rules.specs.declared.Lies.TheVariants.{At, Nowhere}
 use Rattle.sheet_rules.specs.Rows.{areas, area_count, area_at, bank_words}
 use Rattle.lists.specs.Lists.{each, some}
 use Rattle.sheet_rules.specs.Rules.{first_last_rule, areas_ascend, places_follow, lengths_sum, length_of, in_area, place_in_area, sound}
-use Rattle.sheet_rules.specs.Lookup.{lies_in, address_of}
+use Rattle.sheet_rules.specs.Lookup.{lies_in, address_of, found_at, place_in}
 use Rattle.lists.proofs.Tests.{first_of, second_of_lem}
 use Rattle.lists.proofs.Among.{Among, here, there, among_row, each_among, among_some}
 use Rattle.sheet_rules.proofs.Within.{follow_here, follow_behind, among_above}
 use Rattle.sheet_rules.proofs.Sound.{AreasRules, sound_areas}
+use Rattle.sheet_rules.specs.declared.Lies.{Lies}
 
 -- ---- over any areas that keep the rules
 
@@ -32,24 +32,28 @@ pub record Found (l : List Area) (address place access : ℕ) : Type 0 where
   pub at : place ≡ area.place + (address - area.first)
   pub opened : access ≡ area.access
 
-at_place : {o : Lies} {p q x y : ℕ} → o ≡ At p x → o ≡ At q y → p ≡ q
-at_place e f = cc
+at_place : {o : Option Lies} {p q x y : ℕ} → o ≡ found_at p x → o ≡ found_at q y → p ≡ q
+at_place e f = ap place_in (sym e ∙ f)
 
-at_access : {o : Lies} {p q x y : ℕ} → o ≡ At p x → o ≡ At q y → x ≡ y
-at_access e f = cc
+abbrev access_in : Option Lies → ℕ
+access_in (Some lies) = lies.access
+access_in None = 0
 
-never : {p x : ℕ} → Nowhere ≡ At p x → ⊥
+at_access : {o : Option Lies} {p q x y : ℕ} → o ≡ found_at p x → o ≡ found_at q y → x ≡ y
+at_access e f = ap access_in (sym e ∙ f)
+
+never : {p x : ℕ} → None ≡ found_at p x → ⊥
 never e = let z : ◌≡◌ {A = ℕ} 0 1 = cc in omega arith
 
-pub lies_found : (l : List Area) (address place access : ℕ) → lies_in l address ≡ At place access → Found l address place access
+pub lies_found : (l : List Area) (address place access : ℕ) → lies_in l address ≡ found_at place access → Found l address place access
 unfolding lies_in
 lies_found [] address place access e = absurd (never e)
 lies_found (area ∷ behind) address place access e =
     go (in_area address area) refl e (lies_found behind address place access)
   where
     go : (inside : Bool) → in_area address area ≡ inside
-        → cond inside (At (area.place + (address - area.first)) area.access) (lies_in behind address) ≡ At place access
-        → (lies_in behind address ≡ At place access → Found behind address place access) → Found (area ∷ behind) address place access
+        → cond inside (found_at (area.place + (address - area.first)) area.access) (lies_in behind address) ≡ found_at place access
+        → (lies_in behind address ≡ found_at place access → Found behind address place access) → Found (area ∷ behind) address place access
     go true says e rest =
         record {
           area = area;
@@ -84,7 +88,7 @@ ascend_above area {later} {behind} m e =
 
 -- an address of an area lies there
 pub lies_there : (address : ℕ) {area : Area} {l : List Area} → Among area l → areas_ascend l ≡ true → area.first ≤ address → address ≤ area.last
-    → lies_in l address ≡ At (area.place + (address - area.first)) area.access
+    → lies_in l address ≡ found_at (area.place + (address - area.first)) area.access
 unfolding lies_in
 lies_there address {area} (here {l = behind}) ascend low high =
     simp (le-leb area.first address low, le-leb address area.last high)
@@ -173,7 +177,7 @@ next_area before address {area} (there {b = other} {l = behind} m) follow ascend
 
 -- the next address: its place is the next place
 pub next_place_lem : (before : ℕ) (l : List Area) → places_follow before l ≡ true → areas_ascend l ≡ true → each first_last_rule l ≡ true
-    → (address p q x y : ℕ) → lies_in l address ≡ At p x → lies_in l (address + 1) ≡ At q y → q ≡ p + 1
+    → (address p q x y : ℕ) → lies_in l address ≡ found_at p x → lies_in l (address + 1) ≡ found_at q y → q ≡ p + 1
 unfolding lies_in
 next_place_lem before [] follow ascend order address p q x y e f = absurd (never e)
 next_place_lem before (area ∷ behind) follow ascend order address p q x y e f =
@@ -182,9 +186,9 @@ next_place_lem before (area ∷ behind) follow ascend order address p q x y e f 
     (order_behind area behind order) address p q x y)
   where
     go : (now then : Bool) → in_area address area ≡ now → in_area (address + 1) area ≡ then
-        → cond now (At (area.place + (address - area.first)) area.access) (lies_in behind address) ≡ At p x
-        → cond then (At (area.place + (address + 1 - area.first)) area.access) (lies_in behind (address + 1)) ≡ At q y
-        → (lies_in behind address ≡ At p x → lies_in behind (address + 1) ≡ At q y → q ≡ p + 1) → q ≡ p + 1
+        → cond now (found_at (area.place + (address - area.first)) area.access) (lies_in behind address) ≡ found_at p x
+        → cond then (found_at (area.place + (address + 1 - area.first)) area.access) (lies_in behind (address + 1)) ≡ found_at q y
+        → (lies_in behind address ≡ found_at p x → lies_in behind (address + 1) ≡ found_at q y → q ≡ p + 1) → q ≡ p + 1
     go true true now then e f rest =
         omega (arith, in_low address area now, at_place refl e, at_place refl f)
     go true false now then e f rest =
@@ -216,19 +220,19 @@ next_place_lem before (area ∷ behind) follow ascend order address p q x y e f 
 
 -- ---- over the areas of any bytes: their words are below 10000, so that nothing lies above FFFF
 
-pub lies_word : (sheet : List ℕ) → Bytes sheet → (address p x : ℕ) → lies_in (areas sheet) address ≡ At p x → address < 0x10000
+pub lies_word : (sheet : List ℕ) → Bytes sheet → (address p x : ℕ) → lies_in (areas sheet) address ≡ found_at p x → address < 0x10000
 unfolding areas area_at
 lies_word sheet bytes address p x e =
     let found = lies_found (areas sheet) address p x e in
     let row = among_row (area_at sheet) 0 (area_count sheet) found.among in
     omega (arith, found.high, ap (λ (a : Area). a.last) row.2, word_below sheet bytes (2 * (12 + 4 * (0 + row.0) + 1)))
 
-pub lies_nowhere : (sheet : List ℕ) → Bytes sheet → (address : ℕ) → 0x10000 ≤ address → lies_in (areas sheet) address ≡ Nowhere
+pub lies_nowhere : (sheet : List ℕ) → Bytes sheet → (address : ℕ) → 0x10000 ≤ address → lies_in (areas sheet) address ≡ None
 lies_nowhere sheet bytes address past = go (lies_in (areas sheet) address) refl
   where
-    go : (lies : Lies) → lies_in (areas sheet) address ≡ lies → lies_in (areas sheet) address ≡ Nowhere
-    go (At p x) e = absurd (omega (arith, lies_word sheet bytes address p x e))
-    go Nowhere e = e
+    go : (lies : Option Lies) → lies_in (areas sheet) address ≡ lies → lies_in (areas sheet) address ≡ None
+    go (Some lies) e = absurd (omega (arith, lies_word sheet bytes address lies.place lies.access e))
+    go None e = e
 
 -- ---- over a sound sheet
 
@@ -240,11 +244,11 @@ module _ (sheet : List ℕ) (keeps : sound sheet ≡ true) where
   total = eqb-true (lengths_sum (areas sheet)) (bank_words sheet) rules.total
 
   -- a run of addresses has places one after the other
-  pub next_consecutive : (address p q x y : ℕ) → lies_in (areas sheet) address ≡ At p x → lies_in (areas sheet) (address + 1) ≡ At q y → q ≡ p + 1
+  pub next_consecutive : (address p q x y : ℕ) → lies_in (areas sheet) address ≡ found_at p x → lies_in (areas sheet) (address + 1) ≡ found_at q y → q ≡ p + 1
   next_consecutive = next_place_lem 0 (areas sheet) rules.follow rules.ascend rules.first_last
 
-  pub run_consecutive : (start count : ℕ) → ((k : ℕ) → k ≤ count → (p : ℕ) × (x : ℕ) × (lies_in (areas sheet) (start + k) ≡ At p x))
-      → (p q x y : ℕ) → lies_in (areas sheet) start ≡ At p x → lies_in (areas sheet) (start + count) ≡ At q y → q ≡ p + count
+  pub run_consecutive : (start count : ℕ) → ((k : ℕ) → k ≤ count → (p : ℕ) × (x : ℕ) × (lies_in (areas sheet) (start + k) ≡ found_at p x))
+      → (p q x y : ℕ) → lies_in (areas sheet) start ≡ found_at p x → lies_in (areas sheet) (start + count) ≡ found_at q y → q ≡ p + count
   run_consecutive start zero lie p q x y e f =
       let here_again : start ≡ start + 0 = omega arith in
       omega (arith, at_place e (ap (lies_in (areas sheet)) here_again ∙ f))
@@ -258,14 +262,14 @@ module _ (sheet : List ℕ) (keeps : sound sheet ≡ true) where
       )
 
   -- the address of a place and the place of an address are inverse
-  pub place_address : (address p x : ℕ) → lies_in (areas sheet) address ≡ At p x → address_of (areas sheet) p ≡ address
+  pub place_address : (address p x : ℕ) → lies_in (areas sheet) address ≡ found_at p x → address_of (areas sheet) p ≡ address
   place_address address p x e =
       let found = lies_found (areas sheet) address p x e in
       address_there 0 p found.among rules.follow (omega (arith, found.at))
       (omega (arith, found.at, found.low, found.high))
       ∙ omega (arith, found.at, found.low)
 
-  pub address_lies : (p : ℕ) → p < bank_words sheet → (x : ℕ) × (lies_in (areas sheet) (address_of (areas sheet) p) ≡ At p x)
+  pub address_lies : (p : ℕ) → p < bank_words sheet → (x : ℕ) × (lies_in (areas sheet) (address_of (areas sheet) p) ≡ found_at p x)
   address_lies p inside =
       let own = owned 0 (areas sheet) rules.follow p (omega arith) (omega (arith, total)) in
       let area = own.area in
@@ -273,11 +277,11 @@ module _ (sheet : List ℕ) (keeps : sound sheet ≡ true) where
         area.access,
         ap (lies_in (areas sheet)) (address_there 0 p own.among rules.follow own.low own.high)
             ∙ lies_there (area.first + (p - area.place)) own.among rules.ascend (omega arith) (omega (arith, own.low, own.high))
-            ∙ ap (λ (n : ℕ). At n area.access) back,
+            ∙ ap (λ (n : ℕ). found_at n area.access) back,
       )
 
   -- a place that lies at an address is a place of the bank
-  pub lies_below : (address p x : ℕ) → lies_in (areas sheet) address ≡ At p x → p < bank_words sheet
+  pub lies_below : (address p x : ℕ) → lies_in (areas sheet) address ≡ found_at p x → p < bank_words sheet
   lies_below address p x e =
       let found = lies_found (areas sheet) address p x e in
       omega (arith, found.at, found.low, found.high, among_below 0 found.among rules.follow, total)

@@ -7,24 +7,24 @@ use Prim.Native.Nat.{ℕ, zero, suc, ◌+◌, ◌-◌, ◌≤◌, ◌<◌}
 use native.Mathlib.Omega.{arith}
 use lib.Dec.{leb, ltb}
 use borrow.Author.Tests.{le-leb, lt-leb, leb-true, leb-false, ltb-true}
+use Rattle.std.specs.Prelude.{None}
 use Rattle.lists.specs.Lists.{each, up_from}
 use Rattle.lists.proofs.Walks.{up_on, up_end}
 use Rattle.lists.proofs.Among.{up_among, each_among, up_each}
 use Rattle.lists.proofs.Tests.{first_of, second_of_lem}
 use Rattle.sheet_rules.specs.declared.Area.{Area}
-use Rattle.sheet_rules.specs.declared.Lies.TheVariants.{At, Nowhere}
 use Rattle.sheet_rules.specs.declared.Purpose.{Purpose}
 use Rattle.sheet_rules.specs.declared.Run.{Run}
 use Rattle.sheet_rules.specs.Rows.{areas}
 use Rattle.sheet_rules.specs.Rules.{in_area, first_last_rule, areas_ascend, sound}
-use Rattle.sheet_rules.specs.Lookup.{lies_in}
+use Rattle.sheet_rules.specs.Lookup.{lies_in, found_at}
 use Rattle.sheet_rules.specs.Runs.{permits, opens, all_open, carried, reach, run_from}
 use Rattle.sheet_rules.proofs.Sound.{sound_areas}
 
 -- ---- what lies at an address, in the first area or behind it
 
 lies_within : (area : Area) (behind : List Area) (address : ℕ) → in_area address area ≡ true
-    → lies_in (area ∷ behind) address ≡ At (area.place + (address - area.first)) area.access
+    → lies_in (area ∷ behind) address ≡ found_at (area.place + (address - area.first)) area.access
 unfolding lies_in
 lies_within area behind address inside = simp inside
 
@@ -35,7 +35,7 @@ lies_out area behind address outside = simp outside
 lies_past : (area : Area) (behind : List Area) (address : ℕ) → area.last < address → lies_in (area ∷ behind) address ≡ lies_in behind address
 lies_past area behind address past = lies_out area behind address (simp (lt-leb address area.last past, and-false))
 
-lies_front : (last address : ℕ) (l : List Area) → each (λ later. ltb last later.first) l ≡ true → address ≤ last → lies_in l address ≡ Nowhere
+lies_front : (last address : ℕ) (l : List Area) → each (λ later. ltb last later.first) l ≡ true → address ≤ last → lies_in l address ≡ None
 unfolding lies_in each
 lies_front last address [] above low = refl
 lies_front last address (area ∷ behind) above low =

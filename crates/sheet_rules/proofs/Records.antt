@@ -7,18 +7,18 @@ use Prim.Native.Nat.{ℕ, ◌+◌, ◌≤◌, ◌<◌}
 use native.Mathlib.Omega.{arith}
 use lib.Dec.{leb, ltb}
 use borrow.Author.Tests.{leb-true, ltb-true, le-ltb}
+use Rattle.std.specs.Prelude.{Option, None, Some}
 use Rattle.lists.specs.Lists.{each}
 use Rattle.lists.proofs.Tests.{first_of, second_of_lem}
 use Rattle.lists.proofs.Among.{each_among}
 use Rattle.sheet_rules.specs.declared.Area.{Area}
-use Rattle.sheet_rules.specs.declared.Lies.{Lies}
-use Rattle.sheet_rules.specs.declared.Lies.TheVariants.{At, Nowhere}
 use Rattle.sheet_rules.specs.declared.RecordArea.{RecordArea}
 use Rattle.sheet_rules.specs.Rows.{areas, has_records, record_row, no_records, record_area, clear_address}
 use Rattle.sheet_rules.specs.Rules.{allowed, bit_of05, record_count_rule, record_words_rule, records_end_rule, records_end, in_records, apart_rule, record_clear_rule, records_sound, sound}
-use Rattle.sheet_rules.specs.Lookup.{lies_in}
+use Rattle.sheet_rules.specs.Lookup.{lies_in, found_at}
 use Rattle.sheet_rules.proofs.Addresses.{lies_found}
 use Rattle.sheet_rules.proofs.Sound.{sound_parts, between_low, between_high}
+use Rattle.sheet_rules.specs.declared.Lies.{Lies}
 
 -- ---- the words of it
 
@@ -114,13 +114,13 @@ module _ (sheet : List ℕ) where
       (either (ltb area.last records.first) (leb (records_end records) area.first) apart)
 
   pub record_nowhere : sound sheet ≡ true → (address : ℕ) → in_records address (record_area sheet) ≡ true
-      → lies_in (areas sheet) address ≡ Nowhere
+      → lies_in (areas sheet) address ≡ None
   record_nowhere keeps address inside = go (lies_in (areas sheet) address) refl
     where
-      go : (lies : Lies) → lies_in (areas sheet) address ≡ lies → lies ≡ Nowhere
-      go Nowhere e = refl
-      go (At place access) e =
-          let found = lies_found (areas sheet) address place access e in
+      go : (lies : Option Lies) → lies_in (areas sheet) address ≡ lies → lies ≡ None
+      go None e = refl
+      go (Some lies) e =
+          let found = lies_found (areas sheet) address lies.place lies.access e in
           let rules = records_rules keeps (in_records_has sheet address inside) in
           absurd (shared found.area address (each_among (apart_rule (record_area sheet)) found.among rules.apart) inside found.low found.high)
 

@@ -4,14 +4,14 @@ use mathlib.Core.Path.{◌≡◌, ap, ◌∙◌}
 use mathlib.Core.List.{List, ◌∷◌}
 use Prim.Native.Nat.{ℕ, ◌+◌, ◌-◌, ◌≤◌, ◌<◌}
 use mathlib.Core.Path.{refl, sym}
+use Rattle.std.specs.Prelude.{None}
 use Rattle.sheet_rules.specs.declared.Area.{Area}
 use Rattle.sheet_rules.specs.declared.Purpose.{Purpose}
 use Rattle.sheet_rules.specs.Runs.{carried, reach}
-use Rattle.sheet_rules.specs.declared.Lies.TheVariants.{At, Nowhere}
 use Rattle.lists.specs.Lists.{rows}
 use Rattle.sheet_rules.specs.Rows.{area_count, area_at, areas, item_count, item_at, items}
 use Rattle.sheet_rules.specs.Rules.{in_area}
-use Rattle.sheet_rules.specs.Lookup.{lies_in, place_in}
+use Rattle.sheet_rules.specs.Lookup.{lies_in, place_in, found_at}
 use Rattle.lists.proofs.Walks.{rows_end_lem, rows_on}
 
 -- the area rows from an index on
@@ -30,14 +30,14 @@ items_rows sheet = refl
 module _ (sheet : List ℕ) (address k : ℕ) where
   pub lies_on : (area : Area) → area ≡ area_at sheet k → k < area_count sheet
       → lies_in (areas_from sheet k) address
-      ≡ cond (in_area address area) (At (area.place + (address - area.first)) area.access)
+      ≡ cond (in_area address area) (found_at (area.place + (address - area.first)) area.access)
       (lies_in (areas_from sheet (k + 1)) address)
   unfolding lies_in
   lies_on area here inside =
       ap (λ (l : List Area). lies_in l address)
       (rows_on (area_at sheet) k (area_count sheet) inside ∙ ap (λ (a : Area). a ∷ areas_from sheet (k + 1)) (sym here))
 
-  pub lies_end : area_count sheet ≤ k → lies_in (areas_from sheet k) address ≡ Nowhere
+  pub lies_end : area_count sheet ≤ k → lies_in (areas_from sheet k) address ≡ None
   unfolding lies_in
   lies_end past = ap (λ (l : List Area). lies_in l address) (rows_end_lem (area_at sheet) k (area_count sheet) past)
 
@@ -49,7 +49,7 @@ module _ (sheet : List ℕ) (k : ℕ) (area : Area) (here : area ≡ area_at she
   place_on address = ap place_in (lies_on sheet address k area here inside) ∙ go (in_area address area)
     where
       go : (b : Bool)
-          → place_in (cond b (At (area.place + (address - area.first)) area.access) (lies_in (areas_from sheet (k + 1)) address))
+          → place_in (cond b (found_at (area.place + (address - area.first)) area.access) (lies_in (areas_from sheet (k + 1)) address))
           ≡ cond b (area.place + (address - area.first)) (place_in (lies_in (areas_from sheet (k + 1)) address))
       go true = refl
       go false = refl

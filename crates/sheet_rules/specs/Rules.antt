@@ -8,8 +8,7 @@ use Rattle.sheet_rules.specs.declared.RecordArea.{RecordArea}
 use Rattle.lists.specs.Cases.{Case, when}
 use Rattle.refusals.specs.declared.Refusal.{Refusal}
 use Rattle.refusals.specs.declared.Refusal.TheVariants.{BrokenSheet}
-use Rattle.refusals.specs.declared.Answer.{Answer}
-use Rattle.refusals.specs.Answers.{answer_by}
+use Rattle.refusals.specs.Answers.{answer_by, Answer}
 use Rattle.sheet_rules.specs.Rows.{version, area_count, area_offset, item_count, item_offset, bank_words, functions, sheet_words, address_place, rate_place, clear_address, record_areas, area_rows, item_rows, sheet_end, areas, items, has_records, record_area}
 use Rattle.lists.specs.Lists.{between, each, same_places, some, up_from}
 

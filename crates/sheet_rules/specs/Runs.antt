@@ -1,16 +1,15 @@
 -- What a run of addresses is for, whether each address of it is open to that, and how far the open addresses go: rules J60, J61 and J63.
 -- Assumes nothing.
-use Rattle.std.specs.Prelude.{ℕ, ◌+◌, Bool, false, cond, ◌&&◌, List, [], ◌∷◌}
+use Rattle.std.specs.Prelude.{ℕ, ◌+◌, Bool, false, cond, ◌&&◌, List, [], ◌∷◌, Option, None, Some}
 use Rattle.lists.specs.Lists.{each}
 use Rattle.sheet_rules.specs.declared.Area.{Area}
-use Rattle.sheet_rules.specs.declared.Lies.{Lies}
-use Rattle.sheet_rules.specs.declared.Lies.TheVariants.{At, Nowhere}
 use Rattle.sheet_rules.specs.declared.Purpose.{Purpose}
 use Rattle.sheet_rules.specs.declared.Purpose.TheVariants.{Read, Write}
 use Rattle.sheet_rules.specs.declared.Run.{Run}
 use Rattle.sheet_rules.specs.Rows.{areas}
 use Rattle.sheet_rules.specs.Rules.{readable, writable, in_area}
 use Rattle.sheet_rules.specs.Lookup.{lies_in, place_in}
+use Rattle.sheet_rules.specs.declared.Lies.{Lies}
 
 -- what an access permits: to read, or to write
 abbrev pub permits : Purpose → ℕ → Bool
@@ -18,9 +17,9 @@ permits Read access = readable access
 permits Write access = writable access
 
 -- what lies at an address is open to the purpose; where no place of the bank lies, as at a record's address, nothing is open
-abbrev pub opens : Purpose → Lies → Bool
-opens purpose (At place access) = permits purpose access
-opens purpose Nowhere = false
+abbrev pub opens : Purpose → Option Lies → Bool
+opens purpose (Some lies) = permits purpose lies.access
+opens purpose None = false
 
 unfoldable pub all_open : Purpose → List ℕ → List ℕ → Bool
 all_open purpose sheet addresses = each (λ address. opens purpose (lies_in (areas sheet) address)) addresses

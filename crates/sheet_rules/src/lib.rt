@@ -44,11 +44,11 @@ pub struct RecordArea {
     pub words: u16,
 }
 
-// What lies at an address: rule S29.
+// What lies at an address, where anything does: a place of the bank, with the access of its area. Rule S29.
 #[derive(Clone, Copy)]
-pub enum Lies {
-    At { place: u32, access: u16 },
-    Nowhere,
+pub struct Lies {
+    pub place: u32,
+    pub access: u16,
 }
 
 // What a run of addresses is for.

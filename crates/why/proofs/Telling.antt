@@ -7,6 +7,7 @@ use Prim.Native.Nat.{ℕ, ◌%◌, ◌≤◌, ◌<◌}
 use native.Mathlib.Omega.{arith}
 use lib.Dec.{ltb, eqb}
 use borrow.Author.Tests.{eq-eqb, ne_eqb, eqb-true, eqb-false, lt-ltb, le-ltb, ltb-true, ltb-false}
+use Rattle.std.specs.Prelude.{None, Ok, Err}
 use Rattle.lists.specs.Cases.{when, first_case}
 use Rattle.lists.proofs.Tests.{first_of, second_of_lem}
 use Rattle.sheet_rules.specs.Rows.{areas, clear_address, record_area}
@@ -21,21 +22,16 @@ use Rattle.meter_rules.specs.Steps.{starts_in_records, asked_start, other_statio
 use Rattle.meter_rules.specs.Write.{first_place, some_bad, stop_place, stop_side}
 use Rattle.meter_rules.proofs.Order.{asks_write}
 use Rattle.meter_rules.proofs.Records.{record_count}
-use Rattle.why_rules.specs.declared.Reason.TheVariants.{None, TooShort, TooLong, Check, Station, Function, BodyLength, Count, Address, ClearValue, Item}
 use Rattle.why_rules.specs.Facts.{too_short, too_long, check_differs, reads_too_many, shut_address, first_bad_address, first_bad_item, first_bad_side}
-use Rattle.why_rules.specs.Reasons.{reason_of, explained_by, explanation}
+use Rattle.why_rules.specs.Reasons.{reason_of, explained_by, explanation, Explained}
 use Rattle.why_rules.proofs.Parts.{fails_check_lem, wrong_address_lem, which_shut, read_told, write_told, clear_told}
 use Rattle.why_rules.proofs.FirstAddress.{first_shut_reach}
 use Rattle.why_rules.proofs.FirstItem.{stop_small}
-use Rattle.refusals.specs.declared.Answer.{Answer}
-use Rattle.refusals.specs.declared.Answer.TheVariants as answer
+use Rattle.why_rules.specs.declared.Reason.TheVariants.{TooShort, TooLong, Check, Station, Function, BodyLength, Count, Address, ClearValue, Item}
 use Rattle.meter_rules.proofs.Lending.{lent_passed}
-use Rattle.meter_rules.specs.declared.Judgement.{Judgement}
-use Rattle.meter_rules.specs.declared.Judgement.TheVariants as stopped
-use Rattle.meter_rules.specs.Judgement.{lent_answer, judgement, judgement_by}
-use Rattle.why_rules.specs.declared.Explained.{Explained}
-use Rattle.why_rules.specs.declared.Explained.TheVariants.{Refused, Because}
+use Rattle.meter_rules.specs.Judgement.{lent_answer, judgement, judgement_by, Judgement}
 use Rattle.why.specs.Told.{wrongly_addressed, reason_by}
+use Rattle.refusals.specs.Answers.{Answer}
 
 -- ---- a frame that step 6 stops, function by function
 
@@ -166,8 +162,8 @@ module _ (given : Lent) (keeps : sound given.sheet ≡ true) (frame : List ℕ) 
 
 -- what is told of a judgement
 abbrev pub explained_of : Judgement → List ℕ → List ℕ → Explained
-explained_of (stopped.Refused refusal) sheet frame = Refused refusal
-explained_of (stopped.Stops judged) sheet frame = Because (reason_by judged sheet frame)
+explained_of (Err refusal) sheet frame = Err refusal
+explained_of (Ok judged) sheet frame = Ok (reason_by judged sheet frame)
 
 pub explained : (given : Lent) (frame : List ℕ) → explained_of (judgement given frame) given.sheet frame ≡ explanation given frame
 unfolding judgement explanation
@@ -175,5 +171,5 @@ explained given frame = go (lent_answer given) refl
   where
     go : (answer : Answer) → lent_answer given ≡ answer
         → explained_of (judgement_by answer (judged_frame given frame)) given.sheet frame ≡ explained_by answer (reason_of given frame)
-    go answer.Done e = ap Because (sym (told given (lent_passed given e).0.right frame))
-    go (answer.Refused refusal) e = refl
+    go (Ok tt) e = ap Ok (sym (told given (lent_passed given e).0.right frame))
+    go (Err refusal) e = refl

@@ -6,9 +6,10 @@ ghost use Rattle.bank_rules.specs.Calls.{lent_with};
 ghost use Rattle.why_rules.specs.Reasons.{explanation};
 ghost use Rattle.why.specs.Told.{unpassed, wrongly_addressed, reason_by};
 
-use meter_rules::{Judged, Judgement};
+use meter_rules::Judged;
+use refusals::Refusal;
 use sheet_rules::Purpose;
-use why_rules::{Explained, Reason};
+use why_rules::Reason;
 
 // Which part of step 1 a frame that does not pass fails.
 fn unpassed(frame: &[u8]) -> Reason
@@ -45,38 +46,36 @@ fn wrongly_addressed(sheet: &[u8], frame: &[u8]) -> Reason
 }
 
 // The reason by where a frame stops. The place of an item is a word of the sheet, so nothing is lost of it.
-fn reason_by(judged: Judged, sheet: &[u8], frame: &[u8]) -> Reason
+fn reason_by(judged: Judged, sheet: &[u8], frame: &[u8]) -> Option<Reason>
     ensures { result ≡ reason_by judged sheet.now frame.now }
 {
     match judged {
-        Judged::FailsCheck => unpassed(frame),
-        Judged::OtherStation => Reason::Station,
-        Judged::FunctionNotAllowed => Reason::Function,
-        Judged::WrongLength => Reason::BodyLength,
-        Judged::WrongCount => Reason::Count,
-        Judged::WrongAddress => wrongly_addressed(sheet, frame),
-        Judged::WrongValue => Reason::ClearValue,
+        Judged::FailsCheck => Some(unpassed(frame)),
+        Judged::OtherStation => Some(Reason::Station),
+        Judged::FunctionNotAllowed => Some(Reason::Function),
+        Judged::WrongLength => Some(Reason::BodyLength),
+        Judged::WrongCount => Some(Reason::Count),
+        Judged::WrongAddress => Some(wrongly_addressed(sheet, frame)),
+        Judged::WrongValue => Some(Reason::ClearValue),
         Judged::BadItem {
             first: _,
             stop,
             side,
-        } => Reason::Item {
+        } => Some(Reason::Item {
             address: lookup::address_of(sheet, (stop % 0x10000) as u16),
             side,
-        },
-        Judged::GoodRead { first: _, many: _ } => Reason::None,
-        Judged::GoodRecord { first: _, many: _ } => Reason::None,
-        Judged::GoodClear => Reason::None,
-        Judged::GoodWrite { first: _, many: _ } => Reason::None,
+        }),
+        Judged::GoodRead { first: _, many: _ } => None,
+        Judged::GoodRecord { first: _, many: _ } => None,
+        Judged::GoodClear => None,
+        Judged::GoodWrite { first: _, many: _ } => None,
     }
 }
 
 // Why a frame gets silence or an error, with nothing done: the refusals 2, 3, 4 and 8 in this order, then the reason.
-pub fn why(sheet: &[u8], bank: &[u8], ring: &[u8], frame: &[u8]) -> Explained
+pub fn why(sheet: &[u8], bank: &[u8], ring: &[u8], frame: &[u8]) -> Result<Option<Reason>, Refusal>
     ensures { result ≡ explanation (lent_with sheet.now bank.now ring.now) frame.now }
 {
-    match meter::judge(sheet, bank, ring, frame) {
-        Judgement::Refused(refusal) => Explained::Refused(refusal),
-        Judgement::Stops(judged) => Explained::Because(reason_by(judged, sheet, frame)),
-    }
+    let judged = meter::judge(sheet, bank, ring, frame)?;
+    Ok(reason_by(judged, sheet, frame))
 }

@@ -7,11 +7,10 @@ use Prim.Native.Nat.{ℕ, ◌+◌, ◌<◌}
 use native.Mathlib.Omega.{arith}
 use lib.Dec.{eqb}
 use borrow.Author.Tests.{eq-eqb}
-use Rattle.sheet_rules.specs.declared.Lies.TheVariants.{At}
 use Rattle.sheet_rules.specs.Rows.{areas, bank_words}
 use Rattle.sheet_rules.specs.Rules.{is_pair, writable, sound}
 use Rattle.sheet_rules.proofs.Places.{in_covered}
-use Rattle.sheet_rules.specs.Lookup.{lies_in}
+use Rattle.sheet_rules.specs.Lookup.{lies_in, found_at}
 use Rattle.sheet_rules.proofs.Sound.{sound_numbers}
 use Rattle.sheet_rules.proofs.Addresses.{address_lies}
 use Rattle.bank_rules.specs.Calls.{Lent}
@@ -38,7 +37,7 @@ module _ (given : Lent) (frame : List ℕ) where
       stop_small = omega (arith, stop_below, sound_numbers given.sheet keeps)
 
       -- rule Y21: what lies at the address that is told is the first place of that item, in an area that can be written
-      pub stop_lies : (access : ℕ) × (lies_in (areas given.sheet) (first_bad_item given frame) ≡ At (stop_place given frame) access) × (writable access ≡ true)
+      pub stop_lies : (access : ℕ) × (lies_in (areas given.sheet) (first_bad_item given frame) ≡ found_at (stop_place given frame) access) × (writable access ≡ true)
       stop_lies =
           let found = address_lies given.sheet keeps (stop_place given frame) stop_below in (
             found.0,

@@ -3,11 +3,11 @@
 use mathlib.Core.Path.{refl}
 use mathlib.Core.List.{List, []}
 use Prim.Native.Nat.{ℕ}
+use Rattle.std.specs.Prelude.{None}
 use Rattle.lists.specs.Cases.{mapped, InOrder}
 use Rattle.lists.specs.Lists.{each}
 use Rattle.lists.proofs.Cases.{apart, differ, told_in_order}
 use Rattle.bank_rules.specs.Calls.{Lent}
-use Rattle.why_rules.specs.declared.Reason.TheVariants.{None}
 use Rattle.why_rules.specs.Reasons.{reason_number, facts, reason_of}
 
 pub reasons_in_order : (given : Lent) (frame : List ℕ) → InOrder (reason_number (reason_of given frame)) [] (mapped reason_number (facts given frame))

@@ -8,14 +8,15 @@ use Prim.Native.Nat.{ℕ}
 use lib.Dec.{leb, ltb, eqb}
 use lib.ListN.{length}
 use borrow.Author.Tests.{le-leb, lt-leb, ltb-true, ltb-false, eqb-true, not-true}
+use Rattle.std.specs.Prelude.{Option}
 use Rattle.check_value.specs.Frame.{passes, check_agrees}
 use Rattle.frame.specs.Frame.{reads, clears, most_read, function, start, second, is_write, run}
 use Rattle.sheet_rules.specs.Rows.{clear_address}
 use Rattle.sheet_rules.specs.declared.Purpose.TheVariants.{Read, Write}
-use Rattle.sheet_rules.specs.declared.Lies.{Lies}
 use Rattle.sheet_rules.specs.Runs.{opens, all_open}
 use Rattle.sheet_rules.proofs.Records.{record_nowhere}
 use Rattle.sheet_rules.specs.Rules.{sound}
+use Rattle.sheet_rules.specs.declared.Lies.{Lies}
 use Rattle.bank_rules.specs.Calls.{Lent}
 use Rattle.meter_rules.specs.Steps.{fails_check, starts_in_records, beyond_stored, wrong_count, wrong_address}
 use Rattle.meter_rules.proofs.Records.{record_count, record_shut}
@@ -129,4 +130,4 @@ module _ (given : Lent) (frame : List ℕ) (is : function frame ≡ reads) where
   record_told keeps inside one =
       read_told given.sheet frame is
       ∙ ap (λ (n : ℕ). first_shut Read given.sheet (up_from (start frame) n)) (many_is frame (asks_for frame reads is) ∙ one)
-      ∙ ap (λ (lies : Lies). cond (opens Read lies) 0 (start frame)) (record_nowhere given.sheet keeps (start frame) inside)
+      ∙ ap (λ (lies : Option Lies). cond (opens Read lies) 0 (start frame)) (record_nowhere given.sheet keeps (start frame) inside)

@@ -23,9 +23,8 @@ use Rattle.ring_rules.specs.Calls.{ring_fits}
 use Rattle.meter_rules.specs.Judgement.{lent_answer}
 use Rattle.meter_rules.specs.Write.{bad_item, some_bad, stop_in, stop_place, stop_side}
 use Rattle.meter_rules.proofs.FrameLimits.{Meter, small, allowing, wide, full, pair_upper, other_upper, mark}
-use Rattle.why_rules.specs.declared.Explained.{Explained}
 use Rattle.why_rules.specs.Facts.{first_shut}
-use Rattle.why_rules.specs.Reasons.{reason_of, explanation, explained_number, reason_in, address_in, side_in}
+use Rattle.why_rules.specs.Reasons.{reason_of, explanation, explained_number, reason_in, address_in, side_in, Explained}
 
 -- FFF0 and FFF1 are a pair 18000..30010, at places 0 and 1; FFF2 is the address 1..F7, FFF3 the rate
 abbrev pair_high : Meter

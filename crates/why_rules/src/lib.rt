@@ -3,14 +3,12 @@
 #![tactic(auto)]
 
 use range::Side;
-use refusals::Refusal;
 
-// The reason for silence or an error, none in front, and then in the order in which reasons are told. `address` is the first bad address of a run, or
+// The reason for silence or an error, in the order in which reasons are told. `address` is the first bad address of a run, or
 // that of a clear elsewhere or of a record that is not stored; of an item, the first address of the first bad one, and `side` the side at which the
 // value that this item would have misses its range.
 #[derive(Clone, Copy)]
 pub enum Reason {
-    None,
     TooShort,
     TooLong,
     Check,
@@ -21,11 +19,4 @@ pub enum Reason {
     Address { address: u32 },
     ClearValue,
     Item { address: u32, side: Side },
-}
-
-// What a call that asks for the reason answers: refused, or the reason.
-#[derive(Clone, Copy)]
-pub enum Explained {
-    Refused(Refusal),
-    Because(Reason),
 }

@@ -1,13 +1,11 @@
 -- `bank::post` meets its contract: the check's refusals first, then 7, then 6, then the stores. Assumes nothing.
-use Rattle.std.proofs.Common.{◌≡◌, ℕ, ◌/◌, ◌%◌, ◌<◌, Bool, true, false, not, ◌||◌, List, [], ◌∷◌, length, refl, sym, ap, ◌∙◌, arith, true≢false}
+use Rattle.std.proofs.Common.{◌≡◌, ℕ, ◌/◌, ◌%◌, ◌<◌, Bool, true, false, not, ◌||◌, List, [], ◌∷◌, length, refl, sym, ap, ◌∙◌, arith, true≢false, Err}
 use Rattle.std.proofs.lemmas.Bool.{eqb-false}
 use lib.Dec.{eqb}
 use Rattle.lists.specs.Cases.{Case, when, first_case}
 use Rattle.refusals.specs.declared.Refusal.{Refusal}
 use Rattle.refusals.specs.declared.Refusal.TheVariants.{BadInput, NotReadOnly}
-use Rattle.refusals.specs.declared.Answer.{Answer}
-use Rattle.refusals.specs.declared.Answer.TheVariants.{Done, Refused}
-use Rattle.refusals.specs.Answers.{answer_by}
+use Rattle.refusals.specs.Answers.{answer_by, Answer, done}
 use Rattle.refusals.proofs.Answers.{front_refuses, front_passes, refused_here, passed_here}
 use Rattle.bank_rules.specs.Bank.{posted_run, all_read_only, empty_or_odd, post_stores}
 use Rattle.bank_rules.specs.Calls.{Lent, lent, bad_address, check_refusals, check_answer, post_answer, post_outcome}
@@ -25,8 +23,8 @@ this_address given address bytes = when (bad_address given address bytes) NotRea
 abbrev further : Lent → ℕ → List ℕ → List (Case Refusal)
 further given address bytes = these_bytes bytes ∷ this_address given address bytes ∷ []
 
-module _ (given : Lent) (address : ℕ) (bytes : List ℕ) {checked : Answer} (is : checked ≡ check_answer given) (told : checked ≡ Done) where
-  bytes_refused : empty_or_odd bytes ≡ true → post_answer given address bytes ≡ Refused BadInput
+module _ (given : Lent) (address : ℕ) (bytes : List ℕ) {checked : Answer} (is : checked ≡ check_answer given) (told : checked ≡ done) where
+  bytes_refused : empty_or_odd bytes ≡ true → post_answer given address bytes ≡ Err BadInput
   unfolding post_answer check_answer
   bytes_refused bad =
       front_passes (check_refusals given) (further given address bytes) is told
@@ -39,10 +37,10 @@ module _ (given : Lent) (address : ℕ) (bytes : List ℕ) {checked : Answer} (i
       ∙ passed_here (these_bytes bytes) (this_address given address bytes ∷ []) even
 
   address_refused : empty_or_odd bytes ≡ false → all_read_only given.sheet (posted_run address bytes) ≡ false
-      → post_answer given address bytes ≡ Refused NotReadOnly
+      → post_answer given address bytes ≡ Err NotReadOnly
   address_refused even bad = behind_bytes even ∙ refused_here (this_address given address bytes) [] (ap not bad)
 
-  post_passes : empty_or_odd bytes ≡ false → all_read_only given.sheet (posted_run address bytes) ≡ true → post_answer given address bytes ≡ Done
+  post_passes : empty_or_odd bytes ≡ false → all_read_only given.sheet (posted_run address bytes) ≡ true → post_answer given address bytes ≡ done
   unfolding first_case
   post_passes even right = behind_bytes even ∙ passed_here (this_address given address bytes) [] (ap not right)
 

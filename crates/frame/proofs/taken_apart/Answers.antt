@@ -1,6 +1,5 @@
 -- `frame::taken_apart` meets its contract: a frame that passes, part by part. Assumes nothing.
-use Rattle.std.proofs.Common.{sym, ◌∙◌, length}
-use Rattle.frame.specs.declared.Passed.TheVariants.{Frame}
+use Rattle.std.proofs.Common.{sym, ◌∙◌, length, Some}
 use Rattle.frame.specs.Frame.{passed_frame}
 use Rattle.frame.proofs.taken_apart.Goals as goal
 
@@ -12,7 +11,7 @@ pub returns : goal.returns
 unfolding passed_frame
 returns c =
     simp (sym c.passes.ensures ∙ c.if-not-passes.false)
-    (λ i. Frame (record {
+    (λ i. Some (record {
       station = c.byte_at.ensures i;
       function = c.byte_at-2.ensures i;
       start = c.word_at.ensures i;

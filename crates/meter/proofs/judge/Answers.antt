@@ -1,12 +1,11 @@
 -- `meter::judge` meets its contract: the refusals of the bank's check, then where the frame stops. Assumes nothing.
-use Rattle.std.proofs.Common.{sym, ap, ◌∙◌}
-use Rattle.refusals.specs.declared.Answer.{Answer}
+use Rattle.std.proofs.Common.{sym, ap, ◌∙◌, Ok}
 use Rattle.bank_rules.specs.Calls.{lent_with}
 use Rattle.meter_rules.proofs.Lending.{lent_passed}
-use Rattle.meter_rules.specs.declared.Judgement.TheVariants.{Stops}
 use Rattle.meter_rules.specs.Steps.{judged_frame}
 use Rattle.meter_rules.specs.Judgement.{judgement_by, judgement}
 use Rattle.meter.proofs.judge.Goals as goal
+use Rattle.refusals.specs.Answers.{Answer}
 
 pub returns-in-Refused : goal.returns-in-Refused
 unfolding judgement
@@ -25,4 +24,4 @@ unfolding judgement
 returns c =
     let a = c.args in
     let given = lent_with a.sheet.now a.bank.now a.ring.now in
-    ap Stops c.judged_frame.ensures ∙ ap (λ (answer : Answer). judgement_by answer (judged_frame given a.frame.now)) (sym c.in-Done.is ∙ c.check.ensures)
+    ap Ok c.judged_frame.ensures ∙ ap (λ (answer : Answer). judgement_by answer (judged_frame given a.frame.now)) (sym c.in-Done.is ∙ c.check.ensures)

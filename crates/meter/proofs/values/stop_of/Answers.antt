@@ -4,8 +4,7 @@ use Rattle.std.proofs.Common.{ℕ, ◌<◌, sym, ap, ◌∙◌, arith}
 use Rattle.sheet_rules.specs.declared.Item.{Item}
 use Rattle.sheet_rules.specs.Rows.{item_count, item_row, items}
 use Rattle.sheet_rules.proofs.Sound.{row_counted, row_past, sound_numbers}
-use Rattle.meter_rules.specs.declared.Stop.TheVariants.{StopsAt}
-use Rattle.meter_rules.specs.Write.{stop_in}
+use Rattle.meter_rules.specs.Write.{stop_in, stops_with}
 use Rattle.meter_rules.proofs.Stopping.{stop_skips, stop_past, stop_goes_on, stop_here, stop_none}
 use Rattle.meter.proofs.Writing.{left_inside, left_bad}
 use Rattle.meter.proofs.values.stop_of.Goals as goal
@@ -38,7 +37,7 @@ returns-then-not-inside c =
     let inside = row_counted a.sheet.now c.requires.sheet_value loop.k c.area_count-areas.ensures c.item_end.ensures c.loop-write-test.true in
     let item = c.item_row-item.ensures ∙ ap (λ (n : ℕ). item_row a.sheet.now n loop.k) c.area_count-areas.ensures in
     let bad = left_bad a.write.first a.write.many a.bank.now a.frame.now row c.side_left-side.ensures (sym c.inside.ensures ∙ c.if-not-inside.true) in
-    ap (StopsAt row.place) bad.1
+    ap (stops_with row.place) bad.1
     ∙ stop_here a.write.first a.write.many a.bank.now a.frame.now a.sheet.now loop.k
     (stop_in a.write.first a.write.many a.bank.now a.frame.now (items a.sheet.now)) loop.invariant.same row item inside bad.0
 
