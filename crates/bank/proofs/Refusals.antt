@@ -5,7 +5,7 @@ use mathlib.Core.List.{List}
 use Prim.Native.Nat.{ℕ}
 use Rattle.std.specs.Prelude.{Ok, Err}
 use Rattle.refusals.specs.declared.Refusal.{Refusal}
-use Rattle.refusals.specs.Answers.{Answer, done}
+use Rattle.refusals.specs.Answers.{Answer, call_done}
 use Rattle.bank_rules.specs.Stores.{Store, stored}
 use Rattle.bank_rules.specs.Calls.{bank_outcome, effect_of}
 
@@ -16,6 +16,6 @@ module _ (bank : List ℕ) (stores : List Store) {answer : Answer} where
   outcome_refused told is =
       ap (λ (a : Answer). bank_outcome a bank) told ∙ ap (λ (a : Answer). bank_outcome a (stored bank (effect_of a stores))) (sym is)
 
-  pub outcome_done : {made : List ℕ} → answer ≡ done → made ≡ stored bank stores
-      → bank_outcome done made ≡ bank_outcome answer (stored bank (effect_of answer stores))
-  outcome_done is e = ap (bank_outcome done) e ∙ ap (λ (a : Answer). bank_outcome a (stored bank (effect_of a stores))) (sym is)
+  pub outcome_done : {made : List ℕ} → answer ≡ call_done → made ≡ stored bank stores
+      → bank_outcome call_done made ≡ bank_outcome answer (stored bank (effect_of answer stores))
+  outcome_done is e = ap (bank_outcome call_done) e ∙ ap (λ (a : Answer). bank_outcome a (stored bank (effect_of a stores))) (sym is)

@@ -16,7 +16,7 @@ use Rattle.sheet_rules.specs.Rules.{read_only, sound}
 use Rattle.sheet_rules.specs.Lookup.{lies_in, holds, place_in, found_at}
 use Rattle.lists.proofs.Among.{Among}
 use Rattle.sheet_rules.proofs.Addresses.{place_address, lies_below}
-use Rattle.refusals.specs.Answers.{answer_number, Answer, done}
+use Rattle.refusals.specs.Answers.{answer_number, Answer, call_done}
 use Rattle.refusals.proofs.Answers.{done_none}
 use Rattle.bank_rules.specs.Stores.{Store, word_of, stored}
 use Rattle.bank_rules.specs.Bank.{fits, bank_sound, mark_place, posted_run, all_read_only, empty_or_odd, post_store, post_stores, mark_stores}
@@ -29,11 +29,11 @@ use Rattle.bank_rules.proofs.Inside.{map_among, number_among, posted_read_only, 
 -- ---- any call: its stores where it is done, nothing where it refuses
 
 module _ (bank : List ℕ) (stores : List Store) where
-  pub done_stores : {answer : Answer} → answer ≡ done → stored bank (effect_of answer stores) ≡ stored bank stores
+  pub done_stores : {answer : Answer} → answer ≡ call_done → stored bank (effect_of answer stores) ≡ stored bank stores
   done_stores done = ap (λ (a : Answer). stored bank (effect_of a stores)) done
 
   -- what holds of the bank before, and of the bank after the stores of a call that is done, holds afterwards
-  pub effect_either : (P : List ℕ → Type 0) (answer : Answer) → P bank → (answer ≡ done → P (stored bank stores))
+  pub effect_either : (P : List ℕ → Type 0) (answer : Answer) → P bank → (answer ≡ call_done → P (stored bank stores))
       → P (stored bank (effect_of answer stores))
   unfolding stored
   effect_either P (Ok tt) before after = after refl
@@ -58,17 +58,17 @@ module _ (given : Lent) where
         whole = not-false (bank_sound given.sheet given.bank) none.1.1.0;
       }
 
-  pub check_passed : check_answer given ≡ done → Passed
+  pub check_passed : check_answer given ≡ call_done → Passed
   unfolding check_answer
   check_passed done = passed [] (done_none (check_refusals given) done)
 
-  pub fresh_passed : fresh_answer given ≡ done → (sound given.sheet ≡ true) × (fits given.sheet given.bank ≡ true)
+  pub fresh_passed : fresh_answer given ≡ call_done → (sound given.sheet ≡ true) × (fits given.sheet given.bank ≡ true)
   unfolding fresh_answer
   fresh_passed done =
       let none = done_none (fresh_refusals given) done in
       (not-false (sound given.sheet) none.0, not-false (fits given.sheet given.bank) none.1.0)
 
-  module _ (address : ℕ) (bytes : List ℕ) (done : post_answer given address bytes ≡ done) where
+  module _ (address : ℕ) (bytes : List ℕ) (done : post_answer given address bytes ≡ call_done) where
     none_of_post : NoneOf (conditions (post_refusals given address bytes))
     unfolding post_answer
     none_of_post = done_none (post_refusals given address bytes) done
@@ -82,7 +82,7 @@ module _ (given : Lent) where
     pub post_readable : all_read_only given.sheet (posted_run address bytes) ≡ true
     post_readable = not-false (all_read_only given.sheet (posted_run address bytes)) none_of_post.1.1.1.1.0
 
-  module _ (mark : ℕ) (done : mark_answer given mark ≡ done) where
+  module _ (mark : ℕ) (done : mark_answer given mark ≡ call_done) where
     none_of_mark : NoneOf (conditions (mark_refusals given mark))
     unfolding mark_answer
     none_of_mark = done_none (mark_refusals given mark) done
@@ -95,7 +95,7 @@ module _ (given : Lent) where
 
 -- ---- posting: rules B30 and B31
 
-module _ (given : Lent) (address : ℕ) (bytes : List ℕ) (done : post_answer given address bytes ≡ done) where
+module _ (given : Lent) (address : ℕ) (bytes : List ℕ) (done : post_answer given address bytes ≡ call_done) where
   abbrev sheet : List ℕ
   sheet = given.sheet
 
@@ -178,7 +178,7 @@ module _ (sheet bank : List ℕ) (right : sound sheet ≡ true) (fitting : fits 
   pub mark_apart : (place : ℕ) → (mark_place sheet ≡ place → ⊥) → word_of (stored bank (mark_stores sheet mark)) place ≡ word_of bank place
   mark_apart place apart = mark_stored sheet bank right fitting mark place ∙ simp (ne_eqb (mark_place sheet) place apart)
 
-module _ (given : Lent) (mark : ℕ) (done : mark_answer given mark ≡ done) where
+module _ (given : Lent) (mark : ℕ) (done : mark_answer given mark ≡ call_done) where
   marked : Passed given
   marked = mark_passed given mark done
 

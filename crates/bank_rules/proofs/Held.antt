@@ -17,7 +17,7 @@ use Rattle.sheet_rules.specs.Lookup.{lies_in, holds, found_at}
 use Rattle.lists.proofs.Tests.{first_of, second_of_lem}
 use Rattle.lists.proofs.Among.{Among, some_among, among_row, row_among}
 use Rattle.sheet_rules.proofs.Sound.{sound_areas, sound_parts}
-use Rattle.sheet_rules.proofs.Addresses.{among_below, lies_there, place_address}
+use Rattle.sheet_rules.proofs.Addresses.{among_below, lies_there, place_address, at_access}
 use Rattle.sheet_rules.proofs.Places.{in_covered, covered_once, covered_only}
 
 -- an item holds its first place
@@ -160,8 +160,7 @@ module _ (sheet : List ℕ) (keeps : sound sheet ≡ true) where
       ∙ ap (λ (n : ℕ). found_at n area.access) back in
       let same : address ≡ there_too =
       sym (place_address sheet keeps address place access lies) ∙ place_address sheet keeps there_too place area.access lies_too in
-      let both : found_at place access ≡ found_at place area.access = sym lies ∙ ap (lies_in (areas sheet)) same ∙ lies_too in
-      let equal : access ≡ area.access = cc in
+      let equal : access ≡ area.access = at_access lies (ap (lies_in (areas sheet)) same ∙ lies_too) in
       ap covered_by_items equal ∙ opened
 
   -- a place that lies in an access 1 area is no item's

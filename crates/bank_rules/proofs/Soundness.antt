@@ -11,10 +11,10 @@ use Rattle.bank_rules.specs.Calls.{Lent, effect_of, fresh_answer, post_answer, m
 use Rattle.bank_rules.proofs.FreshBank.{fresh_sound}
 use Rattle.bank_rules.proofs.Values.{sound_mark, sound_kept}
 use Rattle.bank_rules.proofs.Changes.{done_stores, effect_either, fresh_passed, mark_small, post_items, post_mark, mark_items, mark_word}
-use Rattle.refusals.specs.Answers.{Answer, done}
+use Rattle.refusals.specs.Answers.{Answer, call_done}
 
 module _ (given : Lent) where
-  pub fresh_makes_sound : fresh_answer given ≡ done → bank_sound given.sheet (fresh_outcome given).bank ≡ true
+  pub fresh_makes_sound : fresh_answer given ≡ call_done → bank_sound given.sheet (fresh_outcome given).bank ≡ true
   unfolding fresh_outcome
   fresh_makes_sound done =
       let found = fresh_passed given done in
@@ -23,7 +23,7 @@ module _ (given : Lent) where
 
   -- a call that stores nothing where it refuses, and keeps the items and a mark of 0 or 1 where it is done, whatever it answers
   keeps_sound : (answer : Answer) (stores : List Store) → bank_sound given.sheet given.bank ≡ true
-      → (answer ≡ done → bank_sound given.sheet (stored given.bank (effect_of answer stores)) ≡ true)
+      → (answer ≡ call_done → bank_sound given.sheet (stored given.bank (effect_of answer stores)) ≡ true)
       → bank_sound given.sheet (stored given.bank (effect_of answer stores)) ≡ true
   keeps_sound answer stores whole after =
       effect_either given.bank stores (λ left. bank_sound given.sheet left ≡ true) answer whole

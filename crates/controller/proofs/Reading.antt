@@ -5,7 +5,7 @@ use mathlib.Core.List.{List, [], ◌∷◌}
 use Prim.Native.Nat.{ℕ, ◌*◌}
 use lib.Dec.{eqb}
 use lib.ListN.{take, drop}
-use Rattle.std.specs.Prelude.{Err}
+use Rattle.std.specs.Prelude.{Ok, Err}
 use Rattle.lists.specs.Cases.{when, first_case, mapped}
 use Rattle.check_value.specs.Frame.{passes}
 use Rattle.refusals.specs.declared.Refusal.TheVariants.{ReplyFunction, ReplyBody}
@@ -24,7 +24,7 @@ same_body : (n code : ℕ) (reply buffer : List ℕ) (error same brings errs val
     (cond error (Error code) (cond brings (Values n) Done))) reply buffer
     ≡ cond error (reply_outcome (cond errs (Error code) (Err ReplyBody)) buffer)
     (cond (not same) (reply_outcome (Err ReplyFunction) buffer)
-    (cond brings (cond values (reply_outcome (Values n) (laid (take n (drop 3 reply)) buffer)) (reply_outcome (Err ReplyBody) buffer))
+    (cond brings (cond values (reply_outcome (Ok (Values n)) (laid (take n (drop 3 reply)) buffer)) (reply_outcome (Err ReplyBody) buffer))
     (reply_outcome (cond done Done (Err ReplyBody)) buffer)))
 unfolding first_case
 same_body n code reply buffer true true brings true values done = refl

@@ -83,21 +83,21 @@ take_bytes (suc n) (byte ∷ behind) small = bytes_one byte (take n behind) (sma
 
 -- what a reply that is taken says: an error, values, or done
 pub taken_cases : (P : ReplyOutcome → Type 0) (order : Order) (reply buffer : List ℕ)
-    → (is_error order reply ≡ true → P (reply_outcome (Error (code_in reply)) buffer))
-    → (is_error order reply ≡ false → brings_values order ≡ true → P (reply_outcome (Values (2 * word_count order)) (laid (take (2 * word_count order) (drop 3 reply)) buffer)))
-    → (is_error order reply ≡ false → brings_values order ≡ false → P (reply_outcome Done buffer)) → P (read_with (taken order reply) reply buffer)
+    → (is_error order reply ≡ true → P (reply_outcome (Ok (Error (code_in reply))) buffer))
+    → (is_error order reply ≡ false → brings_values order ≡ true → P (reply_outcome (Ok (Values (2 * word_count order))) (laid (take (2 * word_count order) (drop 3 reply)) buffer)))
+    → (is_error order reply ≡ false → brings_values order ≡ false → P (reply_outcome (Ok Done) buffer)) → P (read_with (Ok (taken order reply)) reply buffer)
 taken_cases P order reply buffer erred values done = go (is_error order reply) refl (brings_values order) refl
   where
     go : (error : Bool) → is_error order reply ≡ error → (brings : Bool) → brings_values order ≡ brings
-        → P (read_with (cond error (Error (code_in reply)) (cond brings (Values (2 * word_count order)) Done)) reply buffer)
+        → P (read_with (Ok (cond error (Error (code_in reply)) (cond brings (Values (2 * word_count order)) Done))) reply buffer)
     go true e brings f = erred e
     go false e true f = values e f
     go false e false f = done e f
 
-taken_number : (order : Order) (reply : List ℕ) → reading_number (taken order reply) ≡ 0
+taken_number : (order : Order) (reply : List ℕ) → reading_number (Ok (taken order reply)) ≡ 0
 taken_number order reply = go (is_error order reply) (brings_values order)
   where
-    go : (error brings : Bool) → reading_number (cond error (Error (code_in reply)) (cond brings (Values (2 * word_count order)) Done)) ≡ 0
+    go : (error brings : Bool) → reading_number (Ok (cond error (Error (code_in reply)) (cond brings (Values (2 * word_count order)) Done))) ≡ 0
     go true brings = refl
     go false true = refl
     go false false = refl
@@ -116,7 +116,7 @@ module _ (asked : Asked) (reply buffer : List ℕ) where
       (when (no_frame asked) 9 ∷ when (small_buffer buffer) 5 ∷ when (damaged_reply reply) 10 ∷ when (from_other asked reply) 11
       ∷ when (other_function asked.order reply) 12 ∷ when (not (body_fits asked reply)) 13 ∷ [])
   unfolding reading_of differ
-  reading_numbers = told_in_order reading_number (mapped Err (reply_refusals asked reply buffer)) (taken asked.order reply) (taken_number asked.order reply) refl
+  reading_numbers = told_in_order reading_number (mapped Err (reply_refusals asked reply buffer)) (Ok (taken asked.order reply)) (taken_number asked.order reply) refl
 
   -- the outcome says what was read
   pub reading_told : (reading_outcome asked reply buffer).reading ≡ reading_of asked reply buffer
@@ -124,14 +124,14 @@ module _ (asked : Asked) (reply buffer : List ℕ) where
   reading_told = go (reading_of asked reply buffer)
     where
       go : (r : Result Reading Refusal) → (read_with r reply buffer).reading ≡ r
-      go (Values length) = refl
-      go Done = refl
-      go (Error code) = refl
+      go (Ok (Values length)) = refl
+      go (Ok Done) = refl
+      go (Ok (Error code)) = refl
       go (Err refusal) = refl
 
   -- reading is refused, or the reply is taken
   pub reading_cases : (P : ReplyOutcome → Type 0) → ((refusal : Refusal) → P (reply_outcome (Err refusal) buffer))
-      → (Taken asked reply buffer → P (read_with (taken asked.order reply) reply buffer)) → P (reading_outcome asked reply buffer)
+      → (Taken asked reply buffer → P (read_with (Ok (taken asked.order reply)) reply buffer)) → P (reading_outcome asked reply buffer)
   unfolding reading_outcome reading_of first_case
   reading_cases P refused done =
       go (no_frame asked) refl (small_buffer buffer) refl (damaged_reply reply) refl (from_other asked reply) refl (other_function asked.order reply) refl
@@ -144,7 +144,7 @@ module _ (asked : Asked) (reply buffer : List ℕ) where
           (cond no (Err NoFrame)
           (cond small (Err SmallBuffer)
           (cond damaged (Err ReplyDamaged)
-          (cond other (Err ReplyStation) (cond unknown (Err ReplyFunction) (cond misfits (Err ReplyBody) (taken asked.order reply))))))) reply buffer)
+          (cond other (Err ReplyStation) (cond unknown (Err ReplyFunction) (cond misfits (Err ReplyBody) (Ok (taken asked.order reply)))))))) reply buffer)
       go true a small b damaged c other d unknown e misfits f = refused NoFrame
       go false a true b damaged c other d unknown e misfits f = refused SmallBuffer
       go false a false b true c other d unknown e misfits f = refused ReplyDamaged
@@ -154,7 +154,7 @@ module _ (asked : Asked) (reply buffer : List ℕ) where
       go false a false b false c false d false e false f =
           done record { has = a; large = b; whole = c; ours = d; known = e; fits = f }
 
-  pub taken_is : Taken asked reply buffer → reading_outcome asked reply buffer ≡ read_with (taken asked.order reply) reply buffer
+  pub taken_is : Taken asked reply buffer → reading_outcome asked reply buffer ≡ read_with (Ok (taken asked.order reply)) reply buffer
   unfolding reading_outcome reading_of first_case
   taken_is is = simp (is.has, is.large, is.whole, is.ours, is.known, is.fits)
 

@@ -7,6 +7,7 @@ use native.Mathlib.Omega.{arith}
 use lib.Dec.{eqb, leb}
 use lib.ListN.{length, take, drop}
 use borrow.Author.Tests.{eq-eqb, ne_eqb, eqb-true, le-leb, leb-true, lt-ltb, not-false}
+use Rattle.std.specs.Prelude.{Ok}
 use Rattle.lists.specs.Lists.{between}
 use Rattle.lists.proofs.Tests.{first_of, second_of_lem}
 use Rattle.words.specs.Words.{byte_at}
@@ -45,20 +46,20 @@ module _ (asked : Asked) (reply buffer : List ℕ) (has : no_frame asked ≡ fal
   from_ours = ap not (eq-eqb (station reply) asked.station ours)
 
   reads_as : (otherwise : not (eqb (function reply) (function_of order) || is_error order reply) ≡ false) → body_fits asked reply ≡ true
-      → reading_outcome asked reply buffer ≡ read_with (taken order reply) reply buffer
+      → reading_outcome asked reply buffer ≡ read_with (Ok (taken order reply)) reply buffer
   reads_as known fits =
       taken_is asked reply buffer
       record { has = has; large = large; whole = ap not whole; ours = from_ours; known = known; fits = ap not fits }
 
   pub reads_error : function reply ≡ top_bit_set (function_of order) → length reply ≡ error_length → 1 ≤ code_in reply → code_in reply ≤ most_code
-      → reading_outcome asked reply buffer ≡ reply_outcome (Error (code_in reply)) buffer
+      → reading_outcome asked reply buffer ≡ reply_outcome (Ok (Error (code_in reply))) buffer
   reads_error is long least most =
       let error : is_error order reply ≡ true = eq-eqb (function reply) (top_bit_set (function_of order)) is in
       let same : Bool = eqb (function reply) (function_of order) in
       let code = ap₂ ◌&&◌ (eq-eqb (length reply) error_length long) (ap₂ ◌&&◌ (le-leb 1 (code_in reply) least) (le-leb (code_in reply) most_code most)) in
       reads_as (ap (λ (e : Bool). not (same || e)) error ∙ ap not (or-true same))
       (ap (λ (e : Bool). cond e (error_fits reply) (cond (brings_values order) (values_fit order reply) (done_fits asked reply))) error ∙ code)
-      ∙ ap (λ (e : Bool). read_with (cond e (Error (code_in reply)) (cond (brings_values order) (Values (2 * word_count order)) Done)) reply buffer) error
+      ∙ ap (λ (e : Bool). read_with (Ok (cond e (Error (code_in reply)) (cond (brings_values order) (Values (2 * word_count order)) Done))) reply buffer) error
 
   module _ (is : function reply ≡ function_of order) where
     no_error_lem : is_error order reply ≡ false
@@ -69,21 +70,21 @@ module _ (asked : Asked) (reply buffer : List ℕ) (has : no_frame asked ≡ fal
     same = ap (λ (e : Bool). not (e || is_error order reply)) (eq-eqb (function reply) (function_of order) is)
 
     pub reads_values : brings_values order ≡ true → length reply ≡ 5 + 2 * word_count order → byte_at reply 2 ≡ 2 * word_count order
-        → reading_outcome asked reply buffer ≡ reply_outcome (Values (2 * word_count order)) (laid (take (2 * word_count order) (drop 3 reply)) buffer)
+        → reading_outcome asked reply buffer ≡ reply_outcome (Ok (Values (2 * word_count order))) (laid (take (2 * word_count order) (drop 3 reply)) buffer)
     reads_values brings long counted =
         let fits = ap₂ ◌&&◌ (eq-eqb (length reply) (5 + 2 * word_count order) long) (eq-eqb (byte_at reply 2) (2 * word_count order) counted) in
         reads_as same
         (ap₂ (λ (e b : Bool). cond e (error_fits reply) (cond b (values_fit order reply) (done_fits asked reply))) no_error_lem brings ∙ fits)
-        ∙ ap₂ (λ (e b : Bool). read_with (cond e (Error (code_in reply)) (cond b (Values (2 * word_count order)) Done)) reply buffer) no_error_lem brings
+        ∙ ap₂ (λ (e b : Bool). read_with (Ok (cond e (Error (code_in reply)) (cond b (Values (2 * word_count order)) Done))) reply buffer) no_error_lem brings
 
     pub reads_done : brings_values order ≡ false → length reply ≡ done_length → start reply ≡ address_of order → second reply ≡ second_of order asked.values
-        → reading_outcome asked reply buffer ≡ reply_outcome Done buffer
+        → reading_outcome asked reply buffer ≡ reply_outcome (Ok Done) buffer
     reads_done brings long at second_is =
         let fits = ap₂ ◌&&◌ (ap₂ ◌&&◌ (eq-eqb (length reply) done_length long) (eq-eqb (start reply) (address_of order) at))
         (eq-eqb (second reply) (second_of order asked.values) second_is) in
         reads_as same
         (ap₂ (λ (e b : Bool). cond e (error_fits reply) (cond b (values_fit order reply) (done_fits asked reply))) no_error_lem brings ∙ fits)
-        ∙ ap₂ (λ (e b : Bool). read_with (cond e (Error (code_in reply)) (cond b (Values (2 * word_count order)) Done)) reply buffer) no_error_lem brings
+        ∙ ap₂ (λ (e b : Bool). read_with (Ok (cond e (Error (code_in reply)) (cond b (Values (2 * word_count order)) Done))) reply buffer) no_error_lem brings
 
 -- ---- what is taken fits
 

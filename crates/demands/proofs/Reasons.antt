@@ -10,7 +10,7 @@ use lib.Dec.{eqb}
 use Rattle.std.specs.Prelude.{Ok, Err}
 use Rattle.lists.specs.Cases.{first_case, mapped, InOrder}
 use Rattle.refusals.proofs.Numbers.{refusal_from_two}
-use Rattle.refusals.specs.Answers.{Answer, done}
+use Rattle.refusals.specs.Answers.{Answer, call_done}
 use Rattle.sheet_rules.specs.Rules.{sound}
 use Rattle.bank_rules.specs.Calls.{Lent}
 use Rattle.bank_rules.proofs.Changes.{Passed}
@@ -148,7 +148,7 @@ module _ (given : Lent) (frame buffer : List ℕ) (accepted : Accepted given buf
   both p q = (λ a. q.0 (p.0 a), λ c. p.1 (q.1 c))
 
   -- what is accepted for an answer is for a reason too
-  done : lent_answer given ≡ done
+  done : lent_answer given ≡ call_done
   unfolding lent_answer first_case
   done = simp (accepted.sheet_sound, accepted.bank_fits, accepted.bank_whole, accepted.ring_goes)
 

@@ -30,7 +30,7 @@ use Rattle.cedarskein.specs.Door.{RingTold, Handed}
 use Rattle.demands.specs.Seen.{Accepted, left_by}
 use Rattle.demands.proofs.Calls.{Adds, Answers, adds_is, answers_bytes}
 use Rattle.demands.proofs.Frames.{frame_leaves}
-use Rattle.refusals.specs.Answers.{done}
+use Rattle.refusals.specs.Answers.{call_done}
 
 -- the n-th of numbers from a first one on, seen in a way
 listed : (at : ℕ → ℕ) (first count n : ℕ) → n < count → get_or (map at (up_from first count)) n 0 ≡ at (first + n)
@@ -96,9 +96,9 @@ module _ (sheet ring bytes bank frame buffer : List ℕ) {told : RingTold} (addi
   abbrev given : Lent
   given = lent_with sheet bank told.ring
 
-  done : add_answer sheet ring bytes ≡ done
+  done : add_answer sheet ring bytes ≡ call_done
   unfolding add_outcome
-  done = number_tells (add_answer sheet ring bytes) done (sym (ap (λ (t : RingTold). t.number) (adds_is adding)) ∙ taken)
+  done = number_tells (add_answer sheet ring bytes) call_done (sym (ap (λ (t : RingTold). t.number) (adds_is adding)) ∙ taken)
 
   left_ring : told.ring ≡ (add_outcome sheet ring bytes).ring
   left_ring = ap (λ (t : RingTold). t.ring) (adds_is adding)

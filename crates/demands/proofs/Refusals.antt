@@ -15,7 +15,7 @@ use lib.Dec.{eqb}
 use borrow.Author.Tests.{eqb-true}
 use Rattle.std.specs.Prelude.{Ok, Err}
 use Rattle.lists.proofs.Cases.{told_among, differ}
-use Rattle.refusals.specs.Answers.{refusal_number, answer_number, Answer, done}
+use Rattle.refusals.specs.Answers.{refusal_number, answer_number, Answer, call_done}
 use Rattle.refusals.proofs.Answers.{numbers_in_order}
 use Rattle.sheet_rules.specs.Rules.{broken_sheet, sheet_refusals}
 use Rattle.bank_rules.specs.Stores.{Store, stored}
@@ -136,7 +136,7 @@ module _ (given : Lent) (frame buffer : List ℕ) where
 
       go : (answer : Answer) → Among (answer_number answer) (2 ∷ 3 ∷ 4 ∷ 8 ∷ 5 ∷ 0 ∷ [])
           → Among (answered_number (unless_refused answer given buffer acted).answered) numbers
-      go done m =
+      go call_done m =
           let few : answered_number acted.answered < 2 = omega (arith, acted_number) in
           listed (each_among (λ n. some (eqb n) numbers) (number_among 2 few) refl)
       go (Err refusal) m = listed (each_among (λ n. some (eqb n) numbers) m refl)

@@ -8,6 +8,7 @@ use native.Mathlib.Omega.{arith}
 use lib.Dec.{eqb}
 use lib.ListN.{length, take}
 use borrow.Author.Tests.{eq-eqb, ne_eqb, eqb-true}
+use Rattle.std.specs.Prelude.{Ok}
 use Rattle.lists.specs.Cases.{first_case}
 use Rattle.words.specs.Words.{byte_at}
 use Rattle.frame.specs.Frame.{reads, station, function, start, second}
@@ -43,7 +44,7 @@ module _ (one other : Asked) (reply out : List ℕ) (taken : Taken one reply out
     same_values is brings long counted many =
         reads_values other reply out has taken.large (taken_whole one reply out taken) ours (is ∙ alike.function)
         (ap (λ (f : ℕ). eqb f reads) (sym alike.function) ∙ brings) (long ∙ ap (λ (n : ℕ). 5 + 2 * n) many) (counted ∙ ap (λ (n : ℕ). 2 * n) many)
-        ∙ ap (λ (n : ℕ). reply_outcome (Values (2 * n)) (laid (take (2 * n) (drop 3 reply)) out)) (sym many)
+        ∙ ap (λ (n : ℕ). reply_outcome (Ok (Values (2 * n))) (laid (take (2 * n) (drop 3 reply)) out)) (sym many)
         ∙ sym (reads_values one reply out taken.has taken.large (taken_whole one reply out taken) (taken_ours one reply out taken) is brings long counted)
 
     same_done : function reply ≡ code → brings_values one.order ≡ false → length reply ≡ 8 → start reply ≡ address_of one.order

@@ -8,7 +8,7 @@ use Rattle.lists.specs.Cases.{Case, when, first_case}
 use Rattle.refusals.specs.declared.Refusal.{Refusal}
 use Rattle.refusals.specs.declared.Refusal.TheVariants.{SmallBuffer}
 use Rattle.refusals.proofs.Answers.{front_refuses, front_passes, refused_here, passed_here}
-use Rattle.refusals.specs.Answers.{Answer, done}
+use Rattle.refusals.specs.Answers.{Answer, call_done}
 use Rattle.bank_rules.specs.Calls.{Lent}
 use Rattle.meter_rules.specs.Judgement.{lent_refusals, lent_answer}
 use Rattle.meter_rules.specs.Steps.{judged_frame}
@@ -32,10 +32,10 @@ module _ (given : Lent) (frame buffer : List ℕ) {checked : Answer} (is : check
   unfolding frame_check lent_answer
   answer_refused told = by (front_refuses (lent_refusals given) (small ∷ []) is told)
 
-  pub answer_small : checked ≡ done → small_buffer buffer ≡ true → outcome (Err SmallBuffer) given.bank buffer ≡ answer_outcome given frame buffer
+  pub answer_small : checked ≡ call_done → small_buffer buffer ≡ true → outcome (Err SmallBuffer) given.bank buffer ≡ answer_outcome given frame buffer
   unfolding frame_check lent_answer
   answer_small told few = by (front_passes (lent_refusals given) (small ∷ []) is told ∙ refused_here small [] few)
 
-  pub answer_acted : checked ≡ done → small_buffer buffer ≡ false → acted ≡ answer_outcome given frame buffer
+  pub answer_acted : checked ≡ call_done → small_buffer buffer ≡ false → acted ≡ answer_outcome given frame buffer
   unfolding frame_check lent_answer first_case
   answer_acted told enough = by (front_passes (lent_refusals given) (small ∷ []) is told ∙ passed_here small [] enough)

@@ -29,7 +29,7 @@ use Rattle.meter_rules.specs.Steps.{judged_frame}
 use Rattle.meter_rules.specs.Reply.{reply_to, stores_of}
 use Rattle.frame.specs.Reply.{with_check}
 use Rattle.meter_rules.specs.Answer.{Outcome, answered_number, length_in, rate_in, frame_check, acted_on, answer_outcome}
-use Rattle.refusals.specs.Answers.{done}
+use Rattle.refusals.specs.Answers.{call_done}
 
 -- ---- the two meters of the table
 
@@ -56,11 +56,11 @@ aswe_meter =
     }
 
 -- the fresh words are what the call for a fresh bank makes of that many bytes, here of FF
-pub ux_fresh_made : fresh_outcome (lent ux_meter.sheet (replicate 70 0xFF)) ≡ bank_outcome done (bytes_of ux_meter.fresh)
+pub ux_fresh_made : fresh_outcome (lent ux_meter.sheet (replicate 70 0xFF)) ≡ bank_outcome call_done (bytes_of ux_meter.fresh)
 unfolding bytes_of fresh_outcome fresh_answer fresh_stores low_stores stored first_case sound header_sound areas_sound items_sound settings_sound records_sound each some up_from same_places item_places covered_places places_follow areas_ascend lengths_sum areas items word_at with_word in_range sheet_of
 ux_fresh_made = refl
 
-pub aswe_fresh_made : fresh_outcome (lent aswe_meter.sheet (replicate 92 0xFF)) ≡ bank_outcome done (bytes_of aswe_meter.fresh)
+pub aswe_fresh_made : fresh_outcome (lent aswe_meter.sheet (replicate 92 0xFF)) ≡ bank_outcome call_done (bytes_of aswe_meter.fresh)
 unfolding bytes_of fresh_outcome fresh_answer fresh_stores low_stores stored first_case sound header_sound areas_sound items_sound settings_sound records_sound each some up_from same_places item_places covered_places places_follow areas_ascend lengths_sum areas items word_at with_word in_range sheet_of
 aswe_fresh_made = refl
 

@@ -10,7 +10,7 @@ use Rattle.lists.proofs.Cases.{differ}
 use Rattle.refusals.specs.declared.Refusal.{Refusal}
 use Rattle.refusals.specs.declared.Refusal.TheVariants.{BadRing}
 use Rattle.refusals.proofs.Answers.{front_refuses, front_passes, refused_here, passed_here, done_none, numbers_in_order}
-use Rattle.refusals.specs.Answers.{answer_number, Answer, done}
+use Rattle.refusals.specs.Answers.{answer_number, Answer, call_done}
 use Rattle.sheet_rules.specs.Rules.{broken_sheet}
 use Rattle.bank_rules.specs.Calls.{Lent, lent, lent_with, misfitting_bank, unsound_bank, check_refusals, check_answer}
 use Rattle.bank_rules.proofs.Changes.{Passed, passed}
@@ -29,16 +29,16 @@ module _ (sheet bank ring : List ℕ) {checked : Answer} (is : checked ≡ check
   unfolding lent_answer check_answer
   lent_refused told = sym (front_refuses (check_refusals given) (misfits ∷ []) is told)
 
-  pub lent_misfits : checked ≡ done → ring_fits sheet ring ≡ false → Err BadRing ≡ lent_answer given
+  pub lent_misfits : checked ≡ call_done → ring_fits sheet ring ≡ false → Err BadRing ≡ lent_answer given
   unfolding lent_answer check_answer
   lent_misfits told bad = sym (front_passes (check_refusals given) (misfits ∷ []) is told ∙ refused_here misfits [] (ap not bad))
 
-  pub lent_done : checked ≡ done → ring_fits sheet ring ≡ true → done ≡ lent_answer given
+  pub lent_done : checked ≡ call_done → ring_fits sheet ring ≡ true → call_done ≡ lent_answer given
   unfolding lent_answer check_answer first_case
   lent_done told good = sym (front_passes (check_refusals given) (misfits ∷ []) is told ∙ passed_here misfits [] (ap not good))
 
 -- where nothing of them is refused
-pub lent_passed : (given : Lent) → lent_answer given ≡ done → Passed given × (ring_fits given.sheet given.ring ≡ true)
+pub lent_passed : (given : Lent) → lent_answer given ≡ call_done → Passed given × (ring_fits given.sheet given.ring ≡ true)
 unfolding lent_answer
 lent_passed given done =
     let none = done_none (lent_refusals given) done in

@@ -14,7 +14,7 @@ use Rattle.check_value.specs.Frame.{passes}
 use Rattle.frame.specs.Reply.{error_reply, with_check, small_buffer}
 use Rattle.refusals.specs.declared.Refusal.{Refusal}
 use Rattle.refusals.proofs.Numbers.{refusal_from_two}
-use Rattle.refusals.specs.Answers.{answer_number, Answer, done}
+use Rattle.refusals.specs.Answers.{answer_number, Answer, call_done}
 use Rattle.refusals.proofs.Answers.{done_none, numbers_in_order}
 use Rattle.lists.specs.Cases.{when, InOrder}
 use Rattle.lists.proofs.Cases.{differ}
@@ -40,7 +40,7 @@ module _ (given : Lent) (frame buffer : List ℕ) where
   acted = acted_on (judged_frame given frame) given frame buffer
 
   -- a call that is not refused: its sheet is sound, its bank fits it and is sound, and its ring goes with it
-  pub frame_passed : frame_check given buffer ≡ done → Passed given × (ring_fits given.sheet given.ring ≡ true)
+  pub frame_passed : frame_check given buffer ≡ call_done → Passed given × (ring_fits given.sheet given.ring ≡ true)
   unfolding frame_check
   frame_passed done =
       let none = done_none (frame_refusals given buffer) done in

@@ -7,17 +7,17 @@ use lib.ListN.{get_or}
 use Rattle.std.specs.Prelude.{Ok, Err}
 use Rattle.refusals.specs.declared.Refusal.{Refusal}
 use Rattle.refusals.specs.declared.Refusal.TheVariants.{BrokenSheet, MisfittingBank, UnsoundBank, SmallBuffer, NotReadOnly, BadInput, BadRing, NoFrame, ReplyDamaged, ReplyStation, ReplyFunction, ReplyBody}
-use Rattle.refusals.specs.Answers.{refusal_number, answer_number, Answer, done}
+use Rattle.refusals.specs.Answers.{refusal_number, answer_number, Answer, call_done}
 
 -- the answers by their numbers; 1 is none of them
 abbrev answers : List Answer
 answers =
-    done ∷ done ∷ Err BrokenSheet ∷ Err MisfittingBank ∷ Err UnsoundBank ∷ Err SmallBuffer ∷ Err NotReadOnly
+    call_done ∷ call_done ∷ Err BrokenSheet ∷ Err MisfittingBank ∷ Err UnsoundBank ∷ Err SmallBuffer ∷ Err NotReadOnly
     ∷ Err BadInput ∷ Err BadRing ∷ Err NoFrame ∷ Err ReplyDamaged ∷ Err ReplyStation ∷ Err ReplyFunction
     ∷ Err ReplyBody ∷ []
 
 abbrev answer_of : ℕ → Answer
-answer_of number = get_or answers number done
+answer_of number = get_or answers number call_done
 
 found : (answer : Answer) → answer_of (answer_number answer) ≡ answer
 found (Ok tt) = refl

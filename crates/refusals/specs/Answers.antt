@@ -23,8 +23,8 @@ refusal_number ReplyBody = 13
 abbrev pub Answer : Type 0
 Answer = Result Unit Refusal
 
-abbrev pub done : Answer
-done = Ok tt
+abbrev pub call_done : Answer
+call_done = Ok tt
 
 -- rule N0, done
 abbrev pub answer_number : Answer → ℕ
@@ -33,4 +33,4 @@ answer_number (Err refusal) = refusal_number refusal
 
 -- rule N50, the answer of a call by its refusals in their order: the first that holds, or done
 abbrev pub answer_by : List (Case Refusal) → Answer
-answer_by refusals = first_case (mapped Err refusals) done
+answer_by refusals = first_case (mapped Err refusals) call_done

@@ -12,7 +12,7 @@ use Rattle.lists.specs.Lists.{up_from}
 use Rattle.lists.specs.Cases.{Case, when, first_case}
 use Rattle.refusals.specs.declared.Refusal.{Refusal}
 use Rattle.refusals.specs.declared.Refusal.TheVariants.{BrokenSheet, BadInput, BadRing}
-use Rattle.refusals.specs.Answers.{answer_by, Answer, done}
+use Rattle.refusals.specs.Answers.{answer_by, Answer, call_done}
 use Rattle.refusals.proofs.Answers.{front_refuses, front_passes, refused_here, passed_here}
 use Rattle.sheet_rules.specs.declared.RecordArea.{RecordArea}
 use Rattle.sheet_rules.specs.Rows.{has_records, record_area}
@@ -41,7 +41,7 @@ module _ (sheet ring bytes : List ℕ) where
     unfolding add_answer
     sheet_refused told = front_refuses (sheet_refusals sheet) (no_area ∷ bad_ring_lem ∷ bad_bytes ∷ []) is told
 
-    module _ (told : checked ≡ done) where
+    module _ (told : checked ≡ call_done) where
       pub area_refused : has_records sheet ≡ false → add_answer sheet ring bytes ≡ Err BrokenSheet
       unfolding add_answer
       area_refused none =
@@ -70,7 +70,7 @@ module _ (sheet ring bytes : List ℕ) where
               (ap not (ne_eqb (length bytes) (2 * (record_area sheet).words)
               (λ same. other (same ∙ sym (ap (λ (r : RecordArea). 2 * r.words) area)))))
 
-          pub add_passes : length bytes ≡ 2 * records.words → add_answer sheet ring bytes ≡ done
+          pub add_passes : length bytes ≡ 2 * records.words → add_answer sheet ring bytes ≡ call_done
           unfolding first_case
           add_passes same =
               behind_ring
@@ -86,11 +86,11 @@ module _ (sheet ring bytes : List ℕ) where
       ap (λ (a : Answer). ring_outcome a ring) told
       ∙ ap (λ (a : Answer). ring_outcome a (stored ring (effect_of a (add_stores (record_area sheet) ring bytes)))) (sym is)
 
-  pub outcome_done : {made : List ℕ} {records : RecordArea} → add_answer sheet ring bytes ≡ done → records ≡ record_area sheet → made ≡ added records ring bytes
-      → ring_outcome done made ≡ add_outcome sheet ring bytes
+  pub outcome_done : {made : List ℕ} {records : RecordArea} → add_answer sheet ring bytes ≡ call_done → records ≡ record_area sheet → made ≡ added records ring bytes
+      → ring_outcome call_done made ≡ add_outcome sheet ring bytes
   unfolding add_outcome added
   outcome_done is area e =
-      ap (ring_outcome done) (e ∙ ap (λ (r : RecordArea). added r ring bytes) area)
+      ap (ring_outcome call_done) (e ∙ ap (λ (r : RecordArea). added r ring bytes) area)
       ∙ ap (λ (a : Answer). ring_outcome a (stored ring (effect_of a (add_stores (record_area sheet) ring bytes)))) (sym is)
 
 -- the record's words, then the place, then the count

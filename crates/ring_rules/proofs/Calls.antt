@@ -12,7 +12,7 @@ use Rattle.lists.specs.Cases.{Case, when, first_case, mapped, conditions, NoneOf
 use Rattle.lists.proofs.Cases.{differ, first_none}
 use Rattle.refusals.specs.declared.Refusal.{Refusal}
 use Rattle.refusals.specs.declared.Refusal.TheVariants.{BrokenSheet, BadInput, BadRing}
-use Rattle.refusals.specs.Answers.{answer_number, answer_by, Answer, done}
+use Rattle.refusals.specs.Answers.{answer_number, answer_by, Answer, call_done}
 use Rattle.refusals.proofs.Answers.{done_none, numbers_in_order}
 use Rattle.sheet_rules.specs.Rows.{has_records, record_area}
 use Rattle.sheet_rules.specs.Rules.{sound, broken_sheet}
@@ -38,9 +38,9 @@ module _ (sheet ring : List ℕ) where
 
   -- ---- the check of a ring
 
-  pub ring_done : sound sheet ≡ true → ring_fits sheet ring ≡ true → ring_answer sheet ring ≡ done
+  pub ring_done : sound sheet ≡ true → ring_fits sheet ring ≡ true → ring_answer sheet ring ≡ call_done
   unfolding ring_answer
-  ring_done right fitting = first_none (mapped Err (ring_refusals sheet ring)) done (ap not right, (ap not fitting, tt))
+  ring_done right fitting = first_none (mapped Err (ring_refusals sheet ring)) call_done (ap not right, (ap not fitting, tt))
 
   pub ring_numbers : InOrder (answer_number (ring_answer sheet ring)) [] (when (broken_sheet sheet) 2 ∷ when (bad_ring sheet ring) 8 ∷ [])
   unfolding ring_answer differ
@@ -50,10 +50,10 @@ module _ (sheet ring : List ℕ) where
 
 module _ (sheet ring bytes : List ℕ) where
   pub add_done : sound sheet ≡ true → has_records sheet ≡ true → ring_fits sheet ring ≡ true → length bytes ≡ 2 * (record_area sheet).words
-      → add_answer sheet ring bytes ≡ done
+      → add_answer sheet ring bytes ≡ call_done
   unfolding add_answer
   add_done right has fitting size =
-      first_none (mapped Err (add_refusals sheet ring bytes)) done
+      first_none (mapped Err (add_refusals sheet ring bytes)) call_done
       (ap not right, (ap not has, (ap not fitting, (ap not (eq-eqb (length bytes) (2 * (record_area sheet).words) size), tt))))
 
   -- 2 for a sheet that is broken or has no record area, then 8, then 7
@@ -95,7 +95,7 @@ module _ (sheet ring bytes : List ℕ) where
       effect_either ring (add_stores (record_area sheet) ring bytes) (λ left. left ≡ ring) (add_answer sheet ring bytes) refl
       (λ done. absurd (true≢false (sym (ap not other) ∙ (done_none (add_refusals sheet ring bytes) done).1.1.1.0)))
 
-  module _ (done : add_answer sheet ring bytes ≡ done) where
+  module _ (done : add_answer sheet ring bytes ≡ call_done) where
     none : NoneOf (conditions (add_refusals sheet ring bytes))
     unfolding add_answer
     none = done_none (add_refusals sheet ring bytes) done
@@ -124,7 +124,7 @@ module _ (sheet ring bytes : List ℕ) where
         ∙ sound_fits sheet (added (record_area sheet) ring bytes) add_records
         (stays_sound (record_area sheet) ring bytes (fits_sound sheet ring add_records add_fits))
 
-    pub ring_done_again : ring_answer sheet (add_outcome sheet ring bytes).ring ≡ done
+    pub ring_done_again : ring_answer sheet (add_outcome sheet ring bytes).ring ≡ call_done
     ring_done_again = ring_done sheet (add_outcome sheet ring bytes).ring add_sheet add_keeps_fitting
 
     -- record 1 is the added one, and every other one has the next number

@@ -32,14 +32,14 @@ pub record Found (l : List Area) (address place access : ℕ) : Type 0 where
   pub at : place ≡ area.place + (address - area.first)
   pub opened : access ≡ area.access
 
-at_place : {o : Option Lies} {p q x y : ℕ} → o ≡ found_at p x → o ≡ found_at q y → p ≡ q
+pub at_place : {o : Option Lies} {p q x y : ℕ} → o ≡ found_at p x → o ≡ found_at q y → p ≡ q
 at_place e f = ap place_in (sym e ∙ f)
 
 abbrev access_in : Option Lies → ℕ
 access_in (Some lies) = lies.access
 access_in None = 0
 
-at_access : {o : Option Lies} {p q x y : ℕ} → o ≡ found_at p x → o ≡ found_at q y → x ≡ y
+pub at_access : {o : Option Lies} {p q x y : ℕ} → o ≡ found_at p x → o ≡ found_at q y → x ≡ y
 at_access e f = ap access_in (sym e ∙ f)
 
 never : {p x : ℕ} → None ≡ found_at p x → ⊥

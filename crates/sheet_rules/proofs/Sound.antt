@@ -14,7 +14,7 @@ use Rattle.lists.specs.Lists.{between, each}
 use Rattle.sheet_rules.specs.Rules.{version_rule, area_count_rule, area_offset_rule, item_count_rule, item_offset_rule, bank_words_rule, functions_rule, sheet_words_rule, record_areas_rule, byte_length_rule, kind_rule, bounds_rule, low_high_rule, cover_rule, pair_rule, access_rule, write_only_rule, first_last_rule, areas_ascend, places_follow, lengths_sum_rule, clear_address_rule, header_sound, areas_sound, items_sound, settings_sound, records_sound, sound, sheet_refusals, sheet_answer}
 use Rattle.lists.specs.Cases.{when, first_case}
 use Rattle.refusals.specs.declared.Refusal.TheVariants.{BrokenSheet}
-use Rattle.refusals.specs.Answers.{answer_by, done}
+use Rattle.refusals.specs.Answers.{answer_by, call_done}
 use Rattle.refusals.proofs.Answers.{done_none}
 use Rattle.lists.proofs.Tests.{first_of, second_of_lem}
 
@@ -188,13 +188,13 @@ module _ (sheet : List ℕ) (keeps : sound sheet ≡ true) (k : ℕ) {before end
 
 -- ---- what the check of a sheet answers, by whether it is sound, and read back
 
-pub sheet_answered : (sheet : List ℕ) {right : Bool} → sound sheet ≡ right → cond right done (Err BrokenSheet) ≡ sheet_answer sheet
+pub sheet_answered : (sheet : List ℕ) {right : Bool} → sound sheet ≡ right → cond right call_done (Err BrokenSheet) ≡ sheet_answer sheet
 unfolding first_case
 sheet_answered sheet {right} e = go right ∙ ap (λ (b : Bool). answer_by (when (not b) BrokenSheet ∷ [])) (sym e)
   where
-    go : (b : Bool) → cond b done (Err BrokenSheet) ≡ answer_by (when (not b) BrokenSheet ∷ [])
+    go : (b : Bool) → cond b call_done (Err BrokenSheet) ≡ answer_by (when (not b) BrokenSheet ∷ [])
     go true = refl
     go false = refl
 
-pub answered_sound : (sheet : List ℕ) → sheet_answer sheet ≡ done → sound sheet ≡ true
+pub answered_sound : (sheet : List ℕ) → sheet_answer sheet ≡ call_done → sound sheet ≡ true
 answered_sound sheet done = not-false (sound sheet) (done_none (sheet_refusals sheet) done).0

@@ -5,7 +5,7 @@ use lib.Dec.{eqb}
 use Rattle.lists.specs.Cases.{Case, when, first_case}
 use Rattle.refusals.specs.declared.Refusal.{Refusal}
 use Rattle.refusals.specs.declared.Refusal.TheVariants.{BadInput, NotReadOnly}
-use Rattle.refusals.specs.Answers.{answer_by, Answer, done}
+use Rattle.refusals.specs.Answers.{answer_by, Answer, call_done}
 use Rattle.refusals.proofs.Answers.{front_refuses, front_passes, refused_here, passed_here}
 use Rattle.bank_rules.specs.Bank.{posted_run, all_read_only, empty_or_odd, post_stores}
 use Rattle.bank_rules.specs.Calls.{Lent, lent, bad_address, check_refusals, check_answer, post_answer, post_outcome}
@@ -23,7 +23,7 @@ this_address given address bytes = when (bad_address given address bytes) NotRea
 abbrev further : Lent → ℕ → List ℕ → List (Case Refusal)
 further given address bytes = these_bytes bytes ∷ this_address given address bytes ∷ []
 
-module _ (given : Lent) (address : ℕ) (bytes : List ℕ) {checked : Answer} (is : checked ≡ check_answer given) (told : checked ≡ done) where
+module _ (given : Lent) (address : ℕ) (bytes : List ℕ) {checked : Answer} (is : checked ≡ check_answer given) (told : checked ≡ call_done) where
   bytes_refused : empty_or_odd bytes ≡ true → post_answer given address bytes ≡ Err BadInput
   unfolding post_answer check_answer
   bytes_refused bad =
@@ -40,7 +40,7 @@ module _ (given : Lent) (address : ℕ) (bytes : List ℕ) {checked : Answer} (i
       → post_answer given address bytes ≡ Err NotReadOnly
   address_refused even bad = behind_bytes even ∙ refused_here (this_address given address bytes) [] (ap not bad)
 
-  post_passes : empty_or_odd bytes ≡ false → all_read_only given.sheet (posted_run address bytes) ≡ true → post_answer given address bytes ≡ done
+  post_passes : empty_or_odd bytes ≡ false → all_read_only given.sheet (posted_run address bytes) ≡ true → post_answer given address bytes ≡ call_done
   unfolding first_case
   post_passes even right = behind_bytes even ∙ passed_here (this_address given address bytes) [] (ap not right)
 
