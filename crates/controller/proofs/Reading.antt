@@ -21,11 +21,11 @@ use Rattle.controller.specs.Stages.{wanted_of, body_read}
 same_body : (n code : ℕ) (reply buffer : List ℕ) (error same brings errs values done : Bool)
     → read_with
     (first_case (mapped Err (when (not (same || error)) ReplyFunction ∷ when (not (cond error errs (cond brings values done))) ReplyBody ∷ []))
-    (cond error (Error code) (cond brings (Values n) Done))) reply buffer
-    ≡ cond error (reply_outcome (cond errs (Error code) (Err ReplyBody)) buffer)
+    (Ok (cond error (Error code) (cond brings (Values n) Done)))) reply buffer
+    ≡ cond error (reply_outcome (cond errs (Ok (Error code)) (Err ReplyBody)) buffer)
     (cond (not same) (reply_outcome (Err ReplyFunction) buffer)
     (cond brings (cond values (reply_outcome (Ok (Values n)) (laid (take n (drop 3 reply)) buffer)) (reply_outcome (Err ReplyBody) buffer))
-    (reply_outcome (cond done Done (Err ReplyBody)) buffer)))
+    (reply_outcome (cond done (Ok Done) (Err ReplyBody)) buffer)))
 unfolding first_case
 same_body n code reply buffer true true brings true values done = refl
 same_body n code reply buffer true true brings false values done = refl

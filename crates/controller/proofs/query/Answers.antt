@@ -22,14 +22,14 @@ returns-then-buffer-lt-LEAST_BUFFER c =
       lt-ltb (length c.args.buffer.now) least_buffer c.if-buffer-lt-LEAST_BUFFER.true,
     )
 
-pub lay_query-length-requires-clause-head_fits : goal.lay_query-length-requires-clause-head_fits
-lay_query-length-requires-clause-head_fits c =
+pub lay_query-requires-clause-head_fits : goal.lay_query-requires-clause-head_fits
+lay_query-requires-clause-head_fits c =
     let a = c.args in
     let has = sym c.has_no_frame.ensures ∙ c.if-has_no_frame.false in
     subst (HeadFits a.station) (sym c.wanted_of-wanted.ensures) (head_fits (ask a.order a.station a.values.now) has)
 
-pub lay_query-length-requires-clause-values_len_bound : goal.lay_query-length-requires-clause-values_len_bound
-lay_query-length-requires-clause-values_len_bound c same =
+pub lay_query-requires-clause-values_len_bound : goal.lay_query-requires-clause-values_len_bound
+lay_query-requires-clause-values_len_bound c same =
     let a = c.args in
     let has = sym c.has_no_frame.ensures ∙ c.if-has_no_frame.false in
     values_few (ask a.order a.station a.values.now) has (sym (ap (λ (w : Wanted). w.function) c.wanted_of-wanted.ensures) ∙ same)
@@ -39,4 +39,4 @@ returns c =
     let a = c.args in
     let has = sym c.has_no_frame.ensures ∙ c.if-has_no_frame.false in
     built (ask a.order a.station a.values.now) has a.buffer.now (le-ltb (length a.buffer.now) least_buffer c.if-buffer-lt-LEAST_BUFFER.false)
-    (c.lay_query-length.ensures ∙ ap (λ (w : Wanted). laid_query a.station w a.values.now a.buffer.now) c.wanted_of-wanted.ensures)
+    (c.lay_query.ensures ∙ ap (λ (w : Wanted). laid_query a.station w a.values.now a.buffer.now) c.wanted_of-wanted.ensures)

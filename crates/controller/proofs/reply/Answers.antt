@@ -39,11 +39,11 @@ pub returns-then-parts-station : goal.returns-then-parts-station
 unfolding reading_outcome reading_of first_case
 returns-then-parts-station c =
     let a = c.args in
-    let parts = passed_parts a.reply.now c.taken_apart.ensures c.in-Frame.is in
+    let parts = passed_parts a.reply.now c.taken_apart.ensures c.in-Some.is in
     simp (
       sym c.has_no_frame.ensures ∙ c.if-has_no_frame.false,
       le-ltb (length a.buffer.now) least_buffer c.if-buffer-lt-LEAST_BUFFER.false,
-      passed_true a.reply.now c.taken_apart.ensures c.in-Frame.is,
+      passed_true a.reply.now c.taken_apart.ensures c.in-Some.is,
       ne_eqb (station a.reply.now) a.station (λ same. c.if-parts-station.true (ap (λ (p : Parts). p.station) parts ∙ same)),
     )
 
@@ -60,10 +60,10 @@ returns c =
     let reply = a.reply.now in
     let buffer = a.buffer.now in
     let apart = c.taken_apart.ensures in
-    let parts = passed_parts reply apart c.in-Frame.is in
+    let parts = passed_parts reply apart c.in-Some.is in
     let has = sym c.has_no_frame.ensures ∙ c.if-has_no_frame.false in
     c.body_read.ensures
     ∙ ap₂ (λ (w : Wanted) (p : Parts). body_read w p reply buffer) c.wanted_of-wanted.ensures parts
     ∙ reads_body (ask a.order a.station a.values.now) reply buffer has (le-ltb (length buffer) least_buffer c.if-buffer-lt-LEAST_BUFFER.false)
-    (passed_true reply apart c.in-Frame.is)
+    (passed_true reply apart c.in-Some.is)
     (eq-eqb (station reply) a.station (sym (ap (λ (p : Parts). p.station) parts) ∙ c.if-parts-station.false))
