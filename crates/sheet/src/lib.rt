@@ -14,7 +14,9 @@ use refusals::Refusal;
 pub fn check(sheet: &[u8]) -> Result<(), Refusal>
     ensures { result ≡ sheet_answer sheet.now }
 {
-    let header = header::check(sheet).ok_or(Refusal::BrokenSheet)?;
+    let Some(header) = header::check(sheet) else {
+        return Err(Refusal::BrokenSheet);
+    };
     if !area_rows::areas_sound(sheet, header) {
         return Err(Refusal::BrokenSheet);
     }
