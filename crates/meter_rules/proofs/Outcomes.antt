@@ -75,7 +75,7 @@ frame_numbers given buffer = numbers_in_order (frame_refusals given buffer) refl
 
 -- ---- silence, a reply or an error
 
-pub answered_cases : (P : Result Answered Refusal → Type 0) (code n rate : ℕ) → (code ≡ 0 → n ≡ 0 → P Silence) → (code ≡ 0 → (n ≡ 0 → ⊥) → P (Reply n rate))
+pub answered_cases : (P : Answered → Type 0) (code n rate : ℕ) → (code ≡ 0 → n ≡ 0 → P Silence) → (code ≡ 0 → (n ≡ 0 → ⊥) → P (Reply n rate))
     → ((code ≡ 0 → ⊥) → P (Error code rate)) → P (answered_by code n rate)
 answered_cases P code n rate silent replied erred = go (eqb code 0) (eqb n 0) refl refl
   where
@@ -94,27 +94,27 @@ module _ (judged : Judged) (bank ring frame : List ℕ) where
   error_reply_lem some = simp (ne_eqb (error_code judged) 0 some)
 
   module _ (rate : ℕ) where
-    abbrev answers : Result Answered Refusal
+    abbrev answers : Answered
     answers = answered_by (error_code judged) (length (reply_to judged bank ring frame)) rate
 
     -- the length that is handed back is that of the reply, and with number 0 there is one
-    pub answered_length : length_in answers ≡ length (reply_to judged bank ring frame)
+    pub answered_length : length_in (Ok answers) ≡ length (reply_to judged bank ring frame)
     unfolding with_check
     answered_length =
-        answered_cases (λ a. length_in a ≡ length (reply_to judged bank ring frame)) (error_code judged) (length (reply_to judged bank ring frame)) rate
+        answered_cases (λ a. length_in (Ok a) ≡ length (reply_to judged bank ring frame)) (error_code judged) (length (reply_to judged bank ring frame)) rate
         (λ fine none. sym none) (λ fine some. refl) (λ some. sym (ap length (error_reply_lem some)))
 
-    pub answered_some : answered_number answers ≡ 0 → reply_to judged bank ring frame ≡ [] → ⊥
+    pub answered_some : answered_number (Ok answers) ≡ 0 → reply_to judged bank ring frame ≡ [] → ⊥
     unfolding with_check
     answered_some =
-        answered_cases (λ a. answered_number a ≡ 0 → reply_to judged bank ring frame ≡ [] → ⊥) (error_code judged) (length (reply_to judged bank ring frame)) rate
+        answered_cases (λ a. answered_number (Ok a) ≡ 0 → reply_to judged bank ring frame ≡ [] → ⊥) (error_code judged) (length (reply_to judged bank ring frame)) rate
         (λ fine none e. absurd (omega arith)) (λ fine some e none. some (ap length none))
         (λ some e none. omega (arith, ap length (error_reply_lem some), ap length none))
 
     -- it refuses nothing
-    pub answered_takes : answered_number answers ≤ 1
+    pub answered_takes : answered_number (Ok answers) ≤ 1
     answered_takes =
-        answered_cases (λ a. answered_number a ≤ 1) (error_code judged) (length (reply_to judged bank ring frame)) rate
+        answered_cases (λ a. answered_number (Ok a) ≤ 1) (error_code judged) (length (reply_to judged bank ring frame)) rate
         (λ fine none. omega arith) (λ fine some. omega arith) (λ some. omega arith)
 
 -- ---- a reply has 5 to 99 bytes, stands in the first bytes of the buffer, and passes the check
