@@ -10,7 +10,7 @@ use borrow.Author.Rules.{rules}
 use borrow.Author.Tests.{eq-eqb, ne_eqb}
 use denote.Enum.Declared.{tag_of}
 use types.Run.{OneOf, miss}
-use Rattle.std.specs.Prelude.{Result}
+use Rattle.std.specs.Prelude.{Result, Ok}
 use Rattle.lists.specs.Lists.{up_from}
 use Rattle.range.specs.declared.Side.{Side}
 use Rattle.bank_rules.specs.Stores.{stored}
@@ -44,22 +44,22 @@ module _ (judged : Judged) (bank ring frame buffer : List ℕ) (rate : ℕ) (roo
       let whole : fill n after ≡ fill (length reply) (laid reply buffer) = simp room at there in
       (ap (λ (f : Filled). f.length) whole, ap (λ (f : Filled). f.buffer) whole)
 
-  answers : {answered : (Result Answered Refusal)} {reply : List ℕ} → reply_to judged bank ring frame ≡ reply → fill n after ≡ lay_reply reply buffer
-      → answered ≡ answered_by code (length reply) rate → outcome answered bank after ≡ replied judged rate bank ring frame buffer
+  answers : {answered : Answered} {reply : List ℕ} → reply_to judged bank ring frame ≡ reply → fill n after ≡ lay_reply reply buffer
+      → answered ≡ answered_by code (length reply) rate → outcome (Ok answered) bank after ≡ replied judged rate bank ring frame buffer
   unfolding replied
   answers {answered} {reply} is made told =
-      ap₂ (λ (a : Result Answered Refusal) (b : List ℕ). outcome a bank b)
+      ap₂ (λ (a : Answered) (b : List ℕ). outcome (Ok a) bank b)
       (told ∙ ap₂ (λ (k : ℕ) (l : List ℕ). answered_by k (length l) rate) coded (sym is)) (lies is made).1
 
   pub answers_error : (code ≡ 0 → ⊥) → fill n after ≡ lay_reply (with_check (error_reply frame code)) buffer
-      → outcome (Error code rate) bank after ≡ replied judged rate bank ring frame buffer
+      → outcome (Ok (Error code rate)) bank after ≡ replied judged rate bank ring frame buffer
   answers_error some made =
       answers (error_reply_lem judged bank ring frame (λ e. some (coded ∙ e)) ∙ ap (λ (k : ℕ). with_check (error_reply frame k)) (sym coded)) made
       (simp (ne_eqb code 0 some))
 
   -- a good frame, whose reply is some bytes and their check
   pub answers_good : {told : Judged} (bytes : List ℕ) → code ≡ 0 → judged ≡ told → good_reply told bank ring frame ≡ with_check bytes
-      → fill n after ≡ lay_reply (with_check bytes) buffer → outcome (Reply n rate) bank after ≡ replied judged rate bank ring frame buffer
+      → fill n after ≡ lay_reply (with_check bytes) buffer → outcome (Ok (Reply n rate)) bank after ≡ replied judged rate bank ring frame buffer
   answers_good bytes none is reply made =
       let whole = good_reply_lem judged bank ring frame (sym coded ∙ none) ∙ ap (λ (j : Judged). good_reply j bank ring frame) is ∙ reply in
       let long : n ≡ length (with_check bytes) = (lies whole made).0 ∙ ap length whole in
@@ -68,10 +68,10 @@ module _ (judged : Judged) (bank ring frame buffer : List ℕ) (rate : ℕ) (roo
 
 -- a frame that is met with silence
 pub answers_none : (judged : Judged) (bank ring frame buffer : List ℕ) (rate : ℕ) {code : ℕ} → code ≡ error_code judged → code ≡ 0
-    → good_reply judged bank ring frame ≡ [] → outcome Silence bank buffer ≡ replied judged rate bank ring frame buffer
+    → good_reply judged bank ring frame ≡ [] → outcome (Ok Silence) bank buffer ≡ replied judged rate bank ring frame buffer
 unfolding replied
 answers_none judged bank ring frame buffer rate coded none silent =
-    ap₂ (λ (k : ℕ) (l : List ℕ). outcome (answered_by k (length l) rate) bank (laid l buffer)) (sym none ∙ coded)
+    ap₂ (λ (k : ℕ) (l : List ℕ). outcome (Ok (answered_by k (length l) rate)) bank (laid l buffer)) (sym none ∙ coded)
     (sym (good_reply_lem judged bank ring frame (sym coded ∙ none) ∙ silent))
 
 -- the tag of a judgement that no arm for a good frame takes
@@ -206,11 +206,11 @@ module _ (judged : Judged) (given : Lent) (frame buffer : List ℕ) {made : List
   pub room_same : has_room (reply_to judged given.bank given.ring frame) buffer ≡ true → has_room (reply_to judged made given.ring frame) buffer ≡ true
   room_same room = ap (λ (reply : List ℕ). has_room reply buffer) reply_same ∙ room
 
-  pub acts : {answered : (Result Answered Refusal)} {after : List ℕ} {rate : ℕ} → rate ≡ rate_of given.sheet given.bank
-      → outcome answered made after ≡ replied judged rate made given.ring frame buffer → outcome answered made after ≡ acted_on judged given frame buffer
+  pub acts : {answered : Answered} {after : List ℕ} {rate : ℕ} → rate ≡ rate_of given.sheet given.bank
+      → outcome (Ok answered) made after ≡ replied judged rate made given.ring frame buffer → outcome (Ok answered) made after ≡ acted_on judged given frame buffer
   unfolding acted_on replied
   acts {answered} {after} {rate} rated answers =
       answers
-      ∙ ap₂ (λ (reply b : List ℕ). outcome (answered_by (error_code judged) (length reply) rate) b (laid reply buffer)) reply_same stores
-      ∙ ap (λ (r : ℕ). outcome (answered_by (error_code judged) (length (reply_to judged given.bank given.ring frame)) r) (stored given.bank (stores_of judged given.sheet frame))
+      ∙ ap₂ (λ (reply b : List ℕ). outcome (Ok (answered_by (error_code judged) (length reply) rate)) b (laid reply buffer)) reply_same stores
+      ∙ ap (λ (r : ℕ). outcome (Ok (answered_by (error_code judged) (length (reply_to judged given.bank given.ring frame)) r)) (stored given.bank (stores_of judged given.sheet frame))
       (laid (reply_to judged given.bank given.ring frame) buffer)) rated

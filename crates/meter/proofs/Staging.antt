@@ -28,8 +28,6 @@ use Rattle.sheet_rules.specs.Runs.{all_open}
 use Rattle.meter_rules.specs.Write.{first_place, some_bad, stop_place, stop_side}
 use Rattle.meter_rules.specs.Steps.{starts_in_records, asked_start, good_read, fails_check, other_station, code_allowed, function_allowed, function_not_allowed, wrong_length, wrong_count, wrong_address, wrong_value, bad_write, good_frame, judged_frame}
 use Rattle.meter_rules.proofs.Order.{step_stops, step_passes, step_none, asks_for, value_is, bad_is, write_is, many_is, last_function, asks_write, read_address, registers_wrong, record_wrong, clear_address_lem, clear_value, write_value, write_bad}
-use Rattle.meter.specs.declared.stages.Addressed.{Addressed}
-use Rattle.meter.specs.declared.stages.Addressed.TheVariants.{Here, Elsewhere}
 use Rattle.meter.specs.Stages.{addressed_to, wrong_length_in, judged_from, judged_record, judged_shut, Known}
 
 module _ (given : Lent) (frame : List ℕ) where
@@ -137,20 +135,20 @@ module _ (given : Lent) (frame : List ℕ) where
 
 -- ---- step 2, read back: the frame is for this station and its parts are these, or it is for another
 
-module _ (given : Lent) (frame : List ℕ) {passed : Parts} (apart : passed ≡ parts_of frame) {answer : Addressed}
+module _ (given : Lent) (frame : List ℕ) {passed : Parts} (apart : passed ≡ parts_of frame) {answer : Option Parts}
     (is : answer ≡ addressed_to given.sheet given.bank passed) where
-  pub elsewhere : answer ≡ Elsewhere → other_station given frame ≡ true
+  pub elsewhere : answer ≡ None → other_station given frame ≡ true
   unfolding addressed_to
   elsewhere told =
       ap (λ (p : Parts). not (eqb p.station (station_of given.sheet given.bank))) (sym apart)
       ∙ go (eqb passed.station (station_of given.sheet given.bank)) (sym told ∙ is)
     where
-      go : (b : Bool) → Elsewhere ≡ cond b (Here passed) Elsewhere → not b ≡ true
+      go : (b : Bool) → None ≡ cond b (Some passed) None → not b ≡ true
       go true e = let z : ◌≡◌ {A = ℕ} 0 1 = cc in absurd (omega arith)
       go false e = refl
 
-  module _ {parts : Parts} (told : answer ≡ Here parts) where
-    here : (b : Bool) → Here parts ≡ cond b (Here passed) Elsewhere → (not b ≡ false) × (parts ≡ passed)
+  module _ {parts : Parts} (told : answer ≡ Some parts) where
+    here : (b : Bool) → Some parts ≡ cond b (Some passed) None → (not b ≡ false) × (parts ≡ passed)
     here true e = (refl, cc)
     here false e = let z : ◌≡◌ {A = ℕ} 0 1 = cc in absurd (omega arith)
 
@@ -170,14 +168,14 @@ module _ (given : Lent) (frame : List ℕ) {first : (Option Parts)} (is : first 
   pub fails_first : first ≡ None → FailsCheck ≡ judged_frame given frame
   fails_first told = stops_check given frame (ap not (passed_false frame is told))
 
-  module _ {passed : Parts} (told : first ≡ Some passed) {next : Addressed} (is-next : next ≡ addressed_to given.sheet given.bank passed) where
+  module _ {passed : Parts} (told : first ≡ Some passed) {next : Option Parts} (is-next : next ≡ addressed_to given.sheet given.bank passed) where
     passing : fails_check frame ≡ false
     passing = ap not (passed_true frame is told)
 
-    pub stops_second : next ≡ Elsewhere → OtherStation ≡ judged_frame given frame
+    pub stops_second : next ≡ None → OtherStation ≡ judged_frame given frame
     stops_second away = stops_station given frame passing (elsewhere given frame (passed_parts frame is told) is-next away)
 
-    module _ {parts : Parts} (here : next ≡ Here parts) {allows : Bool} (is-allowed : allows ≡ code_allowed given.sheet parts.function) where
+    module _ {parts : Parts} (here : next ≡ Some parts) {allows : Bool} (is-allowed : allows ≡ code_allowed given.sheet parts.function) where
       apart : parts ≡ parts_of frame
       apart = here_parts given frame (passed_parts frame is told) is-next here
 

@@ -1,6 +1,6 @@
 -- What the stages of judgement answer, what those from step 4 on know of a frame, and where a write would leave an item. Only private promises cite
 -- this file. Assumes nothing.
-use Rattle.std.specs.Prelude.{ℕ, ◌+◌, ◌≡◌, Bool, true, not, cond, ◌||◌, List, ltb, eqb, drop}
+use Rattle.std.specs.Prelude.{ℕ, ◌+◌, ◌≡◌, Bool, true, not, cond, ◌||◌, List, ltb, eqb, drop, Option, Some, None}
 use Rattle.lists.specs.Cases.{first_case}
 use Rattle.range.specs.declared.Side.{Side}
 use Rattle.range.specs.declared.Side.TheVariants.{InRange}
@@ -18,12 +18,10 @@ use Rattle.meter_rules.specs.declared.Judged.{Judged}
 use Rattle.meter_rules.specs.declared.Judged.TheVariants.{WrongCount, WrongAddress, GoodRecord}
 use Rattle.meter_rules.specs.Write.{would_be, touched}
 use Rattle.meter_rules.specs.Steps.{function_allowed, steps, good_frame}
-use Rattle.meter.specs.declared.stages.Addressed.{Addressed}
-use Rattle.meter.specs.declared.stages.Addressed.TheVariants.{Here, Elsewhere}
 
 -- what step 2 answers: a frame for the bank's station, taken apart, or that it is for another
-unfoldable pub addressed_to : List ℕ → List ℕ → Parts → Addressed
-addressed_to sheet bank parts = cond (eqb parts.station (station_of sheet bank)) (Here parts) Elsewhere
+unfoldable pub addressed_to : List ℕ → List ℕ → Parts → Option Parts
+addressed_to sheet bank parts = cond (eqb parts.station (station_of sheet bank)) (Some parts) None
 
 -- what step 4 tests, by the parts of a frame
 abbrev pub wrong_length_in : Parts → Bool

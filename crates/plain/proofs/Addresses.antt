@@ -7,7 +7,7 @@ use Prim.Native.Nat.{ℕ, zero, suc, ◌+◌, ◌≤◌, ◌<◌}
 use native.Mathlib.Omega.{arith}
 use lib.Dec.{ltb, eqb}
 use borrow.Author.Tests.{eqb-true, eq-eqb, le-ltb, ltb-false, not-false}
-use Rattle.std.specs.Prelude.{Option, None}
+use Rattle.std.specs.Prelude.{Option, None, Some}
 use Rattle.lists.specs.Lists.{each, up_from}
 use Rattle.lists.proofs.Among.{up_among, each_among}
 use Rattle.sheet_rules.specs.Rows.{areas, clear_address, record_area}
@@ -68,11 +68,11 @@ module _ (sheet : List ℕ) (keeps : sound sheet ≡ true) (bytes : Bytes sheet)
     open_at at = go (lies_in (areas sheet) at) refl
       where
         go : (lies : Option Lies) → lies_in (areas sheet) at ≡ lies → opens purpose lies ≡ true → Open purpose at
-        go (found_at place access) is e =
+        go (Some lies) is e =
             record {
-              small = omega (arith, lies_word sheet bytes at place access is);
-              place = place;
-              access = access;
+              small = omega (arith, lies_word sheet bytes at lies.place lies.access is);
+              place = lies.place;
+              access = lies.access;
               lies = lies_plain sheet keeps is;
               permitted = e;
             }

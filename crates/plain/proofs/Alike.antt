@@ -9,6 +9,7 @@ use native.Mathlib.Omega.{arith}
 use Rattle.sheet_rules.specs.Rules.{sound}
 use Rattle.sheet_rules.specs.Lookup.{found_at}
 use Rattle.bank_rules.specs.Calls.{Lent}
+use Rattle.sheet_rules.proofs.Addresses.{at_access}
 use Rattle.plain.specs.Numbers.{byte, word}
 use Rattle.plain.specs.Sheet.{LiesAt}
 use Rattle.plain.specs.Records.{AtRecord}
@@ -24,8 +25,7 @@ use Rattle.plain.proofs.Rows.{plain_lies}
 -- what lies at an address has one access
 pub access_once : (sheet : List ℕ) → sound sheet ≡ true → {at p q x y : ℕ} → LiesAt sheet at p x → LiesAt sheet at q y → x ≡ y
 access_once sheet keeps {at} {p} {q} {x} {y} one other =
-    let same : found_at p x ≡ found_at q y = sym (plain_lies sheet keeps one) ∙ plain_lies sheet keeps other in
-    cc
+    at_access (plain_lies sheet keeps one) (plain_lies sheet keeps other)
 
 module _ (given : Lent) (bank : List ℕ) (agree : AgreeOutside given bank) (frame : List ℕ) (reads : byte frame 1 ≡ 0x03) where
   abbrev other : Lent

@@ -7,7 +7,7 @@ use native.Mathlib.Omega.{arith}
 use lib.Dec.{eqb}
 use lib.ListN.{length}
 use borrow.Author.Tests.{eqb-true, eqb-false, ne_eqb}
-use Rattle.std.specs.Prelude.{Result}
+use Rattle.std.specs.Prelude.{Result, Ok}
 use Rattle.words.specs.Words.{word_at}
 use Rattle.lists.specs.Cases.{when, first_case}
 use Rattle.sheet_rules.specs.declared.RecordArea.{RecordArea}
@@ -73,11 +73,11 @@ module _ (given : Lent) (frame buffer : List ℕ) (passed : Passed given) (ringe
   -- an echo, and what is the same bytes
   echoed : (byte frame 1 ≡ 0x03 → ⊥) → {reply : List ℕ} → echo frame ≡ reply → (after : List ℕ)
       → HandsBack given frame buffer
-      (left_of (outcome (answered_by 0 (length (with_check reply)) (rate_of given.sheet given.bank)) after (laid (with_check reply) buffer))) good
+      (left_of (outcome (Ok (answered_by 0 (length (with_check reply)) (rate_of given.sheet given.bank))) after (laid (with_check reply) buffer))) good
   unfolding with_check
   echoed other same after =
       subst (λ (r : List ℕ). HandsBack given frame buffer
-      (left_of (outcome (answered_by 0 (length (with_check r)) (rate_of given.sheet given.bank)) after (laid (with_check r) buffer))) good) same
+      (left_of (outcome (Ok (answered_by 0 (length (with_check r)) (rate_of given.sheet given.bank))) after (laid (with_check r) buffer))) good) same
       (left.echoed other refl refl rated (echo_plain frame buffer frame_bytes room))
 
   -- a good read of registers: its addresses are open, and their places follow each other
@@ -112,9 +112,9 @@ module _ (given : Lent) (frame buffer : List ℕ) (passed : Passed given) (ringe
         }
 
     hands_read : (after : List ℕ) → HandsBack given frame buffer
-        (left_of (outcome (answered_by 0 (length (with_check body)) (rate_of given.sheet given.bank)) after (laid (with_check body) buffer))) good
+        (left_of (outcome (Ok (answered_by 0 (length (with_check body)) (rate_of given.sheet given.bank))) after (laid (with_check body) buffer))) good
     hands_read after =
-        subst (λ (a : Result Answered Refusal). HandsBack given frame buffer (left_of (outcome a after (laid (with_check body) buffer))) good) (sym replied)
+        subst (λ (a : Answered). HandsBack given frame buffer (left_of (outcome (Ok a) after (laid (with_check body) buffer))) good) (sym replied)
         (left.read is none refl (check_length body ∙ omega (arith, size, registers_same frame)) rated read_plain)
       where
         replied : answered_by 0 (length (with_check body)) (rate_of given.sheet given.bank) ≡ Reply (length (with_check body)) (rate_of given.sheet given.bank)
@@ -161,9 +161,9 @@ module _ (given : Lent) (frame buffer : List ℕ) (passed : Passed given) (ringe
         }
 
     hands_record : (after : List ℕ) → HandsBack given frame buffer
-        (left_of (outcome (answered_by 0 (length (with_check record_body)) (rate_of given.sheet given.bank)) after (laid (with_check record_body) buffer))) good
+        (left_of (outcome (Ok (answered_by 0 (length (with_check record_body)) (rate_of given.sheet given.bank))) after (laid (with_check record_body) buffer))) good
     hands_record after =
-        subst (λ (a : Result Answered Refusal). HandsBack given frame buffer (left_of (outcome a after (laid (with_check record_body) buffer))) good) (sym replied)
+        subst (λ (a : Answered). HandsBack given frame buffer (left_of (outcome (Ok a) after (laid (with_check record_body) buffer))) good) (sym replied)
         (left.recorded is number area.records area.words one refl (check_length record_body ∙ omega (arith, record_size)) rated record_plain)
       where
         replied : answered_by 0 (length (with_check record_body)) (rate_of given.sheet given.bank)

@@ -9,7 +9,7 @@ use native.Mathlib.Omega.{arith}
 use Rattle.sheet_rules.specs.Rows.{areas}
 use Rattle.sheet_rules.specs.Rules.{sound}
 use Rattle.sheet_rules.specs.Lookup.{lies_in, found_at}
-use Rattle.sheet_rules.proofs.Addresses.{place_address, lies_below}
+use Rattle.sheet_rules.proofs.Addresses.{place_address, lies_below, at_access}
 use Rattle.bank_rules.specs.Calls.{Lent}
 use Rattle.plain.specs.Numbers.{byte, word}
 use Rattle.plain.specs.Sheet.{LiesAt}
@@ -25,8 +25,7 @@ module _ (sheet : List ℕ) (keeps : sound sheet ≡ true) where
       let here = plain_lies sheet keeps one in
       let there = plain_lies sheet keeps other in
       let same : a ≡ b = sym (place_address sheet keeps a place x here) ∙ place_address sheet keeps b place y there in
-      let both : found_at place x ≡ found_at place y = sym here ∙ ap (lies_in (areas sheet)) same ∙ there in
-      cc
+      at_access here (ap (lies_in (areas sheet)) same ∙ there)
 
   below : {a place x : ℕ} → LiesAt sheet a place x → place < word sheet 10
   below {a} {place} {x} lies = omega (arith, lies_below sheet keeps a place x (plain_lies sheet keeps lies), word_same sheet 10)

@@ -21,6 +21,7 @@ use Rattle.sheet_rules.specs.Runs.{all_open}
 use Rattle.frame.specs.Frame.{count, run}
 use Rattle.meter_rules.specs.Write.{first_place, would_be}
 use Rattle.meter_rules.proofs.Soundness.{open_write}
+use Rattle.sheet_rules.proofs.Addresses.{at_place}
 use Rattle.plain.specs.Numbers.{byte, word, Bytes}
 use Rattle.plain.specs.Sheet.{LiesAt, WritableAt}
 use Rattle.plain.specs.Frame as plain
@@ -48,8 +49,7 @@ module _ (given : Lent) (at v : ℕ) (small : at ≤ 0xFFFF) (word-sent : v < 65
 -- an address lies at one place
 pub lies_once : (sheet : List ℕ) → sound sheet ≡ true → {at p q x y : ℕ} → LiesAt sheet at p x → LiesAt sheet at q y → p ≡ q
 lies_once sheet keeps {at} {p} {q} {x} {y} one other =
-    let same : found_at p x ≡ found_at q y = sym (plain_lies sheet keeps one) ∙ plain_lies sheet keeps other in
-    cc
+    at_place (plain_lies sheet keeps one) (plain_lies sheet keeps other)
 
 module _ (given : Lent) (keeps : sound given.sheet ≡ true) (bytes : Bytes given.sheet) (at v : ℕ) (small : at ≤ 0xFFFF) (word-sent : v < 65536)
     (set06 : Set (word given.sheet 12) 4) (q : ℕ) (lies : WritableAt given.sheet at q) where

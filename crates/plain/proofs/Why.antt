@@ -9,7 +9,7 @@ use native.Mathlib.Omega.{arith}
 use lib.Dec.{eqb}
 use lib.ListN.{length}
 use borrow.Author.Tests.{eqb-true, eqb-false, eq-eqb, ne_eqb, lt-ltb, ltb-true, not-true}
-use Rattle.std.specs.Prelude.{Option, None}
+use Rattle.std.specs.Prelude.{Option, None, Some}
 use Rattle.lists.specs.Cases.{Case, when, first_case}
 use Rattle.lists.proofs.Tests.{first_of, second_of_lem}
 use Rattle.sheet_rules.specs.declared.Purpose.TheVariants.{Write}
@@ -101,8 +101,8 @@ module _ (given : Lent) (frame : List ℕ) (passed : Passed given) (bytes : Byte
       go : (a b c d e f g h i j : Bool) → too_short frame ≡ a → too_long frame ≡ b → check_differs frame ≡ c → other_station given frame ≡ d
           → function_not_allowed given.sheet frame ≡ e → wrong_length frame ≡ f → bad_count given.sheet frame ≡ g → shut_address given frame ≡ h
           → wrong_value frame ≡ i → bad_write given frame ≡ j
-          → Plainly (first_case (when a TooShort ∷ when b TooLong ∷ when c Check ∷ when d Station ∷ when e Function ∷ when f BodyLength ∷ when g Count
-          ∷ when h (Address (first_bad_address given.sheet frame)) ∷ when i ClearValue ∷ when j (Item (first_bad_item given frame) (first_bad_side given frame)) ∷ []) None)
+          → Plainly (first_case (when a (Some TooShort) ∷ when b (Some TooLong) ∷ when c (Some Check) ∷ when d (Some Station) ∷ when e (Some Function) ∷ when f (Some BodyLength) ∷ when g (Some Count)
+          ∷ when h (Some (Address (first_bad_address given.sheet frame))) ∷ when i (Some ClearValue) ∷ when j (Some (Item (first_bad_item given frame) (first_bad_side given frame))) ∷ []) None)
       go true b c d e f g h i j p q r s t u v w x y = by_too_short (ltb-true (length frame) 4 p)
       go false true c d e f g h i j p q r s t u v w x y = by_too_long (ltb-true 100 (length frame) q)
       go false false true d e f g h i j p q r s t u v w x y =
@@ -142,10 +142,10 @@ module _ (given : Lent) (frame : List ℕ) (passed : Passed given) (bytes : Byte
   -- the facts that are left for a frame that passed as far as its function, and as far as its count
   abbrev behind_count : List (Case (Option Reason))
   behind_count =
-      when (shut_address given frame) (Address (first_bad_address given.sheet frame)) ∷ when (wrong_value frame) ClearValue
-      ∷ when (bad_write given frame) (Item (first_bad_item given frame) (first_bad_side given frame)) ∷ []
+      when (shut_address given frame) (Some (Address (first_bad_address given.sheet frame))) ∷ when (wrong_value frame) (Some ClearValue)
+      ∷ when (bad_write given frame) (Some (Item (first_bad_item given frame) (first_bad_side given frame))) ∷ []
 
-  at_function : AsFunction given frame → reason_of given frame ≡ first_case (when (wrong_length frame) BodyLength ∷ when (bad_count given.sheet frame) Count ∷ behind_count) None
+  at_function : AsFunction given frame → reason_of given frame ≡ first_case (when (wrong_length frame) (Some BodyLength) ∷ when (bad_count given.sheet frame) (Some Count) ∷ behind_count) None
   unfolding reason_of first_case
   at_function is =
       simp (
@@ -164,13 +164,13 @@ module _ (given : Lent) (frame : List ℕ) (passed : Passed given) (bytes : Byte
   reason_is : {number at side : ℕ} → Why given frame number at side
       → (reason : Option Reason) × (reason_of given frame ≡ reason) × (number ≡ reason_number reason) × (at ≡ reason_address reason) × (side ≡ reason_side reason)
   unfolding reason_of first_case
-  reason_is (by_too_short short) = (TooShort, simp (lt-ltb (length frame) 4 short), refl, refl, refl)
+  reason_is (by_too_short short) = (Some TooShort, simp (lt-ltb (length frame) 4 short), refl, refl, refl)
   reason_is (by_too_long long) =
-      (TooLong, simp ((short_tells frame).wrongly (omega (arith, long)), lt-ltb 100 (length frame) long), refl, refl, refl)
+      (Some TooLong, simp ((short_tells frame).wrongly (omega (arith, long)), lt-ltb 100 (length frame) long), refl, refl, refl)
   reason_is (by_check least most differs) =
-      (Check, simp ((short_tells frame).wrongly least, (long_tells frame).wrongly most, fails (check_tells frame) differs), refl, refl, refl)
+      (Some Check, simp ((short_tells frame).wrongly least, (long_tells frame).wrongly most, fails (check_tells frame) differs), refl, refl, refl)
   reason_is (by_station whole other) = (
-    Station,
+    Some Station,
     simp (
       (short_tells frame).wrongly whole.least,
       (long_tells frame).wrongly whole.most,
@@ -182,7 +182,7 @@ module _ (given : Lent) (frame : List ℕ) (passed : Passed given) (bytes : Byte
     refl,
   )
   reason_is (by_function whole ours denied) = (
-    Function,
+    Some Function,
     simp (
       (short_tells frame).wrongly whole.least,
       (long_tells frame).wrongly whole.most,
@@ -194,22 +194,22 @@ module _ (given : Lent) (frame : List ℕ) (passed : Passed given) (bytes : Byte
     refl,
     refl,
   )
-  reason_is (by_body_length is wrong) = (BodyLength, at_function is ∙ simp (fails (length_tells frame) wrong), refl, refl, refl)
-  reason_is (by_count is long wrong) = (Count, at_function is ∙ simp ((length_tells frame).wrongly long, bad wrong), refl, refl, refl)
+  reason_is (by_body_length is wrong) = (Some BodyLength, at_function is ∙ simp (fails (length_tells frame) wrong), refl, refl, refl)
+  reason_is (by_count is long wrong) = (Some Count, at_function is ∙ simp ((length_tells frame).wrongly long, bad wrong), refl, refl, refl)
     where
       bad : (RightCount given.sheet frame → ⊥) ⊎ ReadsTooMany given.sheet frame → bad_count given.sheet frame ≡ true
       bad (inl wrong) = ap (λ (b : Bool). b || reads_too_many given.sheet frame) (fails (count_tells given.sheet frame) wrong)
       bad (inr many) = ap (λ (b : Bool). wrong_count given.sheet frame || b) (so_many given.sheet frame many) ∙ or-true (wrong_count given.sheet frame)
   reason_is (by_address is first) =
       let shut = so_first_address given frame passed.right bytes ((count_tells given.sheet frame).wrongly is.counted) first in
-      (Address (first_bad_address given.sheet frame), at_count is ∙ simp shut.0, refl, sym shut.1, refl)
+      (Some (Address (first_bad_address given.sheet frame)), at_count is ∙ simp shut.0, refl, sym shut.1, refl)
   reason_is (by_clear_value is right clear other) =
       let wrong = ap₂ (λ (a b : Bool). a && not b) (eq-eqb (function frame) 0x05 clear) (ne_eqb (second frame) 0 (λ e. other (word_same frame 4 ∙ e))) in
-      (ClearValue, at_count is ∙ simp (fine_so is right, wrong), refl, refl, refl)
+      (Some ClearValue, at_count is ∙ simp (fine_so is right, wrong), refl, refl, refl)
   reason_is (by_item is right first) =
       let write = writes frame first.writes in
       let found = so_first_item given frame passed write (open_by_facts (few_so is) (fine_so is right) write) first in (
-        Item (first_bad_item given frame) (first_bad_side given frame),
+        Some (Item (first_bad_item given frame) (first_bad_side given frame)),
         at_count is ∙ simp (fine_so is right, write_value frame write, write_bad frame write given ∙ found.0),
         refl,
         sym found.1,

@@ -1,5 +1,6 @@
 -- `meter::judge` meets its contract: the refusals of the bank's check, then where the frame stops. Assumes nothing.
 use Rattle.std.proofs.Common.{sym, ap, ◌∙◌, Ok}
+use Rattle.refusals.proofs.Answers.{handed_on}
 use Rattle.bank_rules.specs.Calls.{lent_with}
 use Rattle.meter_rules.proofs.Lending.{lent_passed}
 use Rattle.meter_rules.specs.Steps.{judged_frame}
@@ -7,21 +8,22 @@ use Rattle.meter_rules.specs.Judgement.{judgement_by, judgement}
 use Rattle.meter.proofs.judge.Goals as goal
 use Rattle.refusals.specs.Answers.{Answer}
 
-pub returns-in-Refused : goal.returns-in-Refused
+pub returns-in_err-check : goal.returns-in_err-check
 unfolding judgement
-returns-in-Refused c =
+returns-in_err-check c =
     let a = c.args in
     let given = lent_with a.sheet.now a.bank.now a.ring.now in
-    ap (λ (answer : Answer). judgement_by answer (judged_frame given a.frame.now)) (sym c.in-Refused.is ∙ c.check.ensures)
+    handed_on c.from_residual.ensures.1
+    ∙ ap (λ (answer : Answer). judgement_by answer (judged_frame given a.frame.now)) (sym c.in_err-check.was ∙ c.check.ensures)
 
 pub judged_frame-requires : goal.judged_frame-requires
 judged_frame-requires c =
     let a = c.args in
-    (lent_passed (lent_with a.sheet.now a.bank.now a.ring.now) (sym c.check.ensures ∙ c.in-Done.is)).0.right
+    (lent_passed (lent_with a.sheet.now a.bank.now a.ring.now) (sym c.check.ensures ∙ c.in_ok-check.was)).0.right
 
 pub returns : goal.returns
 unfolding judgement
 returns c =
     let a = c.args in
     let given = lent_with a.sheet.now a.bank.now a.ring.now in
-    ap Ok c.judged_frame.ensures ∙ ap (λ (answer : Answer). judgement_by answer (judged_frame given a.frame.now)) (sym c.in-Done.is ∙ c.check.ensures)
+    ap Ok c.judged_frame.ensures ∙ ap (λ (answer : Answer). judgement_by answer (judged_frame given a.frame.now)) (sym c.in_ok-check.was ∙ c.check.ensures)

@@ -21,18 +21,18 @@ stop_of-requires-clause-many_bound c =
     let place = ap (λ (r : Run). r.place) c.reached-run.ensures in
     omega (arith, place_small a.sheet.now c.requires.known.sheet_sound a.parts.start, place, c.many_of-many.type_inv)
 
-pub returns-in-StopsAt : goal.returns-in-StopsAt
-returns-in-StopsAt c =
+pub returns-in-Some : goal.returns-in-Some
+returns-in-Some c =
     let a = c.args in
     let known = c.requires.known in
     let all = run_open a.sheet.now known.sheet_sound Write a.parts.start c.reached-run.ensures c.many_of-many.result c.if-run-parts.false in
     write_stopped (lent_with a.sheet.now a.bank.now a.ring.now) a.frame.now c.requires.frame_value a.parts known.apart c.many_of-many.ensures all
-    (ap (λ (r : Run). r.place) c.reached-run.ensures) c.stop_of.ensures c.in-StopsAt.is
+    (ap (λ (r : Run). r.place) c.reached-run.ensures) c.stop_of.ensures c.in-Some.is
 
-pub returns-in-NoBadItem : goal.returns-in-NoBadItem
-returns-in-NoBadItem c =
+pub returns-in-None : goal.returns-in-None
+returns-in-None c =
     let a = c.args in
     let known = c.requires.known in
     let all = run_open a.sheet.now known.sheet_sound Write a.parts.start c.reached-run.ensures c.many_of-many.result c.if-run-parts.false in
     write_good (lent_with a.sheet.now a.bank.now a.ring.now) a.frame.now c.requires.frame_value a.parts known.apart c.many_of-many.ensures all
-    (ap (λ (r : Run). r.place) c.reached-run.ensures) c.stop_of.ensures c.in-NoBadItem.is
+    (ap (λ (r : Run). r.place) c.reached-run.ensures) c.stop_of.ensures c.in-None.is
