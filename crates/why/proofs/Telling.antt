@@ -7,7 +7,7 @@ use Prim.Native.Nat.{ℕ, ◌%◌, ◌≤◌, ◌<◌}
 use native.Mathlib.Omega.{arith}
 use lib.Dec.{ltb, eqb}
 use borrow.Author.Tests.{eq-eqb, ne_eqb, eqb-true, eqb-false, lt-ltb, le-ltb, ltb-true, ltb-false}
-use Rattle.std.specs.Prelude.{None, Ok, Err}
+use Rattle.std.specs.Prelude.{None, Ok, Err, Some}
 use Rattle.lists.specs.Cases.{when, first_case}
 use Rattle.lists.proofs.Tests.{first_of, second_of_lem}
 use Rattle.sheet_rules.specs.Rows.{areas, clear_address, record_area}
@@ -107,8 +107,8 @@ module _ (given : Lent) (keeps : sound given.sheet ≡ true) (frame : List ℕ) 
 
   -- the reason is told of where the frame stops: from step 6 on, where step 5 lets the frame through
   from_six : wrong_count given.sheet frame ≡ false
-      → first_case (when (reads_too_many given.sheet frame) Count ∷ when (shut_address given frame) (Address (first_bad_address given.sheet frame))
-      ∷ when (wrong_value frame) ClearValue ∷ when (bad_write given frame) (Item (first_bad_item given frame) (first_bad_side given frame)) ∷ []) None
+      → first_case (when (reads_too_many given.sheet frame) (Some Count) ∷ when (shut_address given frame) (Some (Address (first_bad_address given.sheet frame)))
+      ∷ when (wrong_value frame) (Some ClearValue) ∷ when (bad_write given frame) (Some (Item (first_bad_item given frame) (first_bad_side given frame))) ∷ []) None
       ≡ reason_by (first_case (when (wrong_address given frame) WrongAddress ∷ when (wrong_value frame) WrongValue
       ∷ when (bad_write given frame) (BadItem (first_place given.sheet frame) (stop_place given frame) (stop_side given frame)) ∷ []) (good_frame given frame)) given.sheet frame
   unfolding first_case
@@ -119,13 +119,13 @@ module _ (given : Lent) (keeps : sound given.sheet ≡ true) (frame : List ℕ) 
       (wrong_address_lem given frame))
     where
       go : (t s v h : Bool) → reads_too_many given.sheet frame ≡ t → shut_address given frame ≡ s → bad_write given frame ≡ h
-          → first_case (when t Count ∷ when s (Address (first_bad_address given.sheet frame)) ∷ when v ClearValue ∷ when h (Item (first_bad_item given frame) (first_bad_side given frame)) ∷ []) None
+          → first_case (when t (Some Count) ∷ when s (Some (Address (first_bad_address given.sheet frame))) ∷ when v (Some ClearValue) ∷ when h (Some (Item (first_bad_item given frame) (first_bad_side given frame))) ∷ []) None
           ≡ reason_by (first_case (when (t || s) WrongAddress ∷ when v WrongValue
           ∷ when h (BadItem (first_place given.sheet frame) (stop_place given frame) (stop_side given frame)) ∷ []) (good_frame given frame)) given.sheet frame
-      go true s v h is-t is-s is-h = address_count_lem is-t
-      go false true v h is-t is-s is-h = address_shut right is-t is-s
+      go true s v h is-t is-s is-h = ap Some (address_count_lem is-t)
+      go false true v h is-t is-s is-h = ap Some (address_shut right is-t is-s)
       go false false true h is-t is-s is-h = refl
-      go false false false true is-t is-s is-h = ap (λ (place : ℕ). Item (address_of (areas given.sheet) place) (stop_side given frame)) whole
+      go false false false true is-t is-s is-h = ap (λ (place : ℕ). Some (Item (address_of (areas given.sheet) place) (stop_side given frame))) whole
         where
           whole : stop_place given frame ≡ stop_place given frame % 65536
           whole = omega (arith, stop_small given frame (second_of_lem (is_write frame) (some_bad given frame) is-h) keeps)
@@ -143,9 +143,9 @@ module _ (given : Lent) (keeps : sound given.sheet ≡ true) (frame : List ℕ) 
       (good_frame given frame)) given.sheet frame) (fails_check_lem frame))
     where
       go : (a b c d e f g : Bool) → too_short frame ≡ a → too_long frame ≡ b → wrong_count given.sheet frame ≡ g
-          → first_case (when a TooShort ∷ when b TooLong ∷ when c Check ∷ when d Station ∷ when e Function ∷ when f BodyLength ∷ when (g || reads_too_many given.sheet frame) Count
-          ∷ when (shut_address given frame) (Address (first_bad_address given.sheet frame)) ∷ when (wrong_value frame) ClearValue
-          ∷ when (bad_write given frame) (Item (first_bad_item given frame) (first_bad_side given frame)) ∷ []) None
+          → first_case (when a (Some TooShort) ∷ when b (Some TooLong) ∷ when c (Some Check) ∷ when d (Some Station) ∷ when e (Some Function) ∷ when f (Some BodyLength) ∷ when (g || reads_too_many given.sheet frame) (Some Count)
+          ∷ when (shut_address given frame) (Some (Address (first_bad_address given.sheet frame))) ∷ when (wrong_value frame) (Some ClearValue)
+          ∷ when (bad_write given frame) (Some (Item (first_bad_item given frame) (first_bad_side given frame))) ∷ []) None
           ≡ reason_by (first_case (when (a || b || c) FailsCheck ∷ when d OtherStation ∷ when e FunctionNotAllowed ∷ when f WrongLength ∷ when g WrongCount
           ∷ when (wrong_address given frame) WrongAddress ∷ when (wrong_value frame) WrongValue
           ∷ when (bad_write given frame) (BadItem (first_place given.sheet frame) (stop_place given frame) (stop_side given frame)) ∷ []) (good_frame given frame)) given.sheet frame
