@@ -33,7 +33,11 @@ fn sound(sheet: &[u8], bank: &[u8]) -> bool
 pub fn check(sheet: &[u8], bank: &[u8]) -> Result<(), Refusal>
     ensures { result ≡ check_answer (lent sheet.now bank.now) }
 {
-    bank_steps::check_size(sheet, bank)?;
+    // A match and no `?`: the kit shows no code of what `?` calls, which the theorem door_machine would need.
+    match bank_steps::check_size(sheet, bank) {
+        Ok(()) => {}
+        Err(refusal) => return Err(refusal),
+    }
     if !sound(sheet, bank) {
         return Err(Refusal::UnsoundBank);
     }
@@ -44,7 +48,11 @@ pub fn check(sheet: &[u8], bank: &[u8]) -> Result<(), Refusal>
 pub fn fresh(sheet: &[u8], bank: &mut [u8]) -> Result<(), Refusal>
     ensures { bank_outcome result bank.new ≡ fresh_outcome (lent sheet.now bank.old) }
 {
-    bank_steps::check_size(sheet, bank)?;
+    // A match and no `?`: the kit shows no code of what `?` calls, which the theorem door_machine would need.
+    match bank_steps::check_size(sheet, bank) {
+        Ok(()) => {}
+        Err(refusal) => return Err(refusal),
+    }
     fresh_words::store_fresh(sheet, bank);
     Ok(())
 }
@@ -53,7 +61,11 @@ pub fn fresh(sheet: &[u8], bank: &mut [u8]) -> Result<(), Refusal>
 pub fn post(sheet: &[u8], bank: &mut [u8], address: u32, bytes: &[u8]) -> Result<(), Refusal>
     ensures { bank_outcome result bank.new ≡ post_outcome (lent sheet.now bank.old) address bytes.now }
 {
-    check(sheet, bank)?;
+    // A match and no `?`: the kit shows no code of what `?` calls, which the theorem door_machine would need.
+    match check(sheet, bank) {
+        Ok(()) => {}
+        Err(refusal) => return Err(refusal),
+    }
     if bank_steps::empty_or_odd(bytes) {
         return Err(Refusal::BadInput);
     }
@@ -68,7 +80,11 @@ pub fn post(sheet: &[u8], bank: &mut [u8], address: u32, bytes: &[u8]) -> Result
 pub fn set_mark(sheet: &[u8], bank: &mut [u8], mark: u32) -> Result<(), Refusal>
     ensures { bank_outcome result bank.new ≡ mark_outcome (lent sheet.now bank.old) mark }
 {
-    check(sheet, bank)?;
+    // A match and no `?`: the kit shows no code of what `?` calls, which the theorem door_machine would need.
+    match check(sheet, bank) {
+        Ok(()) => {}
+        Err(refusal) => return Err(refusal),
+    }
     if 1 < mark {
         return Err(Refusal::BadInput);
     }

@@ -15,7 +15,11 @@ use sheet_rules::{Item, Lies};
 pub fn check_size(sheet: &[u8], bank: &[u8]) -> Result<(), Refusal>
     ensures { result ≡ fresh_answer (lent sheet.now bank.now) }
 {
-    sheet::check(sheet)?;
+    // A match and no `?`: the kit shows no code of what `?` calls, which the theorem door_machine would need.
+    match sheet::check(sheet) {
+        Ok(()) => {}
+        Err(refusal) => return Err(refusal),
+    }
     if bank.len() != 2 * (rows::bank_words(sheet) as usize) + 2 {
         return Err(Refusal::MisfittingBank);
     }

@@ -17,7 +17,11 @@ use refusals::Refusal;
 fn check(sheet: &[u8], bank: &[u8], ring: &[u8]) -> Result<(), Refusal>
     ensures { result ≡ lent_answer (lent_with sheet.now bank.now ring.now) }
 {
-    bank::check(sheet, bank)?;
+    // A match and no `?`: the kit shows no code of what `?` calls, which the theorem door_machine would need.
+    match bank::check(sheet, bank) {
+        Ok(()) => {}
+        Err(refusal) => return Err(refusal),
+    }
     if !ring::fits(sheet, ring) {
         return Err(Refusal::BadRing);
     }
@@ -28,7 +32,11 @@ fn check(sheet: &[u8], bank: &[u8], ring: &[u8]) -> Result<(), Refusal>
 pub fn judge(sheet: &[u8], bank: &[u8], ring: &[u8], frame: &[u8]) -> Result<Judged, Refusal>
     ensures { result ≡ judgement (lent_with sheet.now bank.now ring.now) frame.now }
 {
-    check(sheet, bank, ring)?;
+    // A match and no `?`: the kit shows no code of what `?` calls, which the theorem door_machine would need.
+    match check(sheet, bank, ring) {
+        Ok(()) => {}
+        Err(refusal) => return Err(refusal),
+    }
     Ok(stages::judged_frame(sheet, bank, ring, frame))
 }
 
@@ -42,7 +50,11 @@ pub fn answer(
 ) -> Result<Answered, Refusal>
     ensures { outcome result bank.new buffer.new ≡ answer_outcome (lent_with sheet.now bank.old ring.now) frame.now buffer.old }
 {
-    check(sheet, bank, ring)?;
+    // A match and no `?`: the kit shows no code of what `?` calls, which the theorem door_machine would need.
+    match check(sheet, bank, ring) {
+        Ok(()) => {}
+        Err(refusal) => return Err(refusal),
+    }
     if buffer.len() < frame::LEAST_BUFFER {
         return Err(Refusal::SmallBuffer);
     }

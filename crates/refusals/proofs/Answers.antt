@@ -5,17 +5,11 @@ use mathlib.Core.Bool.{Bool, true, false, cond}
 use mathlib.Core.List.{List, [], ◌∷◌, ◌++◌}
 use Prim.Native.Nat.{ℕ}
 use native.Mathlib.Omega.{arith}
-use Rattle.std.specs.Prelude.{Result, Ok, Err}
+use Rattle.std.specs.Prelude.{Ok, Err}
 use Rattle.lists.specs.Cases.{Case, first_case, mapped, conditions, NoneOf, InOrder}
 use Rattle.lists.proofs.Cases.{differ, told_in_order}
-use Rattle.std.specs.Result.{IsErrAnd}
 use Rattle.refusals.specs.declared.Refusal.{Refusal}
 use Rattle.refusals.specs.Answers.{answer_number, answer_by, Answer, call_done}
-
--- what a `?` hands on is the refusal that it was given
-pub handed_on : {T : Type 0} {handed : Result T Refusal} {refusal : Refusal} → IsErrAnd handed (λ e. e ≡ refusal) → handed ≡ Err refusal
-handed_on {handed = Ok x} e = absurd e
-handed_on {handed = Err other} e = ap Err e
 
 -- a refusal is not done
 pub not_done : {refusal : Refusal} → Err refusal ≡ call_done → ⊥

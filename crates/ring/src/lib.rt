@@ -60,7 +60,11 @@ pub fn fits(sheet: &[u8], ring: &[u8]) -> bool
 pub fn check(sheet: &[u8], ring: &[u8]) -> Result<(), Refusal>
     ensures { result ≡ ring_answer sheet.now ring.now }
 {
-    sheet::check(sheet)?;
+    // A match and no `?`: the kit shows no code of what `?` calls, which the theorem door_machine would need.
+    match sheet::check(sheet) {
+        Ok(()) => {}
+        Err(refusal) => return Err(refusal),
+    }
     if !fits(sheet, ring) {
         return Err(Refusal::BadRing);
     }
@@ -107,7 +111,11 @@ fn store_added(records: RecordArea, ring: &mut [u8], bytes: &[u8])
 pub fn add(sheet: &[u8], ring: &mut [u8], bytes: &[u8]) -> Result<(), Refusal>
     ensures { ring_outcome result ring.new ≡ add_outcome sheet.now ring.old bytes.now }
 {
-    sheet::check(sheet)?;
+    // A match and no `?`: the kit shows no code of what `?` calls, which the theorem door_machine would need.
+    match sheet::check(sheet) {
+        Ok(()) => {}
+        Err(refusal) => return Err(refusal),
+    }
     if !rows::has_records(sheet) {
         return Err(Refusal::BrokenSheet);
     }

@@ -76,6 +76,9 @@ fn reason_by(judged: Judged, sheet: &[u8], frame: &[u8]) -> Option<Reason>
 pub fn why(sheet: &[u8], bank: &[u8], ring: &[u8], frame: &[u8]) -> Result<Option<Reason>, Refusal>
     ensures { result ≡ explanation (lent_with sheet.now bank.now ring.now) frame.now }
 {
-    let judged = meter::judge(sheet, bank, ring, frame)?;
-    Ok(reason_by(judged, sheet, frame))
+    // A match and no `?`: the kit shows no code of what `?` calls, which the theorem door_machine would need.
+    match meter::judge(sheet, bank, ring, frame) {
+        Ok(judged) => Ok(reason_by(judged, sheet, frame)),
+        Err(refusal) => Err(refusal),
+    }
 }

@@ -3,7 +3,7 @@ use Rattle.std.proofs.Common.{not, [], ◌∷◌, sym, ap, ◌∙◌}
 use Rattle.lists.specs.Cases.{Case, when, first_case}
 use Rattle.refusals.specs.declared.Refusal.{Refusal}
 use Rattle.refusals.specs.declared.Refusal.TheVariants.{UnsoundBank}
-use Rattle.refusals.proofs.Answers.{handed_on, front_refuses, front_passes, refused_here, passed_here}
+use Rattle.refusals.proofs.Answers.{front_refuses, front_passes, refused_here, passed_here}
 use Rattle.bank_rules.specs.Calls.{Lent, lent, unsound_bank, fresh_refusals, fresh_answer, check_answer}
 use Rattle.bank_rules.proofs.Changes.{fresh_passed}
 use Rattle.bank.proofs.check.Goals as goal
@@ -11,23 +11,22 @@ use Rattle.bank.proofs.check.Goals as goal
 abbrev whole : Lent → Case Refusal
 whole given = when (unsound_bank given) UnsoundBank
 
-pub returns-in_err-check_size : goal.returns-in_err-check_size
+pub returns-in-Err : goal.returns-in-Err
 unfolding check_answer fresh_answer
-returns-in_err-check_size c =
+returns-in-Err c =
     let given : Lent = lent c.args.sheet.now c.args.bank.now in
-    let told = c.in_err-check_size.was in
-    handed_on c.from_residual.ensures.1
-    ∙ sym (front_refuses (fresh_refusals given) (whole given ∷ []) c.check_size.ensures told)
+    let told = c.in-Err.is in
+    sym (front_refuses (fresh_refusals given) (whole given ∷ []) c.check_size.ensures told)
 
 pub sound-requires : goal.sound-requires
-sound-requires c = (fresh_passed (lent c.args.sheet.now c.args.bank.now) (sym c.check_size.ensures ∙ c.in_ok-check_size.was)).0
+sound-requires c = (fresh_passed (lent c.args.sheet.now c.args.bank.now) (sym c.check_size.ensures ∙ c.in-Ok.is)).0
 
 pub returns-then-not-sound : goal.returns-then-not-sound
 unfolding check_answer fresh_answer
 returns-then-not-sound c =
     let given : Lent = lent c.args.sheet.now c.args.bank.now in
     sym
-    (front_passes (fresh_refusals given) (whole given ∷ []) c.check_size.ensures c.in_ok-check_size.was
+    (front_passes (fresh_refusals given) (whole given ∷ []) c.check_size.ensures c.in-Ok.is
     ∙ refused_here (whole given) [] (ap not (sym c.sound.ensures ∙ c.if-not-sound.true)))
 
 pub returns : goal.returns
@@ -35,5 +34,5 @@ unfolding check_answer fresh_answer first_case
 returns c =
     let given : Lent = lent c.args.sheet.now c.args.bank.now in
     sym
-    (front_passes (fresh_refusals given) (whole given ∷ []) c.check_size.ensures c.in_ok-check_size.was
+    (front_passes (fresh_refusals given) (whole given ∷ []) c.check_size.ensures c.in-Ok.is
     ∙ passed_here (whole given) [] (ap not (sym c.sound.ensures ∙ c.if-not-sound.false)))

@@ -4,7 +4,7 @@ use lib.Dec.{eqb}
 use Rattle.lists.specs.Cases.{Case, when, first_case}
 use Rattle.refusals.specs.declared.Refusal.{Refusal}
 use Rattle.refusals.specs.declared.Refusal.TheVariants.{MisfittingBank}
-use Rattle.refusals.proofs.Answers.{handed_on, front_refuses, front_passes, refused_here, passed_here}
+use Rattle.refusals.proofs.Answers.{front_refuses, front_passes, refused_here, passed_here}
 use Rattle.sheet_rules.specs.Rows.{bank_words}
 use Rattle.sheet_rules.specs.Rules.{sheet_refusals}
 use Rattle.bank_rules.specs.Calls.{Lent, lent, misfitting_bank, fresh_answer}
@@ -18,13 +18,12 @@ size_tested given e tested = ap not (ap (λ (n : ℕ). eqb (length given.bank) (
 abbrev size : Lent → Case Refusal
 size given = when (misfitting_bank given) MisfittingBank
 
-pub returns-in_err-check : goal.returns-in_err-check
+pub returns-in-Err : goal.returns-in-Err
 unfolding fresh_answer
-returns-in_err-check c =
+returns-in-Err c =
     let a = c.args in
-    let told = c.in_err-check.was in
-    handed_on c.from_residual.ensures.1
-    ∙ sym (front_refuses (sheet_refusals a.sheet.now) (size (lent a.sheet.now a.bank.now) ∷ []) c.check.ensures told)
+    let told = c.in-Err.is in
+    sym (front_refuses (sheet_refusals a.sheet.now) (size (lent a.sheet.now a.bank.now) ∷ []) c.check.ensures told)
 
 pub returns-then-bank-bank_words : goal.returns-then-bank-bank_words
 unfolding fresh_answer
@@ -33,7 +32,7 @@ returns-then-bank-bank_words c =
     let given : Lent = lent a.sheet.now a.bank.now in
     let words = c.bank_words in
     sym
-    (front_passes (sheet_refusals a.sheet.now) (size given ∷ []) c.check.ensures c.in_ok-check.was
+    (front_passes (sheet_refusals a.sheet.now) (size given ∷ []) c.check.ensures c.in-Ok.is
     ∙ refused_here (size given) [] (size_tested given words.ensures (ne_eqb (length a.bank.now) (2 * words.result + 2) c.if-bank-bank_words.true)))
 
 pub returns : goal.returns
@@ -43,5 +42,5 @@ returns c =
     let given : Lent = lent a.sheet.now a.bank.now in
     let words = c.bank_words in
     sym
-    (front_passes (sheet_refusals a.sheet.now) (size given ∷ []) c.check.ensures c.in_ok-check.was
+    (front_passes (sheet_refusals a.sheet.now) (size given ∷ []) c.check.ensures c.in-Ok.is
     ∙ passed_here (size given) [] (size_tested given words.ensures (eq-eqb (length a.bank.now) (2 * words.result + 2) c.if-bank-bank_words.false)))

@@ -3,7 +3,7 @@ use Rattle.std.proofs.Common.{ℕ, not, List, [], ◌∷◌, sym, ap, ◌∙◌}
 use Rattle.lists.specs.Cases.{Case, when, first_case}
 use Rattle.refusals.specs.declared.Refusal.{Refusal}
 use Rattle.refusals.specs.declared.Refusal.TheVariants.{BadRing}
-use Rattle.refusals.proofs.Answers.{handed_on, front_refuses, front_passes, refused_here, passed_here}
+use Rattle.refusals.proofs.Answers.{front_refuses, front_passes, refused_here, passed_here}
 use Rattle.sheet_rules.specs.Rules.{sheet_refusals}
 use Rattle.ring_rules.specs.Calls.{bad_ring, ring_answer}
 use Rattle.ring.proofs.check.Goals as goal
@@ -11,13 +11,12 @@ use Rattle.ring.proofs.check.Goals as goal
 abbrev own : List ℕ → List ℕ → Case Refusal
 own sheet ring = when (bad_ring sheet ring) BadRing
 
-pub returns-in_err-check : goal.returns-in_err-check
+pub returns-in-Err : goal.returns-in-Err
 unfolding ring_answer
-returns-in_err-check c =
+returns-in-Err c =
     let a = c.args in
-    let told = c.in_err-check.was in
-    handed_on c.from_residual.ensures.1
-    ∙ sym (front_refuses (sheet_refusals a.sheet.now) (own a.sheet.now a.ring.now ∷ []) c.check.ensures told)
+    let told = c.in-Err.is in
+    sym (front_refuses (sheet_refusals a.sheet.now) (own a.sheet.now a.ring.now ∷ []) c.check.ensures told)
 
 pub returns-then-not-fits : goal.returns-then-not-fits
 unfolding ring_answer
@@ -25,7 +24,7 @@ returns-then-not-fits c =
     let a = c.args in
     let this = own a.sheet.now a.ring.now in
     sym
-    (front_passes (sheet_refusals a.sheet.now) (this ∷ []) c.check.ensures c.in_ok-check.was
+    (front_passes (sheet_refusals a.sheet.now) (this ∷ []) c.check.ensures c.in-Ok.is
     ∙ refused_here this [] (ap not (sym c.fits.ensures ∙ c.if-not-fits.true)))
 
 pub returns : goal.returns
@@ -34,5 +33,5 @@ returns c =
     let a = c.args in
     let this = own a.sheet.now a.ring.now in
     sym
-    (front_passes (sheet_refusals a.sheet.now) (this ∷ []) c.check.ensures c.in_ok-check.was
+    (front_passes (sheet_refusals a.sheet.now) (this ∷ []) c.check.ensures c.in-Ok.is
     ∙ passed_here this [] (ap not (sym c.fits.ensures ∙ c.if-not-fits.false)))
