@@ -136,7 +136,7 @@ module _ (given : Lent) (frame buffer : List ℕ) where
 
       go : (answer : Answer) → Among (answer_number answer) (2 ∷ 3 ∷ 4 ∷ 8 ∷ 5 ∷ 0 ∷ [])
           → Among (answered_number (unless_refused answer given buffer acted).answered) numbers
-      go call_done m =
+      go (Ok tt) m =
           let few : answered_number acted.answered < 2 = omega (arith, acted_number) in
           listed (each_among (λ n. some (eqb n) numbers) (number_among 2 few) refl)
       go (Err refusal) m = listed (each_among (λ n. some (eqb n) numbers) m refl)
