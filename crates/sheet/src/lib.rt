@@ -5,24 +5,24 @@ ghost use Rattle.std.specs.Prelude.{◌≡◌};
 ghost use Rattle.sheet_rules.specs.Rules.{sheet_answer};
 
 mod area_rows;
+mod headed;
 mod item_rows;
 mod record_rows;
 
+use headed::Headed;
 use refusals::Refusal;
 
 // Whether a sheet breaks a rule: its header, its areas, its items with the address and the rate, then its record area.
 pub fn check(sheet: &[u8]) -> Result<(), Refusal>
     ensures { result ≡ sheet_answer sheet.now }
 {
-    let header = header::check(sheet).ok_or(Refusal::BrokenSheet)?;
-    if !area_rows::areas_sound(sheet, header) {
+    let Some(header) = header::check(sheet) else {
         return Err(Refusal::BrokenSheet);
+    };
+    let headed = Headed { sheet, header };
+    if headed.areas_sound() && headed.items_and_settings_sound() && headed.records_sound() {
+        Ok(())
+    } else {
+        Err(Refusal::BrokenSheet)
     }
-    if !item_rows::items_and_settings_sound(sheet, header) {
-        return Err(Refusal::BrokenSheet);
-    }
-    if !record_rows::records_sound(sheet, header) {
-        return Err(Refusal::BrokenSheet);
-    }
-    Ok(())
 }
