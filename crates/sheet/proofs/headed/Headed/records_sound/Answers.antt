@@ -1,4 +1,4 @@
--- `sheet::record_rows::records_sound` meets its contract: each return by the tests that led there. Assumes nothing.
+-- `sheet::headed::Headed::records_sound` meets its contract: each return by the tests that led there. Assumes nothing.
 use Rattle.std.proofs.Common.{◌≡◌, sym, ap, ◌∙◌, true, not, ◌&&◌, List, ℕ, eq-eqb, ne_eqb}
 use mathlib.Core.Bool.{and-false}
 use Rattle.lists.specs.Lists.{each}
@@ -9,7 +9,7 @@ use Rattle.sheet_rules.specs.Rules.{allowed, bit_of05, record_count_rule, record
 use Rattle.sheet_rules.proofs.Records.{records_unasked, records_asked}
 use Rattle.rows.proofs.Fields.{area_of_records}
 use Rattle.sheet.proofs.Areas.{allowed_word}
-use Rattle.sheet.proofs.record_rows.records_sound.Goals as goal
+use Rattle.sheet.proofs.headed.Headed.records_sound.Goals as goal
 
 -- the rules of the row that was read where the header says
 asked : (sheet : List ℕ) {header : Header} {records : RecordArea} → header ≡ header_of sheet → header.record_areas ≡ 1
@@ -22,26 +22,26 @@ asked sheet {header} {records} is one read =
     records_asked sheet records
     (area_of_records sheet has (ap (λ (h : Header). h.areas) is) (ap (λ (h : Header). h.items) is) records read) has
 
-pub returns-then-header-ne1 : goal.returns-then-header-ne1
-returns-then-header-ne1 c =
-    let s = c.args.sheet.now in
-    sym (records_unasked s (ne_eqb (record_areas s) 1 (λ one. c.if-header-ne1.true (ap (λ (h : Header). h.record_areas) c.requires ∙ one))))
+pub returns-then-self-ne1 : goal.returns-then-self-ne1
+returns-then-self-ne1 c =
+    let s = c.args.self.sheet.now in
+    sym (records_unasked s (ne_eqb (record_areas s) 1 (λ one. c.if-self-ne1.true (ap (λ (h : Header). h.record_areas) c.args.self.read ∙ one))))
 
 pub returns-then-not-records_sound : goal.returns-then-not-records_sound
 returns-then-not-records_sound c =
-    sym (asked c.args.sheet.now c.requires c.if-header-ne1.false c.record_row-records.ensures
+    sym (asked c.args.self.sheet.now c.args.self.read c.if-self-ne1.false c.record_row-records.ensures
     ∙ simp (sym c.records_sound.ensures ∙ c.if-not-records_sound.true))
 
 pub returns-then-not-all_apart : goal.returns-then-not-all_apart
 returns-then-not-all_apart c =
-    sym (asked c.args.sheet.now c.requires c.if-header-ne1.false c.record_row-records.ensures
+    sym (asked c.args.self.sheet.now c.args.self.read c.if-self-ne1.false c.record_row-records.ensures
     ∙ simp (sym c.all_apart.ensures ∙ c.if-not-all_apart.true, and-false))
 
 pub returns-then-not-sums_05 : goal.returns-then-not-sums_05
 returns-then-not-sums_05 c =
-    let s = c.args.sheet.now in
-    let without = sym (allowed_word s (ap (λ (h : Header). h.functions) c.requires) c.sums_05.ensures) in
-    sym (asked s c.requires c.if-header-ne1.false c.record_row-records.ensures
+    let s = c.args.self.sheet.now in
+    let without = sym (allowed_word s (ap (λ (h : Header). h.functions) c.args.self.read) c.sums_05.ensures) in
+    sym (asked s c.args.self.read c.if-self-ne1.false c.record_row-records.ensures
     ∙ simp (
       sym c.records_sound.ensures ∙ c.if-not-records_sound.false,
       sym c.all_apart.ensures ∙ c.if-not-all_apart.false,
@@ -50,13 +50,13 @@ returns-then-not-sums_05 c =
 
 pub returns : goal.returns
 returns c =
-    let s = c.args.sheet.now in
-    let with_05 = sym (allowed_word s (ap (λ (h : Header). h.functions) c.requires) c.sums_05.ensures) in
-    sym (asked s c.requires c.if-header-ne1.false c.record_row-records.ensures
+    let s = c.args.self.sheet.now in
+    let with_05 = sym (allowed_word s (ap (λ (h : Header). h.functions) c.args.self.read) c.sums_05.ensures) in
+    sym (asked s c.args.self.read c.if-self-ne1.false c.record_row-records.ensures
     ∙ simp (
       sym c.records_sound.ensures ∙ c.if-not-records_sound.false,
       sym c.all_apart.ensures ∙ c.if-not-all_apart.false,
       with_05 ∙ c.if-not-sums_05.false,
     )
-    (ap (λ (clear : ℕ). not (in_records clear c.record_row-records.result)) (sym (ap (λ (h : Header). h.clear) c.requires))
+    (ap (λ (clear : ℕ). not (in_records clear c.record_row-records.result)) (sym (ap (λ (h : Header). h.clear) c.args.self.read))
     ∙ sym (ap not c.in_records.ensures)))

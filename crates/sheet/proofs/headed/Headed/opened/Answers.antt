@@ -1,33 +1,33 @@
--- `sheet::item_rows::opened` meets its contract: the area at hand is used up, and the next one is opened. Assumes nothing.
-use Rattle.std.proofs.Common.{arith, ◌∙◌, ◌<◌}
+-- `sheet::headed::Headed::opened` meets its contract: the area at hand is used up, and the next one is opened. Assumes nothing.
+use Rattle.std.proofs.Common.{ap, arith, ◌∙◌, ◌<◌}
+use Rattle.sheet_rules.specs.declared.Header.{Header}
 use Rattle.lists.proofs.Among.{each_among}
 use Rattle.sheet_rules.specs.Rows.{area_count}
 use Rattle.sheet_rules.specs.Rules.{access_rule, first_last_rule}
 use Rattle.sheet.proofs.Covering.{area_among, left_open, way_open}
-use Rattle.sheet.proofs.item_rows.opened.Goals as goal
+use Rattle.sheet.proofs.headed.Headed.opened.Goals as goal
 
 pub covered_length-requires-clause-area_value : goal.covered_length-requires-clause-area_value
 covered_length-requires-clause-area_value c =
     let way = c.loop-end.invariant in
-    let row = area_among c.args.sheet.now c.loop-end.area c.area_row-row.result c.area_row-row.ensures (omega (arith, way.counted)) in
+    let row = area_among c.args.self.sheet.now c.loop-end.area c.area_row-row.result c.area_row-row.ensures (omega (arith, ap (λ (h : Header). h.areas) c.args.self.read)) in
     each_among access_rule row way.under_way.known
 
 pub covered_length-requires-clause-area_value_2 : goal.covered_length-requires-clause-area_value_2
 covered_length-requires-clause-area_value_2 c =
     let way = c.loop-end.invariant in
-    let row = area_among c.args.sheet.now c.loop-end.area c.area_row-row.result c.area_row-row.ensures (omega (arith, way.counted)) in
+    let row = area_among c.args.self.sheet.now c.loop-end.area c.area_row-row.result c.area_row-row.ensures (omega (arith, ap (λ (h : Header). h.areas) c.args.self.read)) in
     each_among first_last_rule row way.under_way.order
 
 pub loop-end-preserved : goal.loop-end-preserved
 loop-end-preserved c =
-    let s = c.args.sheet.now in
+    let s = c.args.self.sheet.now in
     let loop = c.loop-end in
     let way = c.loop-end.invariant in
     let row = c.area_row-row in
     let size = c.covered_length in
-    let inside : loop.area < area_count s = omega (arith, way.counted) in
+    let inside : loop.area < area_count s = omega (arith, ap (λ (h : Header). h.areas) c.args.self.read) in
     record {
-      counted = way.counted;
       under_way =
           way_open s loop.area row.result size.result row.ensures inside size.ensures way.under_way.known way.under_way.order way.under_way.follow
           (omega arith) (omega arith);

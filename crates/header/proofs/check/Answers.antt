@@ -1,14 +1,14 @@
--- `header::header_sound` meets its contract: after each `&&` the answer so far is the rules so far. Assumes nothing.
-use Rattle.std.proofs.Common.{◌≡◌, refl, ap, ◌∙◌, eqb, ◌+◌, ◌*◌, length, Bool, ◌&&◌}
+-- `header::check` meets its contract: after each `&&` the answer so far is the rules so far. Assumes nothing.
+use Rattle.std.proofs.Common.{◌≡◌, sym, ap, ◌∙◌, eqb, ◌+◌, ◌*◌, length, Bool, true, false, ◌&&◌, Some}
 use Rattle.lists.specs.Lists.{between}
 use Rattle.lists.proofs.Tests.{tested, carried}
 use Rattle.sheet_rules.specs.Rules.{header_sound}
 use Rattle.sheet_rules.specs.declared.Header.{Header}
-use Rattle.header.proofs.header_sound.Goals as goal
-use Rattle.header.proofs.header_sound.Goals.{Joined-words-areas}
-use Rattle.header.proofs.header_sound.Goals.{then-between, else-between, then-between-2, else-between-2, then-header-eq12, else-header-eq12}
-use Rattle.header.proofs.header_sound.Goals.{then-between-3, else-between-3, then-header-areas, else-header-areas, then-between-4, else-between-4}
-use Rattle.header.proofs.header_sound.Goals.{then-between-5, else-between-5, then-words-areas, else-words-areas}
+use Rattle.header.proofs.check.Goals as goal
+use Rattle.header.proofs.check.Goals.{Joined-between-6}
+use Rattle.header.proofs.check.Goals.{then-between, else-between, then-between-2, else-between-2, then-header-eq12, else-header-eq12}
+use Rattle.header.proofs.check.Goals.{then-between-3, else-between-3, then-header-areas, else-header-areas, then-between-4, else-between-4}
+use Rattle.header.proofs.check.Goals.{then-between-5, else-between-5, then-header-areas-2, else-header-areas-2, then-between-6, else-between-6}
 
 -- the rules of a header, but for the last one, by its words
 module _ (h : Header) where
@@ -36,9 +36,11 @@ module _ (h : Header) where
   abbrev rules-9 : Bool
   rules-9 = rules-8 && between 0 1 h.record_areas
 
-so_far : (c : Joined-words-areas) → c.if-words-areas.value ≡ rules-9 c.args.header
-so_far c =
-    let h = c.args.header in
+all : (c : Joined-between-6) → c.if-between-6.sound ≡ header_sound c.args.sheet.now
+unfolding header_sound
+all c =
+    let h = c.header-header.result in
+    let s = c.args.sheet.now in
     let so_far-1 : c.if-between.value ≡ rules-2 h = elim c.if-between.branch [
       | then-between w ↦ tested c.between.ensures w.if-between.true (w.value-is ∙ w.between-then-between.ensures)
       | else-between w ↦ carried (between 1 8 h.areas) c.between.ensures w.if-between.false w.value-is
@@ -67,21 +69,22 @@ so_far c =
       | then-between-5 w ↦ tested so_far-6 w.if-between-5.true w.value-is
       | else-between-5 w ↦ carried (eqb h.words (12 + 4 * h.areas + 6 * h.items + 3 * h.record_areas)) so_far-6 w.if-between-5.false w.value-is
     ] in
-    elim c.if-words-areas.branch [
-      | then-words-areas w ↦ tested so_far-7 w.if-words-areas.true (w.value-is ∙ w.between-then-words-areas.ensures)
-      | else-words-areas w ↦ carried (between 0 1 h.record_areas) so_far-7 w.if-words-areas.false w.value-is
-    ]
+    let so_far-8 : c.if-header-areas-2.value ≡ rules-9 h = elim c.if-header-areas-2.branch [
+      | then-header-areas-2 w ↦ tested so_far-7 w.if-header-areas-2.true (w.value-is ∙ w.between-then-header-areas-2.ensures)
+      | else-header-areas-2 w ↦ carried (between 0 1 h.record_areas) so_far-7 w.if-header-areas-2.false w.value-is
+    ] in
+    let all : c.if-between-6.sound ≡ (rules-9 h && eqb (length s) (2 * h.words)) = elim c.if-between-6.branch [
+      | then-between-6 w ↦ tested so_far-8 w.if-between-6.true w.sound-is
+      | else-between-6 w ↦ carried (eqb (length s) (2 * h.words)) so_far-8 w.if-between-6.false w.sound-is
+    ] in
+    all ∙ ap (λ (h : Header). rules-9 h && eqb (length s) (2 * h.words)) c.header-header.ensures
 
-pub returns-then-between-6 : goal.returns-then-between-6
-unfolding header_sound
-returns-then-between-6 c =
-    let s = c.args.sheet.now in
-    tested (so_far (goal.at.returns-then-between-6 c).Joined-words-areas) c.if-between-6.true refl
-    ∙ ap (λ (h : Header). rules-9 h && eqb (length s) (2 * h.words)) c.requires
+pub returns-then-sound : goal.returns-then-sound
+returns-then-sound c =
+    let sound : header_sound c.args.sheet.now ≡ true = sym (all (goal.at.returns-then-sound c).Joined-between-6) ∙ c.if-sound.true in
+    rw sound (ap (λ (h : Header). Some h) c.header-header.ensures)
 
-pub returns-else-between-6 : goal.returns-else-between-6
-unfolding header_sound
-returns-else-between-6 c =
-    let s = c.args.sheet.now in
-    carried (eqb (length s) (2 * c.args.header.words)) (so_far (goal.at.returns-else-between-6 c).Joined-words-areas) c.if-between-6.false refl
-    ∙ ap (λ (h : Header). rules-9 h && eqb (length s) (2 * h.words)) c.requires
+pub returns-else-sound : goal.returns-else-sound
+returns-else-sound c =
+    let broken : header_sound c.args.sheet.now ≡ false = sym (all (goal.at.returns-else-sound c).Joined-between-6) ∙ c.if-sound.false in
+    rw broken
