@@ -2,28 +2,30 @@
 // and where to.
 #![tactic(auto)]
 
-ghost use Rattle.std.specs.Prelude.{◌≡◌, map};
+ghost use Rattle.std.specs.Prelude.{◌≡◌, map, IfOk};
+ghost use Rattle.refusals.specs.Answers.{answer_in};
 ghost use Rattle.lists.specs.Lists.{up_from};
 ghost use Rattle.bank_rules.specs.Stores.{word_of, stored};
 ghost use Rattle.bank_rules.specs.Bank.{value_by, zero_at, item_stores, empty_or_odd, is_read_only, all_read_only};
 ghost use Rattle.bank_rules.specs.Calls.{lent, fresh_answer};
 
 use refusals::Refusal;
+use sheet::SoundSheet;
 use sheet_rules::{Item, Lies};
 
-// The refusals that all calls on a bank share: a sheet that breaks a rule, and a bank that has not 2B + 2 bytes.
-pub fn check_size(sheet: &[u8], bank: &[u8]) -> Result<(), Refusal>
-    ensures { result ≡ fresh_answer (lent sheet.now bank.now) }
+// The refusals that all calls on a bank share: a sheet that breaks a rule, and a bank that has not 2B + 2 bytes. Where there is none the sheet is handed
+// on, which its type now knows to be sound.
+pub fn check_size<'a>(sheet: &'a [u8], bank: &[u8]) -> Result<SoundSheet<'a>, Refusal>
+    ensures answer { answer_in result ≡ fresh_answer (lent sheet.now bank.now) }
+    ensures same { IfOk result (λ kept. kept.bytes ≡ sheet.entry) }
 {
-    // A match and no `?`: the kit shows no code of what `?` calls, which the theorem door_machine would need.
-    match sheet::check(sheet) {
-        Ok(()) => {}
-        Err(refusal) => return Err(refusal),
-    }
+    let Ok(kept) = sheet::sound(sheet) else {
+        return Err(Refusal::BrokenSheet);
+    };
     if bank.len() != 2 * (rows::bank_words(sheet) as usize) + 2 {
         return Err(Refusal::MisfittingBank);
     }
-    Ok(())
+    Ok(kept)
 }
 
 // The value of an item: its word, or for a pair both, upper word first.
@@ -55,10 +57,8 @@ pub fn store_item(bank: &mut [u8], item: Item, value: u32)
 pub fn zero_words(bank: &mut [u8], count: u32)
     ensures { bank.new ≡ stored bank.old (map zero_at (up_from 0 count)) }
 {
-    let mut place: u32 = 0;
-    while place < count {
+    for place in 0..count {
         words::store_word(bank, 2 * (place as usize), 0);
-        place += 1;
     }
 }
 
@@ -66,10 +66,7 @@ pub fn zero_words(bank: &mut [u8], count: u32)
 pub fn empty_or_odd(bytes: &[u8]) -> bool
     ensures { result ≡ empty_or_odd bytes.now }
 {
-    if bytes.len() == 0 {
-        return true;
-    }
-    bytes.len() % 2 == 1
+    bytes.is_empty() || bytes.len() % 2 == 1
 }
 
 // Whether what lies somewhere is in an access 1 area.
@@ -86,14 +83,10 @@ fn is_read_only(lies: Option<Lies>) -> bool
 pub fn all_read_only(sheet: &[u8], address: u32, count: usize) -> bool
     ensures { result ≡ all_read_only sheet.now (up_from address count) }
 {
-    let mut next = address;
-    let mut k = 0;
-    while k < count {
-        if !is_read_only(lookup::lies_at(sheet, next)) {
+    for k in 0..count {
+        if !is_read_only(lookup::lies_at(sheet, address + k as u32)) {
             return false;
         }
-        next += 1;
-        k += 1;
     }
     true
 }

@@ -10,15 +10,12 @@ pub loop-place-preserved : goal.loop-place-preserved
 loop-place-preserved c =
     let a = c.args in
     let loop = c.loop-place in
-    record {
-      within = omega arith;
-      left = stores_go_on zero_at loop.bank c.store_word.new.bytes (stored a.bank.now (map zero_at (up_from 0 a.count))) loop.place a.count
-          c.loop-place-test.true loop.invariant.left c.store_word.ensures;
-    }
+    stores_go_on zero_at loop.bank c.store_word.new.bytes (stored a.bank.now (map zero_at (up_from 0 a.count))) loop.place a.count
+    (omega arith) loop.invariant c.store_word.ensures
 
 pub returns : goal.returns
 returns c =
     let a = c.args in
     let loop = c.loop-place in
-    stores_end zero_at loop.bank (stored a.bank.now (map zero_at (up_from 0 a.count))) loop.place a.count c.loop-place-test.false
-    loop.invariant.left
+    stores_end zero_at loop.bank (stored a.bank.now (map zero_at (up_from 0 a.count))) loop.place a.count (omega arith)
+    loop.invariant
