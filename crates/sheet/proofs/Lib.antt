@@ -1,5 +1,6 @@
 pub mod Areas
 pub mod Covering
+pub mod HeaderWords
 pub mod Items
 pub mod Kept
 pub mod Determined

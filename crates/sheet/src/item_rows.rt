@@ -95,8 +95,7 @@ impl Headed<'_> {
             }
             cover = Cover {
                 next: at.next + one_row::size_of(item),
-                end: at.end,
-                area: at.area,
+                ..at
             };
             address = one_row::address_found(address, item, address_place);
             rate = one_row::rate_found(rate, item, rate_place);

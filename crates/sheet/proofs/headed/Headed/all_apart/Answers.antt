@@ -3,10 +3,10 @@ use Rattle.std.proofs.Common.{◌≡◌, sym, ap, ◌∙◌, List, ◌∷◌, �
 use Rattle.lists.specs.Lists.{each}
 use Rattle.lists.proofs.Walks.{rows_on, rows_all, rows_end_lem, each_goes_on, each_stops, each_ends}
 use Rattle.sheet_rules.specs.declared.Area.{Area}
-use Rattle.sheet_rules.specs.declared.Header.{Header}
 use Rattle.sheet_rules.specs.Rows.{areas, area_at, area_count}
 use Rattle.sheet_rules.specs.Rules.{apart_rule}
 use Rattle.sheet_rules.proofs.Rows.{areas_from, areas_rows}
+use Rattle.sheet.proofs.HeaderWords.{areas_is}
 use Rattle.sheet.proofs.headed.Headed.all_apart.Goals as goal
 
 next_row : (sheet : List ℕ) (k : ℕ) {area : Area} → area ≡ area_at sheet k → k < area_count sheet
@@ -24,7 +24,7 @@ returns-then-not-apart c =
     let s = c.args.self.sheet.now in
     let k = c.loop-k.k in
     let rule = apart_rule c.args.records in
-    let inside : k < area_count s = omega (arith, ap (λ (h : Header). h.areas) c.args.self.read) in
+    let inside : k < area_count s = omega (arith, areas_is c.args.self) in
     sym (each_stops rule (areas_from s k) (areas_from s (k + 1)) c.area_row.result (next_row s k c.area_row.ensures inside) (each rule (areas s))
     c.loop-k.invariant (sym c.apart.ensures ∙ c.if-not-apart.true))
 
@@ -33,7 +33,7 @@ loop-k-preserved c =
     let s = c.args.self.sheet.now in
     let k = c.loop-k.k in
     let rule = apart_rule c.args.records in
-    let inside : k < area_count s = omega (arith, ap (λ (h : Header). h.areas) c.args.self.read) in
+    let inside : k < area_count s = omega (arith, areas_is c.args.self) in
     each_goes_on rule (areas_from s k) (areas_from s (k + 1)) c.area_row.result (next_row s k c.area_row.ensures inside) (each rule (areas s))
     c.loop-k.invariant (sym c.apart.ensures ∙ c.if-not-apart.false)
 
@@ -42,5 +42,5 @@ returns c =
     let s = c.args.self.sheet.now in
     let k = c.loop-k.k in
     let rule = apart_rule c.args.records in
-    let past : area_count s ≤ k = omega (arith, ap (λ (h : Header). h.areas) c.args.self.read) in
+    let past : area_count s ≤ k = omega (arith, areas_is c.args.self) in
     sym (each_ends rule (areas_from s k) (each rule (areas s)) (rows_end_lem (area_at s) k (area_count s) past) c.loop-k.invariant)
