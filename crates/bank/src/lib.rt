@@ -1,47 +1,47 @@
 // The bank: the lent bytes that hold a meter's settings and readings, and the calls by which the firmware itself changes them.
 #![tactic(auto)]
 
-ghost use Rattle.std.specs.Prelude.{◌≡◌, true};
-ghost use Rattle.sheet_rules.specs.Rules.{sound};
+ghost use Rattle.std.specs.Prelude.{◌≡◌, IfOk};
+ghost use Rattle.refusals.specs.Answers.{answer_in};
 ghost use Rattle.bank_rules.specs.Bank.{bank_sound};
 ghost use Rattle.bank_rules.specs.Calls.{lent, check_answer, fresh_outcome, post_outcome, mark_outcome, bank_outcome};
 
 use refusals::Refusal;
+use sheet::SoundSheet;
 
 mod fresh_words;
 mod post_words;
 
 // Whether a bank is sound: rules B10 to B12.
-fn sound(sheet: &[u8], bank: &[u8]) -> bool
-    requires { sound sheet.now ≡ true }
-    ensures { result ≡ bank_sound sheet.now bank.now }
+fn sound(sheet: SoundSheet<'_>, bank: &[u8]) -> bool
+    ensures { result ≡ bank_sound sheet.entry.bytes.now bank.now }
 {
-    let areas = rows::area_count(sheet);
-    let mut k = 0;
-    while rows::item_end(areas, k) <= sheet.len() {
-        let item = rows::item_row(sheet, areas, k);
+    let areas = rows::area_count(sheet.bytes);
+    for k in 0..rows::item_count(sheet.bytes) {
+        let item = rows::item_row(sheet.bytes, areas, k);
         let value = bank_steps::value_in(bank, item);
         if !range::inside(range::side_of(item.kind, item.low, item.high, value)) {
             return false;
         }
-        k += 1;
     }
-    words::word_at(bank, 2 * (rows::bank_words(sheet) as usize)) <= 1
+    words::word_at(bank, 2 * (rows::bank_words(sheet.bytes) as usize)) <= 1
 }
 
-// The refusals that posting, setting the mark and answering share: those of every call on a bank, and a bank that is not sound.
-pub fn check(sheet: &[u8], bank: &[u8]) -> Result<(), Refusal>
-    ensures { result ≡ check_answer (lent sheet.now bank.now) }
+// The refusals that posting, setting the mark and answering share: those of every call on a bank, and a bank that is not sound. Where there is none the sheet
+// is handed on.
+pub fn check<'a>(sheet: &'a [u8], bank: &[u8]) -> Result<SoundSheet<'a>, Refusal>
+    ensures answer { answer_in result ≡ check_answer (lent sheet.now bank.now) }
+    ensures same { IfOk result (λ kept. kept.bytes ≡ sheet.entry) }
 {
     // A match and no `?`: the kit shows no code of what `?` calls, which the theorem door_machine would need.
-    match bank_steps::check_size(sheet, bank) {
-        Ok(()) => {}
+    let kept = match bank_steps::check_size(sheet, bank) {
+        Ok(kept) => kept,
         Err(refusal) => return Err(refusal),
-    }
-    if !sound(sheet, bank) {
+    };
+    if !sound(kept, bank) {
         return Err(Refusal::UnsoundBank);
     }
-    Ok(())
+    Ok(kept)
 }
 
 // Makes a bank fresh.
@@ -50,10 +50,9 @@ pub fn fresh(sheet: &[u8], bank: &mut [u8]) -> Result<(), Refusal>
 {
     // A match and no `?`: the kit shows no code of what `?` calls, which the theorem door_machine would need.
     match bank_steps::check_size(sheet, bank) {
-        Ok(()) => {}
+        Ok(kept) => fresh_words::store_fresh(kept, bank),
         Err(refusal) => return Err(refusal),
     }
-    fresh_words::store_fresh(sheet, bank);
     Ok(())
 }
 
@@ -63,7 +62,7 @@ pub fn post(sheet: &[u8], bank: &mut [u8], address: u32, bytes: &[u8]) -> Result
 {
     // A match and no `?`: the kit shows no code of what `?` calls, which the theorem door_machine would need.
     match check(sheet, bank) {
-        Ok(()) => {}
+        Ok(_) => {}
         Err(refusal) => return Err(refusal),
     }
     if bank_steps::empty_or_odd(bytes) {
@@ -82,7 +81,7 @@ pub fn set_mark(sheet: &[u8], bank: &mut [u8], mark: u32) -> Result<(), Refusal>
 {
     // A match and no `?`: the kit shows no code of what `?` calls, which the theorem door_machine would need.
     match check(sheet, bank) {
-        Ok(()) => {}
+        Ok(_) => {}
         Err(refusal) => return Err(refusal),
     }
     if 1 < mark {

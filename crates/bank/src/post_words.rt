@@ -8,13 +8,8 @@ pub(crate) fn store_posted(sheet: &[u8], bank: &mut [u8], address: u32, bytes: &
     requires { address + length bytes.now / 2 ≤ 65536 }
     ensures { bank.new ≡ stored bank.old (post_stores sheet.now address bytes.now) }
 {
-    let count = bytes.len() / 2;
-    let mut next = address;
-    let mut k = 0;
-    while k < count {
-        let place = lookup::place_in(lookup::lies_at(sheet, next));
+    for k in 0..bytes.len() / 2 {
+        let place = lookup::place_in(lookup::lies_at(sheet, address + k as u32));
         words::store_word(bank, 2 * (place as usize), words::word_at(bytes, 2 * k));
-        next += 1;
-        k += 1;
     }
 }

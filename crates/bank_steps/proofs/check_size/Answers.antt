@@ -6,7 +6,7 @@ use Rattle.refusals.specs.declared.Refusal.{Refusal}
 use Rattle.refusals.specs.declared.Refusal.TheVariants.{MisfittingBank}
 use Rattle.refusals.proofs.Answers.{front_refuses, front_passes, refused_here, passed_here}
 use Rattle.sheet_rules.specs.Rows.{bank_words}
-use Rattle.sheet_rules.specs.Rules.{sheet_refusals, sheet_answer}
+use Rattle.sheet_rules.specs.Rules.{sheet_refusals}
 use Rattle.sheet_rules.proofs.Sound.{sheet_answered}
 use Rattle.sheet.proofs.Kept.{kept_sound}
 use Rattle.bank_rules.specs.Calls.{Lent, lent, misfitting_bank, fresh_answer}
@@ -21,28 +21,28 @@ abbrev size : Lent → Case Refusal
 size given = when (misfitting_bank given) MisfittingBank
 
 pub returns-in_default-clause-answer : goal.returns-in_default-clause-answer
-unfolding fresh_answer sheet_answer
+unfolding fresh_answer
 returns-in_default-clause-answer c =
     let a = c.args in
     sym (front_refuses (sheet_refusals a.sheet.now) (size (lent a.sheet.now a.bank.now) ∷ []) refl
     (sym (sheet_answered a.sheet.now {right = false} c.in_default.ensures.1)))
 
 pub returns-then-bank-bank_words-clause-answer : goal.returns-then-bank-bank_words-clause-answer
-unfolding fresh_answer sheet_answer
+unfolding fresh_answer
 returns-then-bank-bank_words-clause-answer c =
     let a = c.args in
     let given : Lent = lent a.sheet.now a.bank.now in
     let words = c.bank_words in
     sym
-    (front_passes (sheet_refusals a.sheet.now) (size given ∷ []) refl (sym (sheet_answered a.sheet.now {right = true} (kept_sound c.in-Ok.field-0 c.in-Ok.ensures)))
+    (front_passes (sheet_refusals a.sheet.now) (size given ∷ []) refl (sym (sheet_answered a.sheet.now {right = true} (kept_sound c.in-Ok.kept c.in-Ok.ensures)))
     ∙ refused_here (size given) [] (size_tested given words.ensures (ne_eqb (length a.bank.now) (2 * words.result + 2) c.if-bank-bank_words.true)))
 
 pub returns-clause-answer : goal.returns-clause-answer
-unfolding fresh_answer sheet_answer first_case
+unfolding fresh_answer first_case
 returns-clause-answer c =
     let a = c.args in
     let given : Lent = lent a.sheet.now a.bank.now in
     let words = c.bank_words in
     sym
-    (front_passes (sheet_refusals a.sheet.now) (size given ∷ []) refl (sym (sheet_answered a.sheet.now {right = true} (kept_sound c.in-Ok.field-0 c.in-Ok.ensures)))
+    (front_passes (sheet_refusals a.sheet.now) (size given ∷ []) refl (sym (sheet_answered a.sheet.now {right = true} (kept_sound c.in-Ok.kept c.in-Ok.ensures)))
     ∙ passed_here (size given) [] (size_tested given words.ensures (eq-eqb (length a.bank.now) (2 * words.result + 2) c.if-bank-bank_words.false)))
