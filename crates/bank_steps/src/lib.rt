@@ -66,7 +66,7 @@ pub fn zero_words(bank: &mut [u8], count: u32)
 pub fn empty_or_odd(bytes: &[u8]) -> bool
     ensures { result ≡ empty_or_odd bytes.now }
 {
-    bytes.is_empty() || bytes.len() % 2 == 1
+    bytes.len() == 0 || bytes.len() % 2 == 1
 }
 
 // Whether what lies somewhere is in an access 1 area.

@@ -10,7 +10,7 @@ use Rattle.bank.proofs.fresh_words.store_fresh.Goals as goal
 pub returns : goal.returns
 returns c =
     let a = c.args in
-    fresh_made a.sheet.now a.bank.now
+    fresh_made a.sheet.bytes.now a.bank.now
     (c.zero_words.ensures ∙ ap (λ (n : ℕ). stored a.bank.now (map zero_at (up_from 0 (n + 1)))) c.bank_words.ensures)
     c.store_lows.ensures
     (c.store_word.ensures ∙ ap (λ (n : ℕ). with_word c.store_lows.new.bank (2 * n) 1) c.address_place.ensures)

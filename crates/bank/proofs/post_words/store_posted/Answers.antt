@@ -12,30 +12,21 @@ pub loop-k-init : goal.loop-k-init
 unfolding post_stores
 loop-k-init c =
     let a = c.args in
-    record {
-      within = omega arith;
-      next = omega arith;
-      left = stores_start (post_store a.sheet.now a.address a.bytes.now) a.bank.now (length a.bytes.now / 2);
-    }
+    stores_start (post_store a.sheet.now a.address a.bytes.now) a.bank.now (length a.bytes.now / 2)
 
 pub loop-k-preserved : goal.loop-k-preserved
 loop-k-preserved c =
     let a = c.args in
     let loop = c.loop-k in
     let store = post_store a.sheet.now a.address a.bytes.now in
-    let placed = c.place_in-place.ensures ∙ ap place_in c.lies_at.ensures
-    ∙ ap (λ (n : ℕ). place_in (lies_in (areas a.sheet.now) n)) loop.invariant.next in
+    let placed = c.place_in-place.ensures ∙ ap place_in c.lies_at.ensures in
     let made = c.store_word.ensures ∙ ap₂ (λ (place word : ℕ). with_word loop.bank (2 * place) word) placed c.word_at.ensures in
-    record {
-      within = omega arith;
-      next = omega arith;
-      left = stores_go_on store loop.bank c.store_word.new.bytes (stored a.bank.now (post_stores a.sheet.now a.address a.bytes.now)) loop.k
-          (length a.bytes.now / 2) c.loop-k-test.true loop.invariant.left made;
-    }
+    stores_go_on store loop.bank c.store_word.new.bytes (stored a.bank.now (post_stores a.sheet.now a.address a.bytes.now)) loop.k
+    (length a.bytes.now / 2) (omega arith) loop.invariant made
 
 pub returns : goal.returns
 returns c =
     let a = c.args in
     let loop = c.loop-k in
     stores_end (post_store a.sheet.now a.address a.bytes.now) loop.bank (stored a.bank.now (post_stores a.sheet.now a.address a.bytes.now)) loop.k
-    (length a.bytes.now / 2) c.loop-k-test.false loop.invariant.left
+    (length a.bytes.now / 2) (omega arith) loop.invariant

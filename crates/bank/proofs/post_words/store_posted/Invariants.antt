@@ -1,5 +1,5 @@
 -- The stores that are left make of the bank what all make of the first one.
-use Rattle.std.proofs.Common.{◌+◌, ◌-◌, ◌≡◌, ◌≤◌}
+use Rattle.std.proofs.Common.{◌/◌, ◌≡◌, length}
 use Rattle.bank_rules.specs.Stores.{stored}
 use Rattle.bank_rules.specs.Bank.{post_store, post_stores}
 use Rattle.bank_rules.proofs.Stores.{stores_from}
@@ -7,11 +7,4 @@ use Rattle.bank.proofs.post_words.store_posted.Given as goal
 
 abbrev pub invariant-loop-k : goal.invariant-loop-k
 invariant-loop-k l =
-    record {
-      within : l.k ≤ l.count;
-      next : l.next ≡ l.address + l.k;
-      left : stored l.bank (stores_from (post_store l.sheet l.address l.bytes) l.k l.count) ≡ stored l.fn.bank (post_stores l.sheet l.address l.bytes);
-    }
-
-abbrev pub decreases-loop-k : goal.decreases-loop-k
-decreases-loop-k l = l.count - l.k
+    stored l.bank (stores_from (post_store l.sheet l.address l.bytes) l.k (length l.bytes / 2)) ≡ stored l.fn.bank (post_stores l.sheet l.address l.bytes)
