@@ -79,9 +79,7 @@ module _ (more : World) where
   check_value_here = refl
 
   check_value_below : check_value.Below build
-  check_value_below =
-      words.has_byte_at build words_here words_below
-      & tt
+  check_value_below = tt
 
   range_here : Holds build "range" range.table
   unfolding build
