@@ -212,7 +212,6 @@ module _ (more : World) where
       check_value.has_passes build check_value_here check_value_below
       & check_value.has_seal build check_value_here check_value_below
       & words.has_byte_at build words_here words_below
-      & words.has_store_byte build words_here words_below
       & words.has_store_word build words_here words_below
       & words.has_word_at build words_here words_below
       & tt
