@@ -1,6 +1,8 @@
 // The check value, as a running state: rule C9.
 #![tactic(auto)]
 
+// (a) The check's two bytes are put together and apart here, and not by from_le_bytes and to_le_bytes: as in `words`, crates/runs shows a machine that has all of this code (claim D13).
+
 ghost use Rattle.std.specs.Prelude.{◌≡◌};
 ghost use Rattle.check_value.specs.Check.{start_state, bits_of_byte, shifted_times, taken, value_of, check_at};
 ghost use Rattle.check_value.specs.Frame.{passes, sealed};
@@ -33,7 +35,7 @@ fn eight_shifts(low: u8) -> u16
     ensures { result ≡ shifted_times bits_of_byte low }
 {
     let byte = low as u32;
-    let marked = if u32::count_ones(byte) % 2 == 1 {
+    let marked = if byte.count_ones() % 2 == 1 {
         byte + ODD
     } else {
         byte
@@ -71,42 +73,36 @@ impl Check {
 
 // The check value of a whole slice. It is called from many places of the archive, which is to stay small.
 #[inline(never)]
+#[tactic(auto, using(crate::proofs::Running::after_step, crate::proofs::Running::after_end), unfolding(crate::specs::Check::value_of))]
 pub fn value_of(bytes: &[u8]) -> u16
     ensures { result ≡ value_of bytes.now }
 {
     let mut check = Check::start();
-    let mut at = 0;
-    while at < bytes.len() {
-        check = check.take(bytes[at]);
-        at += 1;
+    for &byte in bytes {
+        check = check.take(byte);
     }
     check.value()
 }
 
 // Whether a frame passes: 4 to 100 bytes, and the last two hold the check of those before them, low byte first.
+#[tactic(auto, unfolding(crate::specs::Frame::passes))]
 pub fn passes(frame: &[u8]) -> bool
     ensures { result ≡ passes frame.now }
 {
-    let n = frame.len();
-    if n < SHORTEST {
-        return false;
+    match frame {
+        [covered @ .., low, high] if matches!(frame.len(), SHORTEST..=LONGEST) => {
+            value_of(covered) == *high as u16 * 256 + *low as u16
+        }
+        _ => false,
     }
-    if LONGEST < n {
-        return false;
-    }
-    let body = n - CHECK_BYTES;
-    let value = value_of(&frame[..body]);
-    value == words::byte_at(frame, n - 1) as u16 * 256 + words::byte_at(frame, body) as u16
 }
 
 // Puts behind the first n bytes of a buffer their check, low byte first; without room for it the buffer stays as it is.
+#[tactic(auto, unfolding(crate::specs::Frame::sealed))]
 pub fn seal(buffer: &mut [u8], n: usize)
     ensures { buffer.new ≡ sealed buffer.old n }
 {
-    if buffer.len() < CHECK_BYTES {
-        return;
-    }
-    if buffer.len() - CHECK_BYTES < n {
+    if buffer.len() < CHECK_BYTES || buffer.len() - CHECK_BYTES < n {
         return;
     }
     let value = value_of(&buffer[..n]);

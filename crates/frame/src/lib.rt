@@ -39,6 +39,7 @@ pub struct Parts {
 }
 
 // Step 1: takes a frame apart, where it passes.
+#[tactic(auto, unfolding(crate::specs::Frame::passed_frame))]
 pub fn taken_apart(frame: &[u8]) -> Option<Parts>
     ensures { result ≡ passed_frame frame.now }
 {
@@ -61,23 +62,20 @@ const TOP_BIT: u8 = 0x80;
 pub fn top_bit_set(function: u8) -> u8
     ensures { result ≡ top_bit_set function }
 {
-    if function < TOP_BIT {
-        function + TOP_BIT
-    } else {
-        function
-    }
+    function | TOP_BIT
 }
 
 // Rules R4 to R6. Gives the length of the reply, or 0 without room.
+// (a) A number for what is an Option, here and in the two below: each promise is that of specs/Reply.antt, whose `lay_reply` fills 0 bytes without room.
 pub fn reply_error(frame: &[u8], buffer: &mut [u8], code: u8) -> u32
     ensures { fill result buffer.new ≡ lay_reply (with_check (error_reply frame.now code)) buffer.old }
 {
     if buffer.len() < ERROR_LENGTH as usize {
         return 0;
     }
-    words::store_byte(buffer, 0, words::byte_at(frame, 0));
-    words::store_byte(buffer, 1, top_bit_set(words::byte_at(frame, 1)));
-    words::store_byte(buffer, 2, code);
+    buffer[0] = words::byte_at(frame, 0);
+    buffer[1] = top_bit_set(words::byte_at(frame, 1));
+    buffer[2] = code;
     check_value::seal(buffer, 3);
     ERROR_LENGTH
 }
@@ -89,8 +87,8 @@ pub fn reply_echo(frame: &[u8], buffer: &mut [u8]) -> u32
     if buffer.len() < ECHO_LENGTH as usize {
         return 0;
     }
-    words::store_byte(buffer, 0, words::byte_at(frame, 0));
-    words::store_byte(buffer, 1, words::byte_at(frame, 1));
+    buffer[0] = words::byte_at(frame, 0);
+    buffer[1] = words::byte_at(frame, 1);
     words::store_word(buffer, 2, words::word_at(frame, 2));
     words::store_word(buffer, 4, words::word_at(frame, 4));
     check_value::seal(buffer, 6);
@@ -103,13 +101,12 @@ fn lay_words(source: &[u8], buffer: &mut [u8], first: u32, many: u32)
     requires { 3 + 2 * many ≤ length buffer.old }
     ensures { buffer.new ≡ laid (take 3 buffer.old ++ bytes_of (words_from source.now first many)) buffer.old }
 {
-    let mut k: u32 = 0;
-    while k < many {
+    for k in 0..many {
         let word = words::word_at(source, 2 * (first as usize + k as usize));
         let at = 3 + 2 * (k as usize);
+        // (a) Taken apart here, and not by to_be_bytes: as in `words`, crates/runs shows a machine that has all of this code (claim D13).
         buffer[at] = (word / 256) as u8;
         buffer[at + 1] = (word % 256) as u8;
-        k += 1;
     }
 }
 
@@ -124,9 +121,9 @@ pub fn reply_read(source: &[u8], frame: &[u8], buffer: &mut [u8], first: u32, ma
     if buffer.len() < length as usize {
         return 0;
     }
-    words::store_byte(buffer, 0, words::byte_at(frame, 0));
-    words::store_byte(buffer, 1, READS);
-    words::store_byte(buffer, 2, (2 * many) as u8);
+    buffer[0] = words::byte_at(frame, 0);
+    buffer[1] = READS;
+    buffer[2] = (2 * many) as u8;
     lay_words(source, buffer, first, many);
     check_value::seal(buffer, 3 + 2 * (many as usize));
     length

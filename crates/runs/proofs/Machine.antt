@@ -79,9 +79,7 @@ module _ (more : World) where
   check_value_here = refl
 
   check_value_below : check_value.Below build
-  check_value_below =
-      words.has_byte_at build words_here words_below
-      & tt
+  check_value_below = tt
 
   range_here : Holds build "range" range.table
   unfolding build
@@ -214,7 +212,6 @@ module _ (more : World) where
       check_value.has_passes build check_value_here check_value_below
       & check_value.has_seal build check_value_here check_value_below
       & words.has_byte_at build words_here words_below
-      & words.has_store_byte build words_here words_below
       & words.has_store_word build words_here words_below
       & words.has_word_at build words_here words_below
       & tt

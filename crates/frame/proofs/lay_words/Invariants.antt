@@ -1,14 +1,8 @@
 -- `frame::lay_words` meets its contract. The loop's invariant: the words passed lie behind the first three bytes. Assumes nothing.
-use Rattle.std.proofs.Common.{◌≡◌, ◌-◌, ◌≤◌, length, take, ◌++◌}
+use Rattle.std.proofs.Common.{◌≡◌, take, ◌++◌}
 use Rattle.words.specs.Words.{bytes_of}
 use Rattle.frame.specs.Reply.{words_from, laid}
 use Rattle.frame.proofs.lay_words.Given as goal
 
 abbrev pub invariant-loop-k : goal.invariant-loop-k
-invariant-loop-k l =
-    (l.k ≤ l.many)
-    × (length l.buffer ≡ length l.initial.buffer)
-    × (l.buffer ≡ laid (take 3 l.initial.buffer ++ bytes_of (words_from l.source l.first l.k)) l.initial.buffer)
-
-abbrev pub decreases-loop-k : goal.decreases-loop-k
-decreases-loop-k l = l.many - l.k
+invariant-loop-k l = l.buffer ≡ laid (take 3 l.initial.buffer ++ bytes_of (words_from l.source l.first l.k)) l.initial.buffer

@@ -1,6 +1,7 @@
 -- `frame::reply_echo` meets its contract: two bytes, two words and their check, laid one after another. Assumes nothing.
 use Rattle.std.proofs.Common.{refl, ◌∙◌, ap, arith, [], ◌∷◌}
-use Rattle.words.specs.Words.{with_byte, with_word, word_bytes}
+use Rattle.std.proofs.Math.ListN.{set}
+use Rattle.words.specs.Words.{with_word, word_bytes}
 use Rattle.frame.specs.Frame.{station, function, start, second}
 use Rattle.frame.specs.Reply.{echo, with_check}
 use Rattle.frame.proofs.Laying.{then_byte, then_word, then_sealed, lays, lays_none}
@@ -16,11 +17,11 @@ returns c =
     let frame = c.args.frame.now in
     let buffer = c.args.buffer.now in
     let one = then_byte buffer [] refl (station frame) (omega arith)
-    (c.store_byte.ensures ∙ ap (with_byte buffer 0) c.byte_at.ensures) in
+    (ap (set buffer 0) c.byte_at.ensures) in
     let two = then_byte buffer (station frame ∷ []) one (function frame) (omega arith)
-    (c.store_byte-2.ensures ∙ ap (with_byte c.store_byte.new.bytes 1) c.byte_at-2.ensures) in
+    (ap (set (set buffer 0 c.byte_at.result) 1) c.byte_at-2.ensures) in
     let three = then_word buffer (station frame ∷ function frame ∷ []) two (start frame) 2 refl (omega arith)
-    (c.store_word.ensures ∙ ap (with_word c.store_byte-2.new.bytes 2) c.word_at.ensures) in
+    (c.store_word.ensures ∙ ap (with_word (set (set buffer 0 c.byte_at.result) 1 c.byte_at-2.result) 2) c.word_at.ensures) in
     let four = then_word buffer (station frame ∷ function frame ∷ word_bytes (start frame)) three (second frame) 4 refl (omega arith)
     (c.store_word-2.ensures ∙ ap (with_word c.store_word.new.bytes 4) c.word_at-2.ensures) in
     lays (with_check (echo frame)) buffer (omega arith) (omega arith) refl

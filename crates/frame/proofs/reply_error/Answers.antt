@@ -1,6 +1,6 @@
 -- `frame::reply_error` meets its contract: three bytes and their check, laid one after another. Assumes nothing.
 use Rattle.std.proofs.Common.{refl, ◌∙◌, ap, arith, [], ◌∷◌}
-use Rattle.words.specs.Words.{with_byte}
+use Rattle.std.proofs.Math.ListN.{set}
 use Rattle.frame.specs.Frame.{station, function}
 use Rattle.frame.specs.Reply.{top_bit_set, error_reply, with_check}
 use Rattle.frame.proofs.Laying.{then_byte, then_sealed, lays, lays_none}
@@ -15,11 +15,9 @@ unfolding with_check
 returns c =
     let frame = c.args.frame.now in
     let buffer = c.args.buffer.now in
-    let one = then_byte buffer [] refl (station frame) (omega arith)
-    (c.store_byte.ensures ∙ ap (with_byte buffer 0) c.byte_at.ensures) in
+    let one = then_byte buffer [] refl (station frame) (omega arith) (ap (set buffer 0) c.byte_at.ensures) in
     let two = then_byte buffer (station frame ∷ []) one (top_bit_set (function frame)) (omega arith)
-    (c.store_byte-2.ensures ∙ ap (with_byte c.store_byte.new.bytes 1)
-    (c.top_bit_set.ensures ∙ ap top_bit_set c.byte_at-2.ensures)) in
-    let three = then_byte buffer (station frame ∷ top_bit_set (function frame) ∷ []) two c.args.code (omega arith) c.store_byte-3.ensures in
+    (ap (set (set buffer 0 c.byte_at.result) 1) (c.top_bit_set.ensures ∙ ap top_bit_set c.byte_at-2.ensures)) in
+    let three = then_byte buffer (station frame ∷ top_bit_set (function frame) ∷ []) two c.args.code (omega arith) refl in
     lays (with_check (error_reply frame c.args.code)) buffer (omega arith) (omega arith) refl
     (then_sealed buffer (error_reply frame c.args.code) three 3 refl (omega arith) c.seal.ensures)

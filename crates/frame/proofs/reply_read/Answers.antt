@@ -1,6 +1,7 @@
 -- `frame::reply_read` meets its contract: three bytes, the words and their check, laid one after another. Assumes nothing.
 use Rattle.std.proofs.Common.{◌≡◌, ℕ, ◌+◌, ◌*◌, refl, ◌∙◌, sym, ap, arith, List, [], ◌∷◌, ◌++◌, length, take}
-use Rattle.words.specs.Words.{with_byte, bytes_of}
+use Rattle.std.proofs.Math.ListN.{set}
+use Rattle.words.specs.Words.{bytes_of}
 use Rattle.frame.specs.Frame.{reads, station}
 use Rattle.frame.specs.Reply.{words_from, read_reply, with_check, laid}
 use Rattle.frame.proofs.Laying.{then_byte, then_sealed, laid_over, lays, lays_none, lays_no_frame}
@@ -32,9 +33,9 @@ returns c =
     let reply = read_reply source frame a.first a.many in
     let long = whole_length source frame a.first a.many in
     let one = then_byte entry [] refl (station frame) (omega arith)
-    (c.store_byte.ensures ∙ ap (with_byte entry 0) c.byte_at.ensures) in
-    let two = then_byte entry (station frame ∷ []) one reads (omega arith) c.store_byte-2.ensures in
-    let three = then_byte entry (station frame ∷ reads ∷ []) two (2 * a.many) (omega arith) c.store_byte-3.ensures in
+    (ap (set entry 0) c.byte_at.ensures) in
+    let two = then_byte entry (station frame ∷ []) one reads (omega arith) refl in
+    let three = then_byte entry (station frame ∷ reads ∷ []) two (2 * a.many) (omega arith) refl in
     let laid-all = c.lay_words.ensures
     ∙ ap (λ (l : List ℕ). laid (take 3 l ++ bytes_of (words_from source a.first a.many)) l) three
     ∙ laid_over (station frame ∷ reads ∷ (2 * a.many) ∷ []) (bytes_of (words_from source a.first a.many)) entry in

@@ -1,8 +1,0 @@
--- `words::word_at` meets its contract: the two bytes are read. Assumes nothing.
-use Rattle.std.proofs.Common.{rules}
-use Rattle.words.specs.Words.{word_at}
-use Rattle.words.proofs.word_at.Goals as goal
-
-pub returns : goal.returns
-unfolding word_at
-returns c = search rules
