@@ -1,4 +1,5 @@
 pub mod Addresses
 pub mod Placed
+pub mod Found
 pub mod Determined
 pub mod Linked

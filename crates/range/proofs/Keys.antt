@@ -1,15 +1,23 @@
 -- What the functions of this crate do with one kind of value each, over plain numbers: their goals are found by these. Assumes nothing.
-use mathlib.Core.Path.{◌≡◌, sym, ap, ap₂, ◌∙◌}
-use Prim.Native.Nat.{ℕ, ◌≤◌, ◌<◌, ◌^◌}
+use mathlib.Core.Path.{◌≡◌, refl, sym, ap, ap₂, ◌∙◌}
+use Prim.Native.Nat.{ℕ, ◌+◌, ◌≤◌, ◌<◌, ◌^◌}
 use native.Mathlib.Omega.{arith}
 use lib.Dec.{leb}
-use lib.IntN.{ℤ, pos, ◌+ℤ◌, ◌-ℤ◌}
+use lib.IntN.{ℤ, pos, ◌+ℤ◌, ◌-ℤ◌, -ℤ-+ℤ_cancel}
 use lib.Signed.{le_z}
 use mir.Syntax.{w64}
 use mir.Val.{to_z, of_z}
 use mir.ValLaws.{to_z-of_z}
 use Rattle.range.specs.Range.{number_of, signed_word, not_above}
 use Rattle.range.proofs.Numbers.{number_plain, number_low, number_high, cast_value, less_fits, order_kept}
+
+-- the key of a signed word in the lower and in the upper half
+pub low_key : (value : ℕ) → value < 0x8000 → pos (value + 0x10000) ≡ number_of signed_word value +ℤ pos 0x10000
+low_key value low = ap (λ (n : ℤ). n +ℤ pos 0x10000) (sym (number_low signed_word value refl low))
+
+pub high_key : (value : ℕ) → 0x8000 ≤ value → pos value ≡ number_of signed_word value +ℤ pos 0x10000
+high_key value high =
+    sym (ap (λ (n : ℤ). n +ℤ pos 0x10000) (number_high signed_word value refl high) ∙ -ℤ-+ℤ_cancel (pos value) (pos 0x10000))
 
 -- signed words are compared by their keys
 pub keys_compared : (kind a b x y : ℕ) → kind ≡ signed_word → pos x ≡ number_of signed_word a +ℤ pos 0x10000

@@ -1,4 +1,5 @@
 // The header and the rows of a sheet. Any bytes are taken as a sheet, with any number of areas and any index: a word past the end is 0.
+// Nothing of `std` is called, no `from_be_bytes`: `runs::proofs::Machine` holds each function that is called, and the kit shuts the code of `std`.
 #![tactic(auto)]
 
 ghost use Rattle.std.specs.Prelude.{◌≡◌, ◌+◌, ◌*◌, ◌/◌, ◌%◌, ◌≤◌, ◌<◌, length};
@@ -17,7 +18,7 @@ fn word(sheet: &[u8], n: usize) -> u16
     words::word_at(sheet, 2 * n)
 }
 
-// Header word 1: rule S1.
+// Header word 1: rule S1. This function and those up to `has_records` are names for words of the header, which `word` alone reads.
 pub fn area_count(sheet: &[u8]) -> u16
     ensures { result ≡ area_count sheet.now }
 {
@@ -94,6 +95,7 @@ pub fn header(sheet: &[u8]) -> Header
 }
 
 // A word whose two bytes are inside the sheet: the same with no test.
+#[tactic(auto, unfolding(words::specs::Words::word_at))]
 fn word_inside(sheet: &[u8], n: usize) -> u16
     requires { 2 * n + 2 ≤ length sheet.now }
     ensures { result ≡ word sheet.now n }
@@ -111,6 +113,7 @@ fn joined(upper: u16, lower: u16) -> u32
 }
 
 // An item row from a word on, wherever it stands. Kept apart from the rows that are inside, so that those are read in the place of a call.
+#[tactic(auto, unfolding(sheet_rules::specs::Rows::item_from))]
 fn past(sheet: &[u8], n: usize) -> Item
     requires { n < 0x100000 }
     ensures { (result ≡ item_from sheet.now n) × (result.low / 65536 ≡ word sheet.now (n + 2)) × (result.low % 65536 ≡ word sheet.now (n + 3)) }
@@ -125,6 +128,7 @@ fn past(sheet: &[u8], n: usize) -> Item
 
 // The area row at an index. One test for the whole row: each row of a sound sheet is inside it. A row past the end is the first four
 // words of an item row there.
+#[tactic(auto, unfolding(sheet_rules::specs::Rows::area_at, sheet_rules::specs::Rows::item_from))]
 pub fn area_row(sheet: &[u8], k: u16) -> Area
     ensures { result ≡ area_at sheet.now k }
 {
@@ -162,6 +166,7 @@ pub fn item_end(areas: u16, k: u16) -> usize
 }
 
 // The item row at an index, behind so many area rows. One test for the whole row.
+#[tactic(auto, unfolding(sheet_rules::specs::Rows::item_from))]
 pub fn item_row(sheet: &[u8], areas: u16, k: u16) -> Item
     ensures { result ≡ item_row sheet.now areas k }
 {
@@ -178,6 +183,7 @@ pub fn item_row(sheet: &[u8], areas: u16, k: u16) -> Item
 }
 
 // The first place of the item row at an index, read alone, for a search needs no more of the row.
+#[tactic(auto, unfolding(sheet_rules::specs::Rows::item_from))]
 pub fn item_place(sheet: &[u8], areas: u16, k: u16) -> u16
     ensures { result ≡ (item_row sheet.now areas k).place }
 {
@@ -185,6 +191,7 @@ pub fn item_place(sheet: &[u8], areas: u16, k: u16) -> u16
 }
 
 // The record row behind so many area rows and item rows. One test for the whole row, as in `area_row`.
+#[tactic(auto, unfolding(sheet_rules::specs::Rows::item_from))]
 pub fn record_row(sheet: &[u8], areas: u16, items: u16) -> RecordArea
     ensures { result ≡ record_from sheet.now (item_start areas items) }
 {
@@ -205,6 +212,7 @@ pub fn record_row(sheet: &[u8], areas: u16, items: u16) -> RecordArea
 }
 
 // The record area: rules S11 and S80. One without records where the sheet has none.
+#[tactic(auto, unfolding(sheet_rules::specs::Rows::record_area))]
 pub fn record_area(sheet: &[u8]) -> RecordArea
     ensures { result ≡ record_area sheet.now }
 {

@@ -1,21 +1,14 @@
 -- `lookup::address_of` meets its contract: each area row that has not the place is passed, and the first that has it tells its address. Assumes nothing.
 use Rattle.std.proofs.Common.{List, sym, ap, ◌∙◌, arith}
 use Rattle.sheet_rules.specs.declared.Area.{Area}
-use Rattle.sheet_rules.specs.Rows.{area_at, area_count}
 use Rattle.sheet_rules.specs.Lookup.{address_of}
-use Rattle.lists.proofs.Walks.{rows_all}
-use Rattle.sheet_rules.proofs.Rows.{areas_rows}
 use Rattle.lookup.proofs.Addresses.{address_on, address_end}
+use Rattle.lookup.proofs.Found.{all_from}
 use Rattle.lookup.proofs.address_of.Goals as goal
 
 pub loop-k-init : goal.loop-k-init
 loop-k-init c =
-    let sheet = c.args.sheet.now in
-    record {
-      count = c.area_count-count.ensures;
-      within = omega arith;
-      same = ap (λ (l : List Area). address_of l c.args.place) (rows_all (area_at sheet) (area_count sheet) ∙ areas_rows sheet);
-    }
+    record { count = c.area_count-k-end.ensures; same = ap (λ (l : List Area). address_of l c.args.place) (all_from c.args.sheet.now) }
 
 pub returns-then-has_place : goal.returns-then-has_place
 returns-then-has_place c =
@@ -28,7 +21,6 @@ loop-k-preserved c =
     let area = c.area_row-area in
     record {
       count = c.loop-k.invariant.count;
-      within = omega arith;
       same =
           sym
           (address_on c.args.sheet.now c.args.place c.loop-k.k area.result area.ensures (omega arith) ∙ simp (sym c.has_place.ensures ∙ c.if-has_place.false))
