@@ -1,15 +1,18 @@
 // The order of judgement for a frame, stage by stage: each answers where the frame stops, or hands it on to the next.
 ghost use Rattle.std.specs.Prelude.{◌≡◌, true};
-ghost use Rattle.meter.specs.Stages.{addressed_to, wrong_length_in, judged_from, judged_record, judged_shut, Known, AsksRead};
-ghost use Rattle.sheet_rules.specs.Rules.{sound, in_records};
+ghost use Rattle.meter.specs.Stages.{addressed_to, wrong_length_in, judged_from, judged_record, judged_shut, AsksRead};
+ghost use Rattle.meter.specs.Asked.{given_to};
+ghost use Rattle.sheet_rules.specs.Rules.{in_records};
 ghost use Rattle.bank_rules.specs.Calls.{lent_with};
 ghost use Rattle.frame.specs.Frame.{clears, is_write, many_of};
 ghost use Rattle.meter_rules.specs.Steps.{code_allowed, judged_frame};
 
+use crate::asked::Asked;
 use crate::values;
-use crate::values::Write;
+use crate::write::Write;
 use frame::Parts;
 use meter_rules::Judged;
+use sheet::SoundSheet;
 use sheet_rules::{Purpose, RecordArea};
 
 // The bits that allow the functions 03, 05, 06 and 10, of whose sum the sheet has one word.
@@ -53,20 +56,26 @@ fn function_allowed(sheet: &[u8], function: u8) -> bool
 }
 
 // Steps 1 to 3: a frame that does not pass, or is for another station, gets silence; a function that is not allowed, error 01.
-pub(crate) fn judged_frame(sheet: &[u8], bank: &[u8], ring: &[u8], frame: &[u8]) -> Judged
-    requires { sound sheet.now ≡ true }
-    ensures { result ≡ judged_frame (lent_with sheet.now bank.now ring.now) frame.now }
+pub(crate) fn judged_frame(sheet: SoundSheet<'_>, bank: &[u8], ring: &[u8], frame: &[u8]) -> Judged
+    ensures { result ≡ judged_frame (lent_with sheet.entry.bytes.now bank.now ring.now) frame.now }
 {
     let Some(passed) = frame::taken_apart(frame) else {
         return Judged::FailsCheck;
     };
-    let Some(parts) = for_station(sheet, bank, passed) else {
+    let Some(parts) = for_station(sheet.bytes, bank, passed) else {
         return Judged::OtherStation;
     };
-    if !function_allowed(sheet, parts.function) {
+    if !function_allowed(sheet.bytes, parts.function) {
         return Judged::FunctionNotAllowed;
     }
-    judged_length(sheet, bank, ring, frame, parts)
+    let asked = Asked {
+        sheet,
+        bank,
+        ring,
+        frame,
+        parts,
+    };
+    asked.judged_length()
 }
 
 // Rules J40 and J41: a 10 has nine bytes and those that its byte count says, any other function eight.
@@ -82,60 +91,113 @@ fn has_wrong_length(parts: Parts) -> bool
     parts.length != 9 + parts.bytes as usize
 }
 
-// Step 4.
-fn judged_length(sheet: &[u8], bank: &[u8], ring: &[u8], frame: &[u8], parts: Parts) -> Judged
-    requires { Known sheet.now frame.now parts }
-    ensures { result ≡ judged_from 3 (lent_with sheet.now bank.now ring.now) frame.now }
-{
-    if has_wrong_length(parts) {
-        return Judged::WrongLength;
+impl Asked<'_> {
+    // Step 4.
+    fn judged_length(self) -> Judged
+        ensures { result ≡ judged_from 3 (given_to self.entry) self.entry.frame.now }
+    {
+        if has_wrong_length(self.parts) {
+            return Judged::WrongLength;
+        }
+        self.judged_count()
     }
-    judged_count(sheet, bank, ring, frame, parts)
-}
 
-// Step 5: a count is not 0, and the byte count of 10 is twice its count.
-fn judged_count(sheet: &[u8], bank: &[u8], ring: &[u8], frame: &[u8], parts: Parts) -> Judged
-    requires { Known sheet.now frame.now parts }
-    ensures { result ≡ judged_from 4 (lent_with sheet.now bank.now ring.now) frame.now }
-{
-    if parts.function == frame::READS {
-        if parts.second == 0 {
+    // Step 5: a count is not 0, and the byte count of 10 is twice its count.
+    fn judged_count(self) -> Judged
+        ensures { result ≡ judged_from 4 (given_to self.entry) self.entry.frame.now }
+    {
+        if self.parts.function == frame::READS {
+            if self.parts.second == 0 {
+                return Judged::WrongCount;
+            }
+            return self.judged_read();
+        }
+        if self.parts.function == frame::CLEARS {
+            return self.judged_clear();
+        }
+        if self.parts.function == frame::WRITES_ONE {
+            return self.judged_write();
+        }
+        if self.parts.second == 0 {
             return Judged::WrongCount;
         }
-        return judged_read(sheet, bank, ring, frame, parts);
+        if self.parts.bytes as u32 != 2 * (self.parts.second as u32) {
+            return Judged::WrongCount;
+        }
+        self.judged_write()
     }
-    if parts.function == frame::CLEARS {
-        return judged_clear(sheet, bank, ring, frame, parts);
-    }
-    if parts.function == frame::WRITES_ONE {
-        return judged_write(sheet, bank, ring, frame, parts);
-    }
-    if parts.second == 0 {
-        return Judged::WrongCount;
-    }
-    if parts.bytes as u32 != 2 * (parts.second as u32) {
-        return Judged::WrongCount;
-    }
-    judged_write(sheet, bank, ring, frame, parts)
-}
 
-// Steps 5 and 6 for a read of registers: at most 47, and every address in an area. A record lies in no area: so whether it is one of records is
-// asked only where it is no good one of registers.
-fn judged_read(sheet: &[u8], bank: &[u8], ring: &[u8], frame: &[u8], parts: Parts) -> Judged
-    requires known { Known sheet.now frame.now parts }
-    requires asks_read { AsksRead parts }
-    ensures { result ≡ judged_from 4 (lent_with sheet.now bank.now ring.now) frame.now }
-{
-    if frame::MOST_READ < parts.second {
-        return judged_shut(sheet, ring, parts.start, parts.second);
+    // Steps 5 and 6 for a read of registers: at most 47, and every address in an area. A record lies in no area: so whether it is one of records is
+    // asked only where it is no good one of registers.
+    fn judged_read(self) -> Judged
+        requires { AsksRead self.parts }
+        ensures { result ≡ judged_from 4 (given_to self.entry) self.entry.frame.now }
+    {
+        if frame::MOST_READ < self.parts.second {
+            return judged_shut(
+                self.sheet.bytes,
+                self.ring,
+                self.parts.start,
+                self.parts.second,
+            );
+        }
+        let run = lookup::reached(self.sheet.bytes, Purpose::Read, self.parts.start as u32);
+        if run.end < self.parts.start as u32 + self.parts.second as u32 {
+            return judged_shut(
+                self.sheet.bytes,
+                self.ring,
+                self.parts.start,
+                self.parts.second,
+            );
+        }
+        Judged::GoodRead {
+            first: run.place,
+            many: self.parts.second as u32,
+        }
     }
-    let run = lookup::reached(sheet, Purpose::Read, parts.start as u32);
-    if run.end < parts.start as u32 + parts.second as u32 {
-        return judged_shut(sheet, ring, parts.start, parts.second);
+
+    // Steps 6 and 7 for a clear: at the clear address, with the value 0.
+    fn judged_clear(self) -> Judged
+        requires { self.parts.function ≡ clears }
+        ensures { result ≡ judged_from 5 (given_to self.entry) self.entry.frame.now }
+    {
+        if self.parts.start != rows::clear_address(self.sheet.bytes) {
+            return Judged::WrongAddress;
+        }
+        if self.parts.second != 0 {
+            return Judged::WrongValue;
+        }
+        Judged::GoodClear
     }
-    Judged::GoodRead {
-        first: run.place,
-        many: parts.second as u32,
+
+    // Steps 6 and 7 for a write: every address in an access 2 or access 3 area, and no bad item.
+    fn judged_write(self) -> Judged
+        requires { is_write self.frame.now ≡ true }
+        ensures { result ≡ judged_from 5 (given_to self.entry) self.entry.frame.now }
+    {
+        let many = many_of(self.parts);
+        let run = lookup::reached(self.sheet.bytes, Purpose::Write, self.parts.start as u32);
+        if run.end < self.parts.start as u32 + many as u32 {
+            return Judged::WrongAddress;
+        }
+        let write = Write {
+            bank: self.bank,
+            frame: self.frame,
+            values: values::values_at(self.frame),
+            first: run.place,
+            many: many as u32,
+        };
+        match write.stop(self.sheet) {
+            Some(stop) => Judged::BadItem {
+                first: write.first,
+                stop: stop.place,
+                side: stop.side,
+            },
+            None => Judged::GoodWrite {
+                first: write.first,
+                many: write.many,
+            },
+        }
     }
 }
 
@@ -177,21 +239,6 @@ fn judged_record(ring: &[u8], start: u16, records: RecordArea) -> Judged
     }
 }
 
-// Steps 6 and 7 for a clear: at the clear address, with the value 0.
-fn judged_clear(sheet: &[u8], bank: &[u8], ring: &[u8], frame: &[u8], parts: Parts) -> Judged
-    requires known { Known sheet.now frame.now parts }
-    requires function_value { parts.function ≡ clears }
-    ensures { result ≡ judged_from 5 (lent_with sheet.now bank.now ring.now) frame.now }
-{
-    if parts.start != rows::clear_address(sheet) {
-        return Judged::WrongAddress;
-    }
-    if parts.second != 0 {
-        return Judged::WrongValue;
-    }
-    Judged::GoodClear
-}
-
 // How many registers a write is for: one for 06, else its count.
 fn many_of(parts: Parts) -> u16
     ensures { result ≡ many_of parts.function parts.second }
@@ -200,34 +247,5 @@ fn many_of(parts: Parts) -> u16
         1
     } else {
         parts.second
-    }
-}
-
-// Steps 6 and 7 for a write: every address in an access 2 or access 3 area, and no bad item.
-fn judged_write(sheet: &[u8], bank: &[u8], ring: &[u8], frame: &[u8], parts: Parts) -> Judged
-    requires known { Known sheet.now frame.now parts }
-    requires frame_value { is_write frame.now ≡ true }
-    ensures { result ≡ judged_from 5 (lent_with sheet.now bank.now ring.now) frame.now }
-{
-    let many = many_of(parts);
-    let run = lookup::reached(sheet, Purpose::Write, parts.start as u32);
-    if run.end < parts.start as u32 + many as u32 {
-        return Judged::WrongAddress;
-    }
-    let write = Write {
-        values: values::values_at(frame),
-        first: run.place,
-        many: many as u32,
-    };
-    match values::stop_of(sheet, bank, frame, write) {
-        Some(stop) => Judged::BadItem {
-            first: write.first,
-            stop: stop.place,
-            side: stop.side,
-        },
-        None => Judged::GoodWrite {
-            first: write.first,
-            many: write.many,
-        },
     }
 }

@@ -10,9 +10,9 @@ loop-near-preserved-then-item_place-place c =
     let a = c.args in
     let loop = c.loop-near in
     let middle = loop.near + (loop.past - loop.near) / 2 in
-    let place = c.item_place.ensures ∙ ap (λ (n : ℕ). (item_row a.sheet.now n middle).place) c.area_count-areas.ensures in
+    let place = c.item_place.ensures ∙ ap (λ (n : ℕ). (item_row a.sheet.bytes.now n middle).place) c.area_count-areas.ensures in
     record {
       ordered = omega arith;
       within = loop.invariant.within;
-      passed = all_in_front a.sheet.now c.requires a.place middle (omega arith) (omega (arith, place));
+      passed = all_in_front a.sheet.bytes.now a.sheet.keeps a.place middle (omega arith) (omega (arith, place));
     }

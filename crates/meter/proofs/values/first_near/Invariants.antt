@@ -8,8 +8,8 @@ abbrev pub invariant-loop-near : goal.invariant-loop-near
 invariant-loop-near l =
     record {
       ordered : l.near ≤ l.past;
-      within : l.past ≤ item_count l.sheet;
-      passed : (k : ℕ) → k < l.near → (item_at l.sheet k).place + 1 < l.place;
+      within : l.past ≤ item_count l.sheet.bytes.now;
+      passed : (k : ℕ) → k < l.near → (item_at l.sheet.bytes.now k).place + 1 < l.place;
     }
 
 abbrev pub decreases-loop-near : goal.decreases-loop-near

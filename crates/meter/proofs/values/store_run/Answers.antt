@@ -12,21 +12,14 @@ pub loop-k-preserved : goal.loop-k-preserved
 loop-k-preserved c =
     let a = c.args in
     let loop = c.loop-k in
-    let store = run_store a.frame.now a.first in
-    let word = c.word_at-word.ensures ∙ ap (λ (n : ℕ). word_at a.frame.now (n + 2 * loop.k)) loop.invariant.start in
+    let word = c.word_at-word.ensures ∙ ap (λ (n : ℕ). word_at a.frame.now (n + 2 * loop.k)) c.values_at-values.ensures in
     let made = c.store_word.ensures ∙ ap (with_word loop.bank (2 * (a.first + loop.k))) word in
-    record {
-      within = omega arith;
-      start = loop.invariant.start;
-      long = ap length made ∙ word_length loop.bank (2 * (store loop.k).place) (store loop.k).word ∙ loop.invariant.long;
-      same =
-          stores_go_on store loop.bank c.store_word.new.bytes (stored a.bank.now (map store (up_from 0 a.count))) loop.k a.count c.loop-k-test.true
-          loop.invariant.same made;
-    }
+    stores_go_on (run_store a.frame.now a.first) loop.bank c.store_word.new.bytes (stored a.bank.now (map (run_store a.frame.now a.first) (up_from 0 a.count)))
+    loop.k a.count (omega arith) loop.invariant made
 
 pub returns : goal.returns
 returns c =
     let a = c.args in
     let loop = c.loop-k in
-    let store = run_store a.frame.now a.first in
-    stores_end store loop.bank (stored a.bank.now (map store (up_from 0 a.count))) loop.k a.count c.loop-k-test.false loop.invariant.same
+    stores_end (run_store a.frame.now a.first) loop.bank (stored a.bank.now (map (run_store a.frame.now a.first) (up_from 0 a.count))) loop.k a.count
+    (omega arith) loop.invariant

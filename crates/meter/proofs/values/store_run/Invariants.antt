@@ -10,13 +10,4 @@ use Rattle.meter.proofs.values.store_run.Given as goal
 
 abbrev pub invariant-loop-k : goal.invariant-loop-k
 invariant-loop-k l =
-    record {
-      within : l.k ≤ l.count;
-      start : l.values ≡ values_at l.frame;
-      long : length l.bank ≡ length l.fn.bank;
-      same : stored l.bank (stores_from (run_store l.frame l.first) l.k l.count)
-          ≡ stored l.fn.bank (map (run_store l.frame l.first) (up_from 0 l.count));
-    }
-
-abbrev pub decreases-loop-k : goal.decreases-loop-k
-decreases-loop-k l = l.count - l.k
+    stored l.bank (stores_from (run_store l.frame l.first) l.k l.count) ≡ stored l.fn.bank (map (run_store l.frame l.first) (up_from 0 l.count))
