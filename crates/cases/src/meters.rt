@@ -104,7 +104,7 @@ struct Meter<'a, 'b> {
     bank: &'b mut [u8],
 }
 
-impl<'a, 'b> Meter<'a, 'b> {
+impl Meter<'_, '_> {
     fn act(&mut self, line: &[u8]) -> io::Result<()> {
         match line.first() {
             Some(b'F') => {
@@ -195,7 +195,7 @@ impl<'a, 'b> Meter<'a, 'b> {
         self.number_within(name, expected, &frame, &mut buffer)
     }
 
-    // A number that a frame gets; where it is not 0, the bank and the buffer stay as they were.
+    // A number that a frame gets; where it is not 0, the bank and the buffer stay as they were. Their check values tell it, with no copy.
     fn number_within(
         &mut self,
         name: &[u8],
