@@ -1,71 +1,55 @@
-// The text of the cases: lines, and in a line fields of hexadecimal digits, each ended by a space.
+// The text of the cases: in a line fields of upper-case hexadecimal digits, two for a byte, each field ended by a space.
+ghost use Rattle.std.specs.Prelude.{◌<◌, IfSome};
 
-// The bytes of a field, and where the line goes on.
-#[derive(Clone, Copy)]
-pub(crate) struct Field {
-    pub count: usize,
-    pub next: usize,
+use std::alloc::{AllocError, Global};
+
+// The value of an upper-case hexadecimal digit.
+fn value_of(digit: u8) -> Option<u8>
+    ensures { IfSome result (λ value. value < 16) }
+{
+    match digit {
+        b'0'..=b'9' => Some(digit - b'0'),
+        b'A'..=b'F' => Some(digit - b'A' + 10),
+        _ => None,
+    }
 }
 
-// The value of an upper-case hexadecimal digit; 16 for any other byte.
-fn value_of(byte: u8) -> u8 {
-    if byte < 48 {
-        return 16;
-    }
-    if byte < 58 {
-        return byte - 48;
-    }
-    if byte < 65 {
-        return 16;
-    }
-    if byte < 71 {
-        return byte - 55;
-    }
-    16
+// The byte that the two digits at the front of a line make, and the line behind them.
+fn first_byte(line: &[u8]) -> Option<(u8, &[u8])> {
+    let (digits, behind) = line.split_first_chunk::<2>()?;
+    let high = value_of(digits[0])?;
+    let low = value_of(digits[1])?;
+    Some((high * 16 + low, behind))
 }
 
-// The next place of a line; its end has no next one.
-pub(crate) fn after(line: &[u8], at: usize) -> usize {
-    if at < line.len() { at + 1 } else { line.len() }
+// The rest of a line, from a place on.
+pub(crate) fn behind(line: &[u8], at: usize) -> &[u8] {
+    line.get(at..).unwrap_or(&[])
 }
 
-// The byte that two digits make; more than 255 where they are none.
-fn byte_of(line: &[u8], at: usize) -> u16 {
-    if line.len() <= at {
-        return 256;
+// The bytes of the field at the front of a line, as far as there is room, and the line behind it.
+pub(crate) fn bytes(
+    alloc: Global,
+    line: &[u8],
+    room: usize,
+) -> Result<(Vec<u8>, &[u8]), AllocError> {
+    let mut taken = Vec::new(alloc);
+    let mut rest = line;
+    for _ in 0..room {
+        let Some((byte, after)) = first_byte(rest) else {
+            break;
+        };
+        taken.push(byte)?;
+        rest = after;
     }
-    let high = value_of(words::byte_at(line, at)) as u16;
-    let low = value_of(words::byte_at(line, after(line, at))) as u16;
-    if 15 < high || 15 < low {
-        return 256;
-    }
-    high * 16 + low
+    Ok((taken, behind(rest, 1)))
 }
 
-// Takes the field at a place apart into bytes, as far as there is room.
-pub(crate) fn bytes_at(line: &[u8], from: usize, into: &mut [u8]) -> Field {
-    let mut at = from;
-    let mut count = 0;
-    while count < into.len() {
-        let byte = byte_of(line, at);
-        if 255 < byte {
-            return Field { count, next: at };
-        }
-        into[count] = (byte % 256) as u8;
-        count += 1;
-        at = after(line, after(line, at));
-    }
-    Field { count, next: at }
-}
-
-// The end of the line that begins at a place: its line feed, or the end of the text.
-pub(crate) fn line_end(text: &[u8], from: usize) -> usize {
-    let mut at = from;
-    while at < text.len() {
-        if words::byte_at(text, at) == 10 {
-            return at;
-        }
-        at += 1;
-    }
-    at
+// The word of the field at a place; a byte that is missing counts as 0.
+pub(crate) fn word_at(line: &[u8], at: usize) -> u16 {
+    let Some((upper, after)) = first_byte(behind(line, at)) else {
+        return 0;
+    };
+    let lower = first_byte(after).map_or(0, |(lower, _)| lower);
+    u16::from_be_bytes([upper, lower])
 }

@@ -5,33 +5,8 @@ ghost use Rattle.listing.specs.Line.{with_character, with_text};
 
 use super::Line;
 
-// One byte.
-pub(crate) fn byte(line: Line, byte: u8) -> Line
-    ensures { result ≡ with_character line byte }
-{
-    let at = line.len;
-    if 40 <= at {
-        return line;
-    }
-    let mut bytes = line.bytes;
-    bytes[at] = byte;
-    Line { bytes, len: at + 1 }
-}
-
-// The bytes of a text.
-pub(crate) fn text(line: Line, text: &[u8]) -> Line
-    ensures { result ≡ with_text line text.now }
-{
-    let mut longer = line;
-    let mut i = 0;
-    while i < text.len() {
-        longer = byte(longer, text[i]);
-        i += 1;
-    }
-    longer
-}
-
 // The upper-case digit of the lowest four bits.
+// Printed by hand: the promises name the bytes, which std's formatting states only of a `String`, and a library has no heap.
 fn digit(n: u32) -> u8
     ensures { result ≡ digit_of (n % 16) }
 {
@@ -42,33 +17,59 @@ fn digit(n: u32) -> u8
     0x41 + low - 10
 }
 
-// A number in decimal.
-pub(crate) fn decimal(line: Line, n: u32) -> Line
-    ensures { result ≡ with_text line (decimal n) }
-{
-    if n < 10 {
-        return byte(line, digit(n));
+impl Line {
+    // One byte.
+    pub(crate) fn byte(mut self, byte: u8) -> Line
+        ensures { result ≡ with_character self byte }
+    {
+        let at = self.len;
+        if at < self.bytes.len() {
+            self.bytes[at] = byte;
+            self.len = at + 1;
+        }
+        self
     }
-    byte(decimal(line, n / 10), digit(n % 10))
-}
 
-// A number in decimal, with its sign.
-pub(crate) fn signed(line: Line, n: i64) -> Line
-    requires { nat_abs n < 2 ^ 32 }
-    ensures { result ≡ with_text line (signed_decimal n) }
-{
-    if n < 0 {
-        return decimal(byte(line, b'-'), (0 - n) as u32);
+    // The bytes of a text.
+    pub(crate) fn text(self, text: &[u8]) -> Line
+        ensures { result ≡ with_text self text.now }
+    {
+        let mut line = self;
+        for &byte in text {
+            line = line.byte(byte);
+        }
+        line
     }
-    decimal(line, n as u32)
-}
 
-// The lowest four hexadecimal digits of a number.
-pub(crate) fn hexadecimal(line: Line, n: u32) -> Line
-    ensures { result ≡ with_text line (hexadecimal n) }
-{
-    let first = byte(line, digit(n / 4096));
-    let second = byte(first, digit(n / 256));
-    let third = byte(second, digit(n / 16));
-    byte(third, digit(n))
+    // A number in decimal.
+    pub(crate) fn decimal(self, n: u32) -> Line
+        ensures { result ≡ with_text self (decimal n) }
+    {
+        if n < 10 {
+            return self.byte(digit(n));
+        }
+        self.decimal(n / 10).byte(digit(n % 10))
+    }
+
+    // A number in decimal, with its sign.
+    pub(crate) fn signed(self, n: i64) -> Line
+        requires { nat_abs n < 2 ^ 32 }
+        ensures { result ≡ with_text self (signed_decimal n) }
+    {
+        let size = n.unsigned_abs() as u32;
+        if n < 0 {
+            return self.byte(b'-').decimal(size);
+        }
+        self.decimal(size)
+    }
+
+    // The lowest four hexadecimal digits of a number.
+    pub(crate) fn hexadecimal(self, n: u32) -> Line
+        ensures { result ≡ with_text self (hexadecimal n) }
+    {
+        self.byte(digit(n / 4096))
+            .byte(digit(n / 256))
+            .byte(digit(n / 16))
+            .byte(digit(n))
+    }
 }

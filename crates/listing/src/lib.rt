@@ -10,20 +10,11 @@ ghost use Rattle.listing.specs.Line.{line_of, with_text};
 mod append;
 
 // A line of text: its bytes, and zeros behind them.
+// A length beside the bytes: the promises name both, by `line_of`, and a library has no heap.
 #[derive(Clone, Copy)]
 pub struct Line {
     pub bytes: [u8; 40],
     pub len: usize,
-}
-
-// A line with no text.
-fn empty() -> Line
-    ensures { result ≡ line_of [] }
-{
-    Line {
-        bytes: [0; 40],
-        len: 0,
-    }
 }
 
 // The letter of a kind.
@@ -37,28 +28,41 @@ fn letter(kind: u16) -> u8
     }
 }
 
-// A line with a value of a kind behind it, as the number that it stands for.
-fn with_value(line: Line, kind: u16, value: u32) -> Line
-    ensures { result ≡ with_text line (signed_decimal (number_of kind value)) }
-{
-    append::signed(line, range::number(kind, value))
-}
+impl Line {
+    // A line with no text.
+    fn empty() -> Line
+        ensures { result ≡ line_of [] }
+    {
+        Line {
+            bytes: [0; 40],
+            len: 0,
+        }
+    }
 
-// A line with a number behind it, and in front of that the word for it.
-fn with_count(line: Line, word: &[u8], count: u16) -> Line
-    ensures { result ≡ with_text line (word.now ++ decimal count) }
-{
-    append::decimal(append::text(line, word), count as u32)
+    // A value of a kind, as the number that it stands for.
+    fn value(self, kind: u16, value: u32) -> Line
+        ensures { result ≡ with_text self (signed_decimal (number_of kind value)) }
+    {
+        self.signed(range::number(kind, value))
+    }
+
+    // A number, and in front of it the word for it.
+    fn count(self, word: &[u8], count: u16) -> Line
+        ensures { result ≡ with_text self (word.now ++ decimal count) }
+    {
+        self.text(word).decimal(u32::from(count))
+    }
 }
 
 // The first line: rule L2.
 pub fn summary(sheet: &[u8]) -> Line
     ensures { result ≡ line_of (summary_text sheet.now) }
 {
-    let areas = with_count(empty(), b"areas ", rows::area_count(sheet));
-    let items = with_count(areas, b" items ", rows::item_count(sheet));
-    let bank = with_count(items, b" bank ", rows::bank_words(sheet));
-    append::byte(bank, b'\n')
+    Line::empty()
+        .count(b"areas ", rows::area_count(sheet))
+        .count(b" items ", rows::item_count(sheet))
+        .count(b" bank ", rows::bank_words(sheet))
+        .byte(b'\n')
 }
 
 // The line of the item row at an index.
@@ -66,9 +70,11 @@ pub fn item_line(sheet: &[u8], k: u16) -> Line
     ensures { result ≡ line_of (item_text (areas sheet.now) (item_at sheet.now k)) }
 {
     let item = rows::item_row(sheet, rows::area_count(sheet), k);
-    let address = append::hexadecimal(empty(), lookup::address_of(sheet, item.place));
-    let letter = [b' ', letter(item.kind), b' '];
-    let low = with_value(append::text(address, &letter), item.kind, item.low);
-    let high = with_value(append::byte(low, b' '), item.kind, item.high);
-    append::byte(high, b'\n')
+    Line::empty()
+        .hexadecimal(lookup::address_of(sheet, item.place))
+        .text(&[b' ', letter(item.kind), b' '])
+        .value(item.kind, item.low)
+        .byte(b' ')
+        .value(item.kind, item.high)
+        .byte(b'\n')
 }

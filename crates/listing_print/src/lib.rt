@@ -13,26 +13,17 @@ fn print_bytes(out: Stdout, bytes: &[u8]) {
     let _ = out.write_all(bytes);
 }
 
-// So many bytes from the front.
-fn print_front(out: Stdout, bytes: &[u8], n: usize) {
-    if n <= bytes.len() {
-        print_bytes(out, &bytes[..n]);
-    }
-}
-
 // A line, as far as its length says.
 fn print_line(out: Stdout, line: Line) {
-    let bytes = line.bytes;
-    print_front(out, &bytes, line.len);
+    if let Some(text) = line.bytes.get(..line.len) {
+        print_bytes(out, text);
+    }
 }
 
 // The line of each item.
 fn print_items(out: Stdout, sheet: &[u8]) {
-    let count = rows::item_count(sheet);
-    let mut k: u16 = 0;
-    while k < count {
+    for k in 0..rows::item_count(sheet) {
         print_line(out, listing::item_line(sheet, k));
-        k += 1;
     }
 }
 

@@ -5,6 +5,8 @@
 // Any other byte, or none, gives a line that says so.
 #![tactic(auto)]
 
+ghost use Rattle.std.specs.Prelude.{◌<◌};
+
 use std::io;
 use std::io::{Read, Stdout};
 
@@ -15,72 +17,56 @@ const AREA_ROW: usize = 8;
 
 const ITEM_ROW: usize = 12;
 
-fn say(out: Stdout, text: &[u8]) -> io::Result<()> {
-    out.write_all(text)
-}
-
-// The upper-case hexadecimal digit of the lowest four bits.
-fn digit(n: u8) -> u8 {
-    let low = n % 16;
-    if low < 10 { 48 + low } else { 55 + low }
-}
-
-// A byte as C has it, behind a space.
-fn say_byte(out: Stdout, byte: u8) -> io::Result<()> {
-    let text = [b' ', b'0', b'x', digit(byte / 16), digit(byte), b','];
-    say(out, &text)
-}
-
-// Whether a line begins at a byte: a line for each row of the sheet, and two for its header.
-fn line_begins(at: usize, areas: u16) -> bool {
-    if at <= HEADER {
-        return at % ITEM_ROW == 0;
+// A row as C has it: each byte behind a space, and a comma behind it.
+fn say_row(out: Stdout, row: &[u8]) -> io::Result<()> {
+    print!(out; "   ")?;
+    for byte in row {
+        print!(out; " 0x{byte:02X},")?;
     }
-    let items = HEADER + AREA_ROW * (areas as usize);
-    if at <= items {
-        return (at - HEADER) % AREA_ROW == 0;
-    }
-    (at - items) % ITEM_ROW == 0
+    println!(out;)
 }
 
-fn say_margin(out: Stdout, at: usize, areas: u16) -> io::Result<()> {
-    if line_begins(at, areas) {
-        say(out, b"   ")?;
+// A line for each row of so many bytes.
+fn say_rows(out: Stdout, rows: &[u8], width: usize) -> io::Result<()>
+    requires { 0 < width }
+{
+    for row in rows.chunks(width) {
+        say_row(out, row)?;
     }
     Ok(())
 }
 
-// The end of the sheet ends a line too: a row more would begin there.
-fn say_line_end(out: Stdout, next: usize, areas: u16) -> io::Result<()> {
-    if line_begins(next, areas) {
-        say(out, b"\n")?;
-    }
-    Ok(())
-}
-
+// Two lines for the header, and one for each area and each item.
 fn say_entries(out: Stdout, sheet: &[u8]) -> io::Result<()> {
-    let areas = rows::area_count(sheet);
-    let mut at = 0;
-    while at < sheet.len() {
-        say_margin(out, at, areas)?;
-        say_byte(out, words::byte_at(sheet, at))?;
-        at += 1;
-        say_line_end(out, at, areas)?;
-    }
-    Ok(())
+    let areas = AREA_ROW * usize::from(rows::area_count(sheet));
+    let Some((header, behind)) = sheet.split_at_checked(HEADER) else {
+        return Ok(());
+    };
+    let Some((areas, items)) = behind.split_at_checked(areas) else {
+        return Ok(());
+    };
+    say_rows(out, header, ITEM_ROW)?;
+    say_rows(out, areas, AREA_ROW)?;
+    say_rows(out, items, ITEM_ROW)
 }
 
-// A sheet as an array of C, behind the text up to its first brace.
-fn say_array(out: Stdout, front: &[u8], sheet: &[u8]) -> io::Result<()> {
-    say(out, front)?;
+// A sheet as an array of C, with its size and that of its bank, by its name in both cases.
+fn say_array(out: Stdout, title: &str, upper: &str, lower: &str, sheet: &[u8]) -> io::Result<()> {
+    let bank_size = 2 * (usize::from(rows::bank_words(sheet)) + 1);
+    let sheet_size = sheet.len();
+    println!(out; "\n/* {title} */")?;
+    println!(out; "#define CEDARSKEIN_{upper}_BANK_SIZE {bank_size}")?;
+    println!(out; "#define CEDARSKEIN_{upper}_SHEET_SIZE {sheet_size}")?;
+    println!(out;
+        "static const uint8_t cedarskein_{lower}_sheet[CEDARSKEIN_{upper}_SHEET_SIZE] = {{"
+    )?;
     say_entries(out, sheet)?;
-    say(out, b"};\n")
+    println!(out; "}};")
 }
 
 fn say_front(out: Stdout) -> io::Result<()> {
-    say(
-        out,
-        b"/* The makers' sheets, a row of the sheet to a line: the header in two lines, the areas, the items. */\n\
+    print!(out;
+        "/* The makers' sheets, a row of the sheet to a line: the header in two lines, the areas, the items. */\n\
         /* Written by the program crates/sheet_files from the sheets that are proved to be the maps of documents 01 and 02. */\n\
         #ifndef CEDARSKEIN_SHEETS_H\n\
         #define CEDARSKEIN_SHEETS_H\n\n\
@@ -90,49 +76,39 @@ fn say_front(out: Stdout) -> io::Result<()> {
 
 fn say_header(out: Stdout) -> io::Result<()> {
     say_front(out)?;
+    say_array(out, "UX15/25", "UX", "ux", &makers::ux())?;
     say_array(
         out,
-        b"\n/* UX15/25 */\n\
-        #define CEDARSKEIN_UX_BANK_SIZE 70\n\
-        #define CEDARSKEIN_UX_SHEET_SIZE 256\n\
-        static const uint8_t cedarskein_ux_sheet[CEDARSKEIN_UX_SHEET_SIZE] = {\n",
-        &makers::ux(),
-    )?;
-    say_array(
-        out,
-        b"\n/* AS-WE, bore 40 */\n\
-        #define CEDARSKEIN_ASWE_40_BANK_SIZE 92\n\
-        #define CEDARSKEIN_ASWE_40_SHEET_SIZE 396\n\
-        static const uint8_t cedarskein_aswe_40_sheet[CEDARSKEIN_ASWE_40_SHEET_SIZE] = {\n",
+        "AS-WE, bore 40",
+        "ASWE_40",
+        "aswe_40",
         &makers::aswe_40(),
     )?;
     say_array(
         out,
-        b"\n/* AS-WE, bore 50 */\n\
-        #define CEDARSKEIN_ASWE_50_BANK_SIZE 78\n\
-        #define CEDARSKEIN_ASWE_50_SHEET_SIZE 328\n\
-        static const uint8_t cedarskein_aswe_50_sheet[CEDARSKEIN_ASWE_50_SHEET_SIZE] = {\n",
+        "AS-WE, bore 50",
+        "ASWE_50",
+        "aswe_50",
         &makers::aswe_50(),
     )?;
     say_array(
         out,
-        b"\n/* AS-WE, bore 80 */\n\
-        #define CEDARSKEIN_ASWE_80_BANK_SIZE 78\n\
-        #define CEDARSKEIN_ASWE_80_SHEET_SIZE 328\n\
-        static const uint8_t cedarskein_aswe_80_sheet[CEDARSKEIN_ASWE_80_SHEET_SIZE] = {\n",
+        "AS-WE, bore 80",
+        "ASWE_80",
+        "aswe_80",
         &makers::aswe_80(),
     )?;
-    say(out, b"\n#endif\n")
+    println!(out; "\n#endif")
 }
 
 fn say_file(out: Stdout, which: u8) -> io::Result<()> {
     match which {
         b'h' => say_header(out),
-        b'1' => say(out, &makers::ux()),
-        b'2' => say(out, &makers::aswe_40()),
-        b'3' => say(out, &makers::aswe_50()),
-        b'4' => say(out, &makers::aswe_80()),
-        _ => say(out, b"which file: h, 1, 2, 3 or 4\n"),
+        b'1' => out.write_all(&makers::ux()),
+        b'2' => out.write_all(&makers::aswe_40()),
+        b'3' => out.write_all(&makers::aswe_50()),
+        b'4' => out.write_all(&makers::aswe_80()),
+        _ => println!(out; "which file: h, 1, 2, 3 or 4"),
     }
 }
 

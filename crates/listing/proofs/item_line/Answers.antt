@@ -16,11 +16,11 @@ returns c =
     (line_on_byte _ blank
     (line_on _ _
     (line_on _ _
-    (line_on [] _ c.empty.ensures c.hexadecimal-address.ensures (ap hexadecimal c.address_of.ensures))
+    (line_on [] _ c.empty.ensures c.hexadecimal.ensures (ap hexadecimal c.address_of.ensures))
     c.text.ensures (ap (λ (letter : ℕ). blank ∷ letter ∷ blank ∷ []) c.letter.ensures))
-    c.with_value-low.ensures refl)
+    c.value.ensures refl)
     c.byte.ensures)
-    c.with_value-high.ensures refl)
+    c.value-2.ensures refl)
     c.byte-2.ensures
     ∙ ap (λ (row : Item). line_of (item_text (areas a.sheet.now) row))
     (c.item_row-item.ensures ∙ ap (λ (before : ℕ). item_row a.sheet.now before a.k) c.area_count.ensures)

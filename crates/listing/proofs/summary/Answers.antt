@@ -11,8 +11,8 @@ returns c =
     line_on_byte _ line_feed
     (line_on _ _
     (line_on _ _
-    (line_on [] _ c.empty.ensures c.with_count-areas.ensures
+    (line_on [] _ c.empty.ensures c.count.ensures
     (ap (counted "areas ") c.area_count.ensures))
-    c.with_count-items.ensures (ap (counted " items ") c.item_count.ensures))
-    c.with_count-bank.ensures (ap (counted " bank ") c.bank_words.ensures))
+    c.count-2.ensures (ap (counted " items ") c.item_count.ensures))
+    c.count-3.ensures (ap (counted " bank ") c.bank_words.ensures))
     c.byte.ensures

@@ -1,19 +1,19 @@
--- `listing::append::decimal` meets its contract: one digit, or the digits of a tenth with the last one behind them. Assumes nothing.
+-- `listing::Line::decimal` meets its contract: one digit, or the digits of a tenth with the last one behind them. Assumes nothing.
 use Rattle.std.proofs.Common.{◌≡◌, ◌/◌, ◌%◌, ◌^◌, ◌<◌, [], ◌∷◌, sym, ap, ap₂, ◌∙◌, arith}
 use Rattle.listing.specs.Text.{digit_of, decimal}
 use Rattle.listing.specs.Line.{with_character, with_text}
 use Rattle.listing.proofs.Digits.{decimal_one, decimal_more}
 use Rattle.listing.proofs.Lines.{byte_text, text_text}
-use Rattle.listing.proofs.append.+decimal.Goals as goal
+use Rattle.listing.proofs.Line.+decimal.Goals as goal
 
 pub returns-then-n-lt10 : goal.returns-then-n-lt10
 returns-then-n-lt10 t c =
     let a = c.args in
     let low : a.n % 16 ≡ a.n = omega arith in
     c.byte.ensures
-    ∙ ap (with_character a.line) (c.digit.ensures ∙ ap digit_of low)
-    ∙ byte_text a.line (digit_of a.n)
-    ∙ ap (with_text a.line) (sym (decimal_one a.n c.if-n-lt10.true))
+    ∙ ap (with_character a.self) (c.digit.ensures ∙ ap digit_of low)
+    ∙ byte_text a.self (digit_of a.n)
+    ∙ ap (with_text a.self) (sym (decimal_one a.n c.if-n-lt10.true))
 
 pub returns : goal.returns
 returns t c =
@@ -22,6 +22,6 @@ returns t c =
     let small : a.n < 2 ^ 32 = c.ranges.n.fits in
     c.byte-2.ensures
     ∙ ap₂ with_character c.decimal.ensures (c.digit-2.ensures ∙ ap digit_of low)
-    ∙ byte_text (with_text a.line (decimal (a.n / 10))) (digit_of (a.n % 10))
-    ∙ text_text a.line (decimal (a.n / 10)) (digit_of (a.n % 10) ∷ [])
-    ∙ ap (with_text a.line) (sym (decimal_more a.n c.if-n-lt10.false small))
+    ∙ byte_text (with_text a.self (decimal (a.n / 10))) (digit_of (a.n % 10))
+    ∙ text_text a.self (decimal (a.n / 10)) (digit_of (a.n % 10) ∷ [])
+    ∙ ap (with_text a.self) (sym (decimal_more a.n c.if-n-lt10.false small))
