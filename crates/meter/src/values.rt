@@ -105,7 +105,9 @@ impl Write<'_> {
     {
         let areas = rows::area_count(sheet.bytes);
         let end = self.first + self.many;
-        for k in first_near(sheet, self.first)..rows::item_count(sheet.bytes) {
+        // Not a `for`: a walk by the number of items tests each row once more, which took more bytes and more instructions.
+        let mut k = first_near(sheet, self.first);
+        while rows::item_end(areas, k) <= sheet.bytes.len() {
             let item = rows::item_row(sheet.bytes, areas, k);
             if end <= item.place as u32 {
                 return None;
@@ -117,6 +119,7 @@ impl Write<'_> {
                     side,
                 });
             }
+            k += 1;
         }
         None
     }
