@@ -1,7 +1,5 @@
 -- Each promise of this crate determines the answer and the lent bank at exit. Assumes nothing.
-use mathlib.Core.Path.{ap}
 use Rattle.words.proofs.Promise.{Determined, read_off}
-use Rattle.sheet.proofs.Kept.{one_handed}
 use Rattle.bank.proofs.check.Kinds as check
 use Rattle.bank.proofs.check.Reads as check_reads
 use Rattle.bank.proofs.fresh_words.store_fresh.Kinds as store_fresh
@@ -16,7 +14,7 @@ use Rattle.bank.proofs.set_mark.Kinds as set_mark
 use Rattle.bank.proofs.set_mark.Reads as set_mark_reads
 
 pub check_determined : Determined 2 check.ps check.r check_reads.Post
-check_determined κs a x y p q = ap (λ r. (r, x.1)) (one_handed a.0 x.0 y.0 p.0 p.1 q.0 q.1)
+check_determined κs a x y = read_off (λ r. (r, x.1))
 
 pub fresh_determined : Determined 2 fresh.ps fresh.r fresh_reads.Post
 fresh_determined κs a x y = read_off (λ o. (o.answer, (tt, (o.bank, tt))))

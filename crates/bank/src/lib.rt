@@ -1,8 +1,7 @@
 // The bank: the lent bytes that hold a meter's settings and readings, and the calls by which the firmware itself changes them.
 #![tactic(auto)]
 
-ghost use Rattle.std.specs.Prelude.{◌≡◌, IfOk};
-ghost use Rattle.refusals.specs.Answers.{answer_in};
+ghost use Rattle.std.specs.Prelude.{◌≡◌};
 ghost use Rattle.bank_rules.specs.Bank.{bank_sound};
 ghost use Rattle.bank_rules.specs.Calls.{lent, check_answer, fresh_outcome, post_outcome, mark_outcome, bank_outcome};
 
@@ -30,21 +29,19 @@ fn sound(sheet: SoundSheet<'_>, bank: &[u8]) -> bool
     words::word_at(bank, 2 * (rows::bank_words(sheet.bytes) as usize)) <= 1
 }
 
-// The refusals that posting, setting the mark and answering share: those of every call on a bank, and a bank that is not sound. Where there is none the sheet
-// is handed on.
-pub fn check<'a>(sheet: &'a [u8], bank: &[u8]) -> Result<SoundSheet<'a>, Refusal>
-    ensures answer { answer_in result ≡ check_answer (lent sheet.now bank.now) }
-    ensures same { IfOk result (λ kept. kept.bytes ≡ sheet.entry) }
+// The refusals that posting, setting the mark and answering share: those of every call on a bank, and a bank that is not sound.
+pub fn check(sheet: &[u8], bank: &[u8]) -> Result<(), Refusal>
+    ensures { result ≡ check_answer (lent sheet.now bank.now) }
 {
     // A match and no `?`: the kit shows no code of what `?` calls, which the theorem door_machine would need.
-    let kept = match bank_steps::check_size(sheet, bank) {
-        Ok(kept) => kept,
+    match bank_steps::check_size(sheet, bank) {
+        Ok(()) => {}
         Err(refusal) => return Err(refusal),
-    };
-    if !sound(kept, bank) {
+    }
+    if !sound(SoundSheet { bytes: sheet }, bank) {
         return Err(Refusal::UnsoundBank);
     }
-    Ok(kept)
+    Ok(())
 }
 
 // Makes a bank fresh.
@@ -53,9 +50,10 @@ pub fn fresh(sheet: &[u8], bank: &mut [u8]) -> Result<(), Refusal>
 {
     // A match and no `?`: the kit shows no code of what `?` calls, which the theorem door_machine would need.
     match bank_steps::check_size(sheet, bank) {
-        Ok(kept) => fresh_words::store_fresh(kept, bank),
+        Ok(()) => {}
         Err(refusal) => return Err(refusal),
     }
+    fresh_words::store_fresh(SoundSheet { bytes: sheet }, bank);
     Ok(())
 }
 
@@ -65,7 +63,7 @@ pub fn post(sheet: &[u8], bank: &mut [u8], address: u32, bytes: &[u8]) -> Result
 {
     // A match and no `?`: the kit shows no code of what `?` calls, which the theorem door_machine would need.
     match check(sheet, bank) {
-        Ok(_) => {}
+        Ok(()) => {}
         Err(refusal) => return Err(refusal),
     }
     if bank_steps::empty_or_odd(bytes) {
@@ -84,7 +82,7 @@ pub fn set_mark(sheet: &[u8], bank: &mut [u8], mark: u32) -> Result<(), Refusal>
 {
     // A match and no `?`: the kit shows no code of what `?` calls, which the theorem door_machine would need.
     match check(sheet, bank) {
-        Ok(_) => {}
+        Ok(()) => {}
         Err(refusal) => return Err(refusal),
     }
     if 1 < mark {

@@ -1,7 +1,5 @@
 -- Each promise of this crate determines its result, and the lent bank at exit. Assumes nothing.
-use mathlib.Core.Path.{ap}
 use Rattle.words.proofs.Promise.{Determined, read_off}
-use Rattle.sheet.proofs.Kept.{one_handed}
 use Rattle.bank_steps.proofs.check_size.Kinds as check_size
 use Rattle.bank_steps.proofs.check_size.Reads as check_size_reads
 use Rattle.bank_steps.proofs.value_in.Kinds as value_in
@@ -16,7 +14,7 @@ use Rattle.bank_steps.proofs.all_read_only.Kinds as all_read_only
 use Rattle.bank_steps.proofs.all_read_only.Reads as all_read_only_reads
 
 pub check_size_determined : Determined 2 check_size.ps check_size.r check_size_reads.Post
-check_size_determined κs a x y p q = ap (λ r. (r, x.1)) (one_handed a.0 x.0 y.0 p.0 p.1 q.0 q.1)
+check_size_determined κs a x y = read_off (λ r. (r, x.1))
 
 pub value_in_determined : Determined 1 value_in.ps value_in.r value_in_reads.Post
 value_in_determined κs a x y = read_off (λ r. (r, x.1))

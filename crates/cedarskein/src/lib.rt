@@ -53,7 +53,7 @@ pub fn cedarskein_sheet_check(sheet: &[u8]) -> u32
 pub fn cedarskein_bank_check(sheet: &[u8], bank: &[u8]) -> u32
     ensures { result ≡ answer_number (check_answer (lent sheet.now bank.now)) }
 {
-    numbers::of_checked(bank::check(sheet, bank))
+    numbers::of_answer(bank::check(sheet, bank))
 }
 
 // Makes a bank fresh: 0, or 2, 3 in this order.

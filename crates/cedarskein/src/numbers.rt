@@ -1,6 +1,6 @@
 // The number of each case of the library's answers: rules N0 to N13, Y0 to Y24 for the reasons, and Q2, Q23 and Q41 for orders.
 ghost use Rattle.std.specs.Prelude.{◌≡◌};
-ghost use Rattle.refusals.specs.Answers.{refusal_number, answer_number, answer_in};
+ghost use Rattle.refusals.specs.Answers.{refusal_number, answer_number};
 ghost use Rattle.meter_rules.specs.Answer.{answered_number, length_in, rate_in};
 ghost use Rattle.why_rules.specs.Reasons.{reason_number, reason_address, reason_side, explained_number, reason_in, address_in, side_in};
 ghost use Rattle.range.specs.Range.{side_number};
@@ -12,7 +12,6 @@ use controller_rules::{Order, Reading};
 use meter_rules::Answered;
 use range::Side;
 use refusals::Refusal;
-use sheet::SoundSheet;
 use why_rules::Reason;
 
 fn of_refusal(refusal: Refusal) -> u32
@@ -39,15 +38,6 @@ pub(crate) fn of_answer(answer: Result<(), Refusal>) -> u32
 {
     match answer {
         Ok(()) => 0,
-        Err(refusal) => of_refusal(refusal),
-    }
-}
-
-pub(crate) fn of_checked(checked: Result<SoundSheet<'_>, Refusal>) -> u32
-    ensures { result ≡ answer_number (answer_in checked.entry) }
-{
-    match checked {
-        Ok(_) => 0,
         Err(refusal) => of_refusal(refusal),
     }
 }

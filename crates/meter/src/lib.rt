@@ -1,8 +1,7 @@
 // The answer of a meter to one frame: a frame is judged, and what the judgement says is acted on.
 #![tactic(auto)]
 
-ghost use Rattle.std.specs.Prelude.{◌≡◌, IfOk};
-ghost use Rattle.refusals.specs.Answers.{answer_in};
+ghost use Rattle.std.specs.Prelude.{◌≡◌};
 ghost use Rattle.bank_rules.specs.Calls.{lent_with};
 ghost use Rattle.meter_rules.specs.Answer.{outcome, answer_outcome};
 ghost use Rattle.meter_rules.specs.Judgement.{lent_answer, judgement};
@@ -18,20 +17,18 @@ use refusals::Refusal;
 use sheet::SoundSheet;
 
 // The refusals of every call with a frame, 2, 3, 4 and 8 in this order: those of the bank's check, and a ring that does not go with the sheet.
-// Where there is none the sheet is handed on.
-fn check<'a>(sheet: &'a [u8], bank: &[u8], ring: &[u8]) -> Result<SoundSheet<'a>, Refusal>
-    ensures answer { answer_in result ≡ lent_answer (lent_with sheet.now bank.now ring.now) }
-    ensures same { IfOk result (λ kept. kept.bytes ≡ sheet.entry) }
+fn check(sheet: &[u8], bank: &[u8], ring: &[u8]) -> Result<(), Refusal>
+    ensures { result ≡ lent_answer (lent_with sheet.now bank.now ring.now) }
 {
     // A match and no `?`: the kit shows no code of what `?` calls, which the theorem door_machine would need.
-    let kept = match bank::check(sheet, bank) {
-        Ok(kept) => kept,
+    match bank::check(sheet, bank) {
+        Ok(()) => {}
         Err(refusal) => return Err(refusal),
-    };
+    }
     if !ring::fits(sheet, ring) {
         return Err(Refusal::BadRing);
     }
-    Ok(kept)
+    Ok(())
 }
 
 // Judges one frame and does nothing: the refusals 2, 3, 4 and 8 in this order, then where the frame stops.
@@ -40,9 +37,11 @@ pub fn judge(sheet: &[u8], bank: &[u8], ring: &[u8], frame: &[u8]) -> Result<Jud
 {
     // A match and no `?`: the kit shows no code of what `?` calls, which the theorem door_machine would need.
     match check(sheet, bank, ring) {
-        Ok(kept) => Ok(stages::judged_frame(kept, bank, ring, frame)),
-        Err(refusal) => Err(refusal),
+        Ok(()) => {}
+        Err(refusal) => return Err(refusal),
     }
+    let sheet = SoundSheet { bytes: sheet };
+    Ok(stages::judged_frame(sheet, bank, ring, frame))
 }
 
 // Answers one frame: the refusals 2, 3, 4, 8 and 5 in this order, then silence or a reply.
@@ -56,13 +55,14 @@ pub fn answer(
     ensures { outcome result bank.new buffer.new ≡ answer_outcome (lent_with sheet.now bank.old ring.now) frame.now buffer.old }
 {
     // A match and no `?`: the kit shows no code of what `?` calls, which the theorem door_machine would need.
-    let kept = match check(sheet, bank, ring) {
-        Ok(kept) => kept,
+    match check(sheet, bank, ring) {
+        Ok(()) => {}
         Err(refusal) => return Err(refusal),
-    };
+    }
     if buffer.len() < frame::LEAST_BUFFER {
         return Err(Refusal::SmallBuffer);
     }
+    let kept = SoundSheet { bytes: sheet };
     let judged = stages::judged_frame(kept, bank, ring, frame);
     Ok(replies::acted(judged, sheet, bank, ring, frame, buffer))
 }

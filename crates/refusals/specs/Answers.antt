@@ -26,11 +26,6 @@ Answer = Result Unit Refusal
 abbrev pub call_done : Answer
 call_done = Ok tt
 
--- the answer of a call that hands something on where it is done
-abbrev pub answer_in : {T : Type 0} → Result T Refusal → Answer
-answer_in (Ok handed) = call_done
-answer_in (Err refusal) = Err refusal
-
 -- rule N0, done
 abbrev pub answer_number : Answer → ℕ
 answer_number (Ok tt) = 0

@@ -159,7 +159,7 @@ module _ (more : World) where
   bank_steps_below =
       lookup.has_lies_at build lookup_here lookup_below
       & rows.has_bank_words build rows_here rows_below
-      & sheet.has_sound build sheet_here sheet_below
+      & sheet.has_check build sheet_here sheet_below
       & words.has_store_word build words_here words_below
       & words.has_word_at build words_here words_below
       & tt
@@ -183,7 +183,7 @@ module _ (more : World) where
       & rows.has_address_place build rows_here rows_below
       & rows.has_area_count build rows_here rows_below
       & rows.has_bank_words build rows_here rows_below
-      & rows.has_item_count build rows_here rows_below
+      & rows.has_item_end build rows_here rows_below
       & rows.has_item_row build rows_here rows_below
       & rows.has_rate_place build rows_here rows_below
       & words.has_store_word build words_here words_below
@@ -253,6 +253,7 @@ module _ (more : World) where
       & rows.has_functions build rows_here rows_below
       & rows.has_has_records build rows_here rows_below
       & rows.has_item_count build rows_here rows_below
+      & rows.has_item_end build rows_here rows_below
       & rows.has_item_place build rows_here rows_below
       & rows.has_item_row build rows_here rows_below
       & rows.has_rate_place build rows_here rows_below

@@ -2,6 +2,5 @@ pub mod Areas
 pub mod Covering
 pub mod HeaderWords
 pub mod Items
-pub mod Kept
 pub mod Determined
 pub mod Linked

@@ -5,7 +5,6 @@ use prog.Linked.{Tree, World, Holds, in_world}
 use prog.LinkedThreads.{HasT}
 use Rattle.sheet.proofs.TheLink as own
 use Rattle.sheet.proofs.check.Symbol as check
-use Rattle.sheet.proofs.sound.Symbol as sound
 
 abbrev pub table : Tree
 table = own.table
@@ -17,5 +16,3 @@ module _ (build : World) (here : Holds build "sheet" table) (below : Below build
   pub has_check : HasT (in_world build) true check.code
   has_check = own.linked-sheet::check build here below
 
-  pub has_sound : HasT (in_world build) true sound.code
-  has_sound = own.linked-sheet::sound build here below

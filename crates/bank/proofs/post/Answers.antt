@@ -5,7 +5,7 @@ use lib.Dec.{eqb}
 use Rattle.lists.specs.Cases.{Case, when, first_case}
 use Rattle.refusals.specs.declared.Refusal.{Refusal}
 use Rattle.refusals.specs.declared.Refusal.TheVariants.{BadInput, NotReadOnly}
-use Rattle.refusals.specs.Answers.{answer_in, answer_by, Answer, call_done}
+use Rattle.refusals.specs.Answers.{answer_by, Answer, call_done}
 use Rattle.refusals.proofs.Answers.{front_refuses, front_passes, refused_here, passed_here}
 use Rattle.bank_rules.specs.Bank.{posted_run, all_read_only, empty_or_odd, post_stores}
 use Rattle.bank_rules.specs.Calls.{Lent, lent, bad_address, check_refusals, check_answer, post_answer, post_outcome}
@@ -56,17 +56,17 @@ pub returns-in-Err : goal.returns-in-Err
 unfolding post_outcome post_answer check_answer
 returns-in-Err c =
     let a = c.args in
-    let told = ap answer_in c.in-Err.is in
+    let told = c.in-Err.is in
     outcome_refused a.bank.now (post_stores a.sheet.now a.address a.bytes.now) refl
     (front_refuses (check_refusals (lent a.sheet.now a.bank.now)) (further (lent a.sheet.now a.bank.now) a.address a.bytes.now)
-    c.check.ensures.answer told)
+    c.check.ensures told)
 
 pub returns-then-empty_or_odd : goal.returns-then-empty_or_odd
 unfolding post_outcome
 returns-then-empty_or_odd c =
     let a = c.args in
     outcome_refused a.bank.now (post_stores a.sheet.now a.address a.bytes.now) refl
-    (bytes_refused (lent a.sheet.now a.bank.now) a.address a.bytes.now c.check.ensures.answer (ap answer_in c.in-Ok.is)
+    (bytes_refused (lent a.sheet.now a.bank.now) a.address a.bytes.now c.check.ensures c.in-Ok.is
     (sym c.empty_or_odd.ensures ∙ c.if-empty_or_odd.true))
 
 pub returns-then-not-all_read_only : goal.returns-then-not-all_read_only
@@ -74,7 +74,7 @@ unfolding post_outcome
 returns-then-not-all_read_only c =
     let a = c.args in
     outcome_refused a.bank.now (post_stores a.sheet.now a.address a.bytes.now) refl
-    (address_refused (lent a.sheet.now a.bank.now) a.address a.bytes.now c.check.ensures.answer (ap answer_in c.in-Ok.is)
+    (address_refused (lent a.sheet.now a.bank.now) a.address a.bytes.now c.check.ensures c.in-Ok.is
     (sym c.empty_or_odd.ensures ∙ c.if-empty_or_odd.false)
     (sym c.all_read_only.ensures ∙ c.if-not-all_read_only.true))
 
@@ -90,7 +90,7 @@ unfolding post_outcome
 returns c =
     let a = c.args in
     outcome_done a.bank.now (post_stores a.sheet.now a.address a.bytes.now)
-    (post_passes (lent a.sheet.now a.bank.now) a.address a.bytes.now c.check.ensures.answer (ap answer_in c.in-Ok.is)
+    (post_passes (lent a.sheet.now a.bank.now) a.address a.bytes.now c.check.ensures c.in-Ok.is
     (sym c.empty_or_odd.ensures ∙ c.if-empty_or_odd.false)
     (sym c.all_read_only.ensures ∙ c.if-not-all_read_only.false))
     c.store_posted.ensures

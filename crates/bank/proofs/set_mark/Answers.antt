@@ -6,7 +6,6 @@ use Rattle.lists.specs.Cases.{Case, when, first_case}
 use Rattle.refusals.specs.declared.Refusal.{Refusal}
 use Rattle.refusals.specs.declared.Refusal.TheVariants.{BadInput}
 use Rattle.refusals.proofs.Answers.{front_refuses, front_passes, refused_here, passed_here}
-use Rattle.refusals.specs.Answers.{answer_in}
 use Rattle.bank_rules.specs.Stores.{stored}
 use Rattle.bank_rules.specs.Bank.{mark_stores}
 use Rattle.bank_rules.specs.Calls.{lent, bad_mark, check_refusals, check_answer, mark_answer, mark_outcome}
@@ -20,16 +19,16 @@ pub returns-in-Err : goal.returns-in-Err
 unfolding mark_outcome mark_answer check_answer
 returns-in-Err c =
     let a = c.args in
-    let told = ap answer_in c.in-Err.is in
+    let told = c.in-Err.is in
     outcome_refused a.bank.now (mark_stores a.sheet.now a.mark) refl
-    (front_refuses (check_refusals (lent a.sheet.now a.bank.now)) (own a.mark ∷ []) c.check.ensures.answer told)
+    (front_refuses (check_refusals (lent a.sheet.now a.bank.now)) (own a.mark ∷ []) c.check.ensures told)
 
 pub returns-then-mark-gt1 : goal.returns-then-mark-gt1
 unfolding mark_outcome mark_answer check_answer
 returns-then-mark-gt1 c =
     let a = c.args in
     outcome_refused a.bank.now (mark_stores a.sheet.now a.mark) refl
-    (front_passes (check_refusals (lent a.sheet.now a.bank.now)) (own a.mark ∷ []) c.check.ensures.answer (ap answer_in c.in-Ok.is)
+    (front_passes (check_refusals (lent a.sheet.now a.bank.now)) (own a.mark ∷ []) c.check.ensures c.in-Ok.is
     ∙ refused_here (own a.mark) [] (ap not (lt-leb a.mark 1 c.if-mark-gt1.true)))
 
 pub returns : goal.returns
@@ -39,6 +38,6 @@ returns c =
     let small : a.mark ≤ 1 = c.if-mark-gt1.false in
     let same : a.mark % 65536 ≡ a.mark = omega arith in
     outcome_done a.bank.now (mark_stores a.sheet.now a.mark)
-    (front_passes (check_refusals (lent a.sheet.now a.bank.now)) (own a.mark ∷ []) c.check.ensures.answer (ap answer_in c.in-Ok.is)
+    (front_passes (check_refusals (lent a.sheet.now a.bank.now)) (own a.mark ∷ []) c.check.ensures c.in-Ok.is
     ∙ passed_here (own a.mark) [] (ap not (le-leb a.mark 1 small)))
     (c.store_word.ensures ∙ ap₂ (λ (place word : ℕ). with_word a.bank.now (2 * place) word) c.bank_words.ensures same)

@@ -1,5 +1,5 @@
 -- `bank_steps::check_size` meets its contract: the sheet's refusal first, then the bank's size. Assumes nothing.
-use Rattle.std.proofs.Common.{refl, true, false, ◌≡◌, ℕ, ◌+◌, ◌*◌, Bool, not, [], ◌∷◌, length, sym, ap, ◌∙◌, eq-eqb, ne_eqb}
+use Rattle.std.proofs.Common.{◌≡◌, ℕ, ◌+◌, ◌*◌, Bool, not, [], ◌∷◌, length, sym, ap, ◌∙◌, eq-eqb, ne_eqb}
 use lib.Dec.{eqb}
 use Rattle.lists.specs.Cases.{Case, when, first_case}
 use Rattle.refusals.specs.declared.Refusal.{Refusal}
@@ -7,8 +7,6 @@ use Rattle.refusals.specs.declared.Refusal.TheVariants.{MisfittingBank}
 use Rattle.refusals.proofs.Answers.{front_refuses, front_passes, refused_here, passed_here}
 use Rattle.sheet_rules.specs.Rows.{bank_words}
 use Rattle.sheet_rules.specs.Rules.{sheet_refusals}
-use Rattle.sheet_rules.proofs.Sound.{sheet_answered}
-use Rattle.sheet.proofs.Kept.{kept_sound}
 use Rattle.bank_rules.specs.Calls.{Lent, lent, misfitting_bank, fresh_answer}
 use Rattle.bank_steps.proofs.check_size.Goals as goal
 
@@ -20,29 +18,29 @@ size_tested given e tested = ap not (ap (λ (n : ℕ). eqb (length given.bank) (
 abbrev size : Lent → Case Refusal
 size given = when (misfitting_bank given) MisfittingBank
 
-pub returns-in_default-clause-answer : goal.returns-in_default-clause-answer
+pub returns-in-Err : goal.returns-in-Err
 unfolding fresh_answer
-returns-in_default-clause-answer c =
+returns-in-Err c =
     let a = c.args in
-    sym (front_refuses (sheet_refusals a.sheet.now) (size (lent a.sheet.now a.bank.now) ∷ []) refl
-    (sym (sheet_answered a.sheet.now {right = false} c.in_default.ensures.1)))
+    let told = c.in-Err.is in
+    sym (front_refuses (sheet_refusals a.sheet.now) (size (lent a.sheet.now a.bank.now) ∷ []) c.check.ensures told)
 
-pub returns-then-bank-bank_words-clause-answer : goal.returns-then-bank-bank_words-clause-answer
+pub returns-then-bank-bank_words : goal.returns-then-bank-bank_words
 unfolding fresh_answer
-returns-then-bank-bank_words-clause-answer c =
+returns-then-bank-bank_words c =
     let a = c.args in
     let given : Lent = lent a.sheet.now a.bank.now in
     let words = c.bank_words in
     sym
-    (front_passes (sheet_refusals a.sheet.now) (size given ∷ []) refl (sym (sheet_answered a.sheet.now {right = true} (kept_sound c.in-Ok.kept c.in-Ok.ensures)))
+    (front_passes (sheet_refusals a.sheet.now) (size given ∷ []) c.check.ensures c.in-Ok.is
     ∙ refused_here (size given) [] (size_tested given words.ensures (ne_eqb (length a.bank.now) (2 * words.result + 2) c.if-bank-bank_words.true)))
 
-pub returns-clause-answer : goal.returns-clause-answer
+pub returns : goal.returns
 unfolding fresh_answer first_case
-returns-clause-answer c =
+returns c =
     let a = c.args in
     let given : Lent = lent a.sheet.now a.bank.now in
     let words = c.bank_words in
     sym
-    (front_passes (sheet_refusals a.sheet.now) (size given ∷ []) refl (sym (sheet_answered a.sheet.now {right = true} (kept_sound c.in-Ok.kept c.in-Ok.ensures)))
+    (front_passes (sheet_refusals a.sheet.now) (size given ∷ []) c.check.ensures c.in-Ok.is
     ∙ passed_here (size given) [] (size_tested given words.ensures (eq-eqb (length a.bank.now) (2 * words.result + 2) c.if-bank-bank_words.false)))

@@ -1,12 +1,10 @@
 -- `meter::answer` meets its contract: the refusals in their order, then what becomes of the judged frame.
 -- Assumes nothing.
-use Rattle.std.proofs.Common.{◌≡◌, ℕ, List, Bor, sym, ap, ◌∙◌, length, lt-ltb, le-ltb}
+use Rattle.std.proofs.Common.{sym, ap, ◌∙◌, length, lt-ltb, le-ltb}
 use Rattle.std.specs.Prelude.{Result}
 use Rattle.refusals.specs.declared.Refusal.{Refusal}
 use Rattle.bank_rules.specs.Calls.{lent_with}
 use Rattle.frame.specs.Reply.{least_buffer}
-use Rattle.refusals.specs.Answers.{answer_in}
-use Rattle.meter_rules.specs.Steps.{judged_frame}
 use Rattle.meter_rules.specs.declared.Judged.{Judged}
 use Rattle.meter_rules.specs.declared.Answered.{Answered}
 use Rattle.meter_rules.specs.Answer.{outcome, acted_on}
@@ -15,28 +13,28 @@ use Rattle.meter_rules.proofs.Closing.{judged_room}
 use Rattle.meter.proofs.Answering.{answer_refused, answer_small, answer_acted}
 use Rattle.meter.proofs.answer.Goals as goal
 
--- a frame judged by the sheet that is handed on is judged by the sheet
-judged_same : (bank ring frame : List ℕ) {sheet kept : Bor (List ℕ)} {judged : Judged} → judged ≡ judged_frame (lent_with kept.now bank ring) frame
-    → kept ≡ sheet → judged ≡ judged_frame (lent_with sheet.now bank ring) frame
-judged_same bank ring frame is same = is ∙ ap (λ (bytes : Bor (List ℕ)). judged_frame (lent_with bytes.now bank ring) frame) same
-
 pub returns-in-Err : goal.returns-in-Err
 returns-in-Err c =
     let a = c.args in
     let given = lent_with a.sheet.now a.bank.now a.ring.now in
-    answer_refused given a.frame.now a.buffer.now c.check.ensures.answer (ap answer_in c.in-Err.is)
+    answer_refused given a.frame.now a.buffer.now c.check.ensures c.in-Err.is
 
 pub returns-then-buffer-lt-LEAST_BUFFER : goal.returns-then-buffer-lt-LEAST_BUFFER
 returns-then-buffer-lt-LEAST_BUFFER c =
     let a = c.args in
-    answer_small (lent_with a.sheet.now a.bank.now a.ring.now) a.frame.now a.buffer.now c.check.ensures.answer (ap answer_in c.in-Ok.is)
+    answer_small (lent_with a.sheet.now a.bank.now a.ring.now) a.frame.now a.buffer.now c.check.ensures c.in-Ok.is
     (lt-ltb (length a.buffer.now) least_buffer c.if-buffer-lt-LEAST_BUFFER.true)
+
+pub invariant_of-kept : goal.invariant_of-kept
+invariant_of-kept c =
+    let a = c.args in
+    record { keeps = (lent_passed (lent_with a.sheet.now a.bank.now a.ring.now) (sym c.check.ensures ∙ c.in-Ok.is)).0.right }
 
 pub acted-requires : goal.acted-requires
 acted-requires c =
     let a = c.args in
     let given = lent_with a.sheet.now a.bank.now a.ring.now in
-    judged_room given a.frame.now a.buffer.now (lent_passed given (sym c.check.ensures.answer ∙ (ap answer_in c.in-Ok.is))).0.right (judged_same a.bank.now a.ring.now a.frame.now c.judged_frame-judged.ensures c.in-Ok.ensures.same)
+    judged_room given a.frame.now a.buffer.now (lent_passed given (sym c.check.ensures ∙ c.in-Ok.is)).0.right c.judged_frame-judged.ensures
     c.if-buffer-lt-LEAST_BUFFER.false
 
 pub returns : goal.returns
@@ -44,5 +42,5 @@ returns c =
     let a = c.args in
     let given = lent_with a.sheet.now a.bank.now a.ring.now in
     c.acted.ensures
-    ∙ ap (λ (j : Judged). acted_on j given a.frame.now a.buffer.now) (judged_same a.bank.now a.ring.now a.frame.now c.judged_frame-judged.ensures c.in-Ok.ensures.same)
-    ∙ answer_acted given a.frame.now a.buffer.now c.check.ensures.answer (ap answer_in c.in-Ok.is) (le-ltb (length a.buffer.now) least_buffer c.if-buffer-lt-LEAST_BUFFER.false)
+    ∙ ap (λ (j : Judged). acted_on j given a.frame.now a.buffer.now) c.judged_frame-judged.ensures
+    ∙ answer_acted given a.frame.now a.buffer.now c.check.ensures c.in-Ok.is (le-ltb (length a.buffer.now) least_buffer c.if-buffer-lt-LEAST_BUFFER.false)
