@@ -121,10 +121,8 @@ fn copy(from: &[u8], first: usize, to: &mut [u8], at: usize, many: usize)
     requires many_in_bounds_2 { at + many ≤ length to.old }
     ensures { to.new ≡ laid (take at to.old ++ take many (drop first from.now)) to.old }
 {
-    let mut k: usize = 0;
-    while k < many {
+    for k in 0..many {
         to[at + k] = from[first + k];
-        k += 1;
     }
 }
 

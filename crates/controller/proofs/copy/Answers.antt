@@ -21,7 +21,7 @@ pub loop-k-init : goal.loop-k-init
 loop-k-init c =
     let to = c.args.to.now in
     let at = c.args.at in
-    (omega arith, refl, laid_first at to (omega arith) ∙ ap (λ (l : List ℕ). laid l to) (sym (append-nil (take at to))))
+    laid_first at to (omega arith) ∙ ap (λ (l : List ℕ). laid l to) (sym (append-nil (take at to)))
 
 pub loop-k-preserved : goal.loop-k-preserved
 loop-k-preserved c =
@@ -32,16 +32,13 @@ loop-k-preserved c =
     let at = c.args.at in
     let k = loop.k in
     let byte = get_or from (first + k) 0 in
-    let long = length_paste_head to at (drop first from) k (omega arith) (omega (arith, length-drop first from)) in (
-      omega arith,
-      length-set loop.to (at + k) byte ∙ loop.invariant.1,
-      ap (λ (l : List ℕ). set l (at + k) byte) loop.invariant.2
-          ∙ laid_byte (take at to ++ take k (drop first from)) to (at + k) byte long (omega arith)
-          ∙ one_more from to first at k (omega arith) (omega arith),
-    )
+    let long = length_paste_head to at (drop first from) k (omega arith) (omega (arith, length-drop first from)) in
+    ap (λ (l : List ℕ). set l (at + k) byte) loop.invariant
+    ∙ laid_byte (take at to ++ take k (drop first from)) to (at + k) byte long (omega arith)
+    ∙ one_more from to first at k (omega arith) (omega arith)
 
 pub returns : goal.returns
 returns c =
     let a = c.args in
     let done : c.loop-k.k ≡ a.many = omega arith in
-    c.loop-k.invariant.2 ∙ ap (λ (k : ℕ). laid (take a.at a.to.now ++ take k (drop a.first a.from.now)) a.to.now) done
+    c.loop-k.invariant ∙ ap (λ (k : ℕ). laid (take a.at a.to.now ++ take k (drop a.first a.from.now)) a.to.now) done
