@@ -1,4 +1,3 @@
-pub mod Tests
 pub mod Building
 pub mod Reading
 pub mod Determined
