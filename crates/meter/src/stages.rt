@@ -93,8 +93,8 @@ fn has_wrong_length(parts: Parts) -> bool
 
 impl Asked<'_> {
     // Step 4.
-    fn judged_length(self) -> Judged
-        ensures { result ≡ judged_from 3 (given_to self.entry) self.entry.frame.now }
+    fn judged_length(&self) -> Judged
+        ensures { result ≡ judged_from 3 (given_to self.now) self.now.frame.now }
     {
         if has_wrong_length(self.parts) {
             return Judged::WrongLength;
@@ -103,8 +103,8 @@ impl Asked<'_> {
     }
 
     // Step 5: a count is not 0, and the byte count of 10 is twice its count.
-    fn judged_count(self) -> Judged
-        ensures { result ≡ judged_from 4 (given_to self.entry) self.entry.frame.now }
+    fn judged_count(&self) -> Judged
+        ensures { result ≡ judged_from 4 (given_to self.now) self.now.frame.now }
     {
         if self.parts.function == frame::READS {
             if self.parts.second == 0 {
@@ -129,9 +129,9 @@ impl Asked<'_> {
 
     // Steps 5 and 6 for a read of registers: at most 47, and every address in an area. A record lies in no area: so whether it is one of records is
     // asked only where it is no good one of registers.
-    fn judged_read(self) -> Judged
-        requires { AsksRead self.parts }
-        ensures { result ≡ judged_from 4 (given_to self.entry) self.entry.frame.now }
+    fn judged_read(&self) -> Judged
+        requires { AsksRead self.now.parts }
+        ensures { result ≡ judged_from 4 (given_to self.now) self.now.frame.now }
     {
         if frame::MOST_READ < self.parts.second {
             return judged_shut(
@@ -157,9 +157,9 @@ impl Asked<'_> {
     }
 
     // Steps 6 and 7 for a clear: at the clear address, with the value 0.
-    fn judged_clear(self) -> Judged
-        requires { self.parts.function ≡ clears }
-        ensures { result ≡ judged_from 5 (given_to self.entry) self.entry.frame.now }
+    fn judged_clear(&self) -> Judged
+        requires { self.now.parts.function ≡ clears }
+        ensures { result ≡ judged_from 5 (given_to self.now) self.now.frame.now }
     {
         if self.parts.start != rows::clear_address(self.sheet.bytes) {
             return Judged::WrongAddress;
@@ -171,9 +171,9 @@ impl Asked<'_> {
     }
 
     // Steps 6 and 7 for a write: every address in an access 2 or access 3 area, and no bad item.
-    fn judged_write(self) -> Judged
-        requires { is_write self.frame.now ≡ true }
-        ensures { result ≡ judged_from 5 (given_to self.entry) self.entry.frame.now }
+    fn judged_write(&self) -> Judged
+        requires { is_write self.now.frame.now ≡ true }
+        ensures { result ≡ judged_from 5 (given_to self.now) self.now.frame.now }
     {
         let many = many_of(self.parts);
         let run = lookup::reached(self.sheet.bytes, Purpose::Write, self.parts.start as u32);

@@ -7,7 +7,7 @@ use Rattle.meter.proofs.asked.Asked.judged_clear.Goals as goal
 
 pub returns-then-self-clear_address : goal.returns-then-self-clear_address
 returns-then-self-clear_address c =
-    let a = c.args.self in
+    let a = c.args.self.now in
     let given = given_to a in
     stops_address given a.frame.now
     (clear_of_parts a.frame.now a.known.apart c.requires given
@@ -15,7 +15,7 @@ returns-then-self-clear_address c =
 
 pub returns-then-self-ne0 : goal.returns-then-self-ne0
 returns-then-self-ne0 c =
-    let a = c.args.self in
+    let a = c.args.self.now in
     let given = given_to a in
     let apart = a.known.apart in
     stops_value given a.frame.now
@@ -25,7 +25,7 @@ returns-then-self-ne0 c =
 
 pub returns : goal.returns
 returns c =
-    let a = c.args.self in
+    let a = c.args.self.now in
     let given = given_to a in
     let apart = a.known.apart in
     good_clear given a.frame.now (clear_function a.frame.now apart c.requires)

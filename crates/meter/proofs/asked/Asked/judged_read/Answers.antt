@@ -14,7 +14,7 @@ use Rattle.meter.proofs.asked.Asked.judged_read.Goals as goal
 
 pub returns-then-self-gt-MOST_READ : goal.returns-then-self-gt-MOST_READ
 returns-then-self-gt-MOST_READ c =
-    let a = c.args.self in
+    let a = c.args.self.now in
     let given = given_to a in
     let asked = c.requires in
     c.judged_shut.ensures
@@ -22,7 +22,7 @@ returns-then-self-gt-MOST_READ c =
 
 pub returns-then-run-self : goal.returns-then-run-self
 returns-then-run-self c =
-    let a = c.args.self in
+    let a = c.args.self.now in
     let given = given_to a in
     let known = a.known in
     let asked = c.requires in
@@ -35,7 +35,7 @@ returns-then-run-self c =
 
 pub returns : goal.returns
 returns c =
-    let a = c.args.self in
+    let a = c.args.self.now in
     let given = given_to a in
     let known = a.known in
     let asked = c.requires in

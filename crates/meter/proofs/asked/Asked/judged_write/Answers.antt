@@ -10,20 +10,20 @@ use Rattle.meter.proofs.asked.Asked.judged_write.Goals as goal
 
 pub returns-then-run-self : goal.returns-then-run-self
 returns-then-run-self c =
-    let a = c.args.self in
+    let a = c.args.self.now in
     let known = a.known in
     write_shut_lem (given_to a) a.frame.now c.requires a.parts known.apart c.many_of-many.ensures
     (run_shut a.sheet.bytes.now known.sheet_sound Write a.parts.start c.reached-run.ensures c.many_of-many.result c.if-run-self.true)
 
 pub stop-requires : goal.stop-requires
 stop-requires c =
-    let a = c.args.self in
+    let a = c.args.self.now in
     let place = ap (λ (r : Run). r.place) c.reached-run.ensures in
     omega (arith, place_small a.sheet.bytes.now a.known.sheet_sound a.parts.start, place, c.many_of-many.type_inv)
 
 pub returns-in-Some : goal.returns-in-Some
 returns-in-Some c =
-    let a = c.args.self in
+    let a = c.args.self.now in
     let known = a.known in
     let all = run_open a.sheet.bytes.now known.sheet_sound Write a.parts.start c.reached-run.ensures c.many_of-many.result c.if-run-self.false in
     write_stopped (given_to a) a.frame.now c.requires a.parts known.apart c.many_of-many.ensures all
@@ -31,7 +31,7 @@ returns-in-Some c =
 
 pub returns-in-None : goal.returns-in-None
 returns-in-None c =
-    let a = c.args.self in
+    let a = c.args.self.now in
     let known = a.known in
     let all = run_open a.sheet.bytes.now known.sheet_sound Write a.parts.start c.reached-run.ensures c.many_of-many.result c.if-run-self.false in
     write_good (given_to a) a.frame.now c.requires a.parts known.apart c.many_of-many.ensures all
