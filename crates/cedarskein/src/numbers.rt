@@ -1,6 +1,5 @@
 // The number of each case of the library's answers: rules N0 to N13, Y0 to Y24 for the reasons, and Q2, Q23 and Q41 for orders.
 ghost use Rattle.std.specs.Prelude.{◌≡◌};
-ghost use Rattle.refusals.specs.Answers.{refusal_number};
 ghost use Rattle.cedarskein.specs.Door.{number_in};
 ghost use Rattle.meter_rules.specs.Answer.{answered_number, length_in, rate_in};
 ghost use Rattle.why_rules.specs.Reasons.{reason_number, reason_in, address_in, side_in};
@@ -15,25 +14,6 @@ use range::Side;
 use refusals::Refusal;
 use why_rules::Reason;
 
-fn of_refusal(refusal: Refusal) -> u32
-    ensures { result ≡ refusal_number refusal }
-{
-    match refusal {
-        Refusal::BrokenSheet => 2,
-        Refusal::MisfittingBank => 3,
-        Refusal::UnsoundBank => 4,
-        Refusal::SmallBuffer => 5,
-        Refusal::NotReadOnly => 6,
-        Refusal::BadInput => 7,
-        Refusal::BadRing => 8,
-        Refusal::NoFrame => 9,
-        Refusal::ReplyDamaged => 10,
-        Refusal::ReplyStation => 11,
-        Refusal::ReplyFunction => 12,
-        Refusal::ReplyBody => 13,
-    }
-}
-
 // The number of an answer of which the refusal alone has one, else 0. By reference: a bound `T: Copy` would bring code of std's `clone`,
 // which the kit does not show, and the theorem door_machine has the code of each call.
 pub(crate) fn number<T>(answer: &Result<T, Refusal>) -> u32
@@ -41,7 +21,7 @@ pub(crate) fn number<T>(answer: &Result<T, Refusal>) -> u32
 {
     match answer {
         Ok(_) => 0,
-        Err(refusal) => of_refusal(*refusal),
+        Err(refusal) => u32::from(*refusal),
     }
 }
 
