@@ -94,7 +94,7 @@ fn held(out: Stdout, line: &[u8], bank: &[u8]) -> io::Result<()> {
 fn post(line: &[u8], sheet: &[u8], bank: &mut [u8]) {
     let mut posted = [0u8; 64];
     let words = fields::bytes_at(line, 7, &mut posted);
-    bank::post(
+    let _ = bank::post(
         sheet,
         bank,
         word_of(line, 2) as u32,
@@ -147,7 +147,7 @@ fn number(out: Stdout, line: &[u8], sheet: &[u8], bank: &mut [u8]) -> io::Result
 fn act(out: Stdout, line: &[u8], sheet: &[u8], bank: &mut [u8]) -> io::Result<()> {
     let letter = words::byte_at(line, 0);
     if letter == b'F' {
-        bank::fresh(sheet, bank);
+        let _ = bank::fresh(sheet, bank);
         return Ok(());
     }
     if letter == b'P' {
@@ -186,7 +186,7 @@ fn start(source: &[u8], sheet: &mut [u8], bank: &mut [u8]) -> Sizes {
     results::fill(sheet, source);
     let n = 2 * (rows::bank_words(source) as usize) + 2;
     if n <= bank.len() {
-        bank::fresh(source, &mut bank[..n]);
+        let _ = bank::fresh(source, &mut bank[..n]);
     }
     Sizes {
         sheet: source.len(),
