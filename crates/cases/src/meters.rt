@@ -45,7 +45,7 @@ impl AtHand {
         self.sheet.extend_from_slice(sheet)?;
         self.bank_size = 2 * usize::from(rows::bank_words(sheet)) + 2;
         if let Some(bank) = self.room.get_mut(..self.bank_size) {
-            bank::fresh(sheet, bank);
+            let _ = bank::fresh(sheet, bank);
         }
         Ok(())
     }
@@ -108,7 +108,7 @@ impl Meter<'_, '_> {
     fn act(&mut self, line: &[u8]) -> io::Result<()> {
         match line.first() {
             Some(b'F') => {
-                bank::fresh(self.sheet, self.bank);
+                let _ = bank::fresh(self.sheet, self.bank);
                 Ok(())
             }
             Some(b'P') => {
@@ -145,7 +145,7 @@ impl Meter<'_, '_> {
     fn post(&mut self, line: &[u8]) -> io::Result<()> {
         let address = u32::from(fields::word_at(line, 2));
         let (words, _) = fields::bytes(self.alloc, fields::behind(line, 7), POST_ROOM)?;
-        bank::post(self.sheet, self.bank, address, &words);
+        let _ = bank::post(self.sheet, self.bank, address, &words);
         Ok(())
     }
 

@@ -15,24 +15,6 @@ pub(crate) struct Got {
     pub rate: u16,
 }
 
-// 01's number of a refusal.
-fn number_of(refusal: Refusal) -> u16 {
-    match refusal {
-        Refusal::BrokenSheet => 2,
-        Refusal::MisfittingBank => 3,
-        Refusal::UnsoundBank => 4,
-        Refusal::SmallBuffer => 5,
-        Refusal::NotReadOnly => 6,
-        Refusal::BadInput => 7,
-        Refusal::BadRing => 8,
-        Refusal::NoFrame => 9,
-        Refusal::ReplyDamaged => 10,
-        Refusal::ReplyStation => 11,
-        Refusal::ReplyFunction => 12,
-        Refusal::ReplyBody => 13,
-    }
-}
-
 // What a call handed back, in numbers.
 pub(crate) fn numbers_of(answered: Result<Answered, Refusal>) -> Got {
     match answered {
@@ -52,7 +34,7 @@ pub(crate) fn numbers_of(answered: Result<Answered, Refusal>) -> Got {
             rate: 0,
         },
         Err(refusal) => Got {
-            number: number_of(refusal),
+            number: u32::from(refusal) as u16,
             length: 0,
             rate: 0,
         },

@@ -46,49 +46,49 @@ pub fn cedarskein_check_value(bytes: &[u8]) -> u16
 pub fn cedarskein_sheet_check(sheet: &[u8]) -> u32
     ensures { result ≡ answer_number (sheet_answer sheet.now) }
 {
-    numbers::of_answer(sheet::check(sheet))
+    numbers::number(&sheet::check(sheet))
 }
 
 // 0, or 2, 3, 4 in this order.
 pub fn cedarskein_bank_check(sheet: &[u8], bank: &[u8]) -> u32
     ensures { result ≡ answer_number (check_answer (lent sheet.now bank.now)) }
 {
-    numbers::of_answer(bank::check(sheet, bank))
+    numbers::number(&bank::check(sheet, bank))
 }
 
 // Makes a bank fresh: 0, or 2, 3 in this order.
 pub fn cedarskein_bank_fresh(sheet: &[u8], bank: &mut [u8]) -> u32
     ensures { told result bank.new ≡ told_of (fresh_outcome (lent sheet.now bank.old)) }
 {
-    numbers::of_answer(bank::fresh(sheet, bank))
+    numbers::number(&bank::fresh(sheet, bank))
 }
 
 // Posts words from an address upward: 0, or 2, 3, 4, 7, 6 in this order.
 pub fn cedarskein_post(sheet: &[u8], bank: &mut [u8], address: u32, words: &[u8]) -> u32
     ensures { told result bank.new ≡ told_of (post_outcome (lent sheet.now bank.old) address words.now) }
 {
-    numbers::of_answer(bank::post(sheet, bank, address, words))
+    numbers::number(&bank::post(sheet, bank, address, words))
 }
 
 // Sets the alarm mark: 0, or 2, 3, 4, 7 in this order.
 pub fn cedarskein_set_mark(sheet: &[u8], bank: &mut [u8], mark: u32) -> u32
     ensures { told result bank.new ≡ told_of (mark_outcome (lent sheet.now bank.old) mark) }
 {
-    numbers::of_answer(bank::set_mark(sheet, bank, mark))
+    numbers::number(&bank::set_mark(sheet, bank, mark))
 }
 
 // 0, or 2, 8 in this order.
 pub fn cedarskein_ring_check(sheet: &[u8], ring: &[u8]) -> u32
     ensures { result ≡ answer_number (ring_answer sheet.now ring.now) }
 {
-    numbers::of_answer(ring::check(sheet, ring))
+    numbers::number(&ring::check(sheet, ring))
 }
 
 // Adds the bytes of one whole record to a ring: 0, or 2, 8, 7 in this order; 2 also where the sheet has no record area.
 pub fn cedarskein_add_record(sheet: &[u8], ring: &mut [u8], bytes: &[u8]) -> u32
     ensures { ring_told result ring.new ≡ ring_told_of (add_outcome sheet.now ring.old bytes.now) }
 {
-    numbers::of_answer(ring::add(sheet, ring, bytes))
+    numbers::number(&ring::add(sheet, ring, bytes))
 }
 
 // Answers one frame: 0 with the length of the reply and the rate to send it at, 1 for silence, or 2, 3, 4, 8, 5 in this order. Length
@@ -130,7 +130,7 @@ pub fn cedarskein_why(
     *reason = numbers::reason_in(explained);
     *address = numbers::address_in(explained);
     *side = numbers::side_in(explained);
-    numbers::of_explained(explained)
+    numbers::number(&explained)
 }
 
 // Builds the query of an order: 0 with its length, or 9, 5 in this order. The length is written on every call, 0 with a refusal. The second promise
@@ -150,7 +150,7 @@ pub fn cedarskein_query(
     let asked = numbers::order_of(order, address, number);
     let built = controller::query(asked, station, values, out);
     *length = numbers::length_built(built);
-    numbers::of_built(built)
+    numbers::number(&built)
 }
 
 // Reads a reply against the order that it answers: 0 with the length of the values and the error code, or 9, 5, 10, 11, 12, 13 in this order. Both
@@ -173,5 +173,5 @@ pub fn cedarskein_reply(
     let reading = controller::reply(asked, station, values, reply, out);
     *length = numbers::length_read(reading);
     *error = numbers::error_read(reading);
-    numbers::of_reading(reading)
+    numbers::number(&reading)
 }

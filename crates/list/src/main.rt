@@ -10,6 +10,6 @@ const ROOM: u64 = 863;
 fn main(rt: HostRuntime) -> io::Result<()> {
     let mut sheet = Vec::new(rt.alloc());
     rt.stdin().take(ROOM).read_to_end(&mut sheet)?;
-    listing_print::print(rt.stdout(), &sheet);
+    let _ = listing_print::print(rt.stdout(), &sheet);
     Ok(())
 }

@@ -8,7 +8,7 @@ use std::io::Stdout;
 
 fn list(out: Stdout, what: &str, sheet: &[u8]) -> io::Result<()> {
     println!(out; "{what}")?;
-    listing_print::print(out, sheet);
+    let _ = listing_print::print(out, sheet);
     Ok(())
 }
 

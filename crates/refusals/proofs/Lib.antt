@@ -1,2 +1,4 @@
 pub mod Numbers
 pub mod Answers
+pub mod Determined
+pub mod Linked

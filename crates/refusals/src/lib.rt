@@ -1,8 +1,11 @@
-// Why a call is refused: the error of every call. specs/ has the numbers of the refusals. There is no code here.
+// Why a call is refused: the error of every call, and its number.
 #![tactic(auto)]
 
+ghost use Rattle.std.specs.Prelude.{◌≡◌};
+ghost use Rattle.refusals.specs.Answers.{refusal_number};
+
 // Why a call is refused: rules N2 to N13, in the order of their numbers.
-#[derive(Clone, Copy)]
+#[derive(Clone, Copy, PartialEq, Eq)]
 pub enum Refusal {
     BrokenSheet,
     MisfittingBank,
@@ -16,4 +19,25 @@ pub enum Refusal {
     ReplyStation,
     ReplyFunction,
     ReplyBody,
+}
+
+impl From<Refusal> for u32 {
+    ghost from_gives = { λ refusal number. number ≡ refusal_number refusal };
+
+    fn from(refusal: Refusal) -> u32 {
+        match refusal {
+            Refusal::BrokenSheet => 2,
+            Refusal::MisfittingBank => 3,
+            Refusal::UnsoundBank => 4,
+            Refusal::SmallBuffer => 5,
+            Refusal::NotReadOnly => 6,
+            Refusal::BadInput => 7,
+            Refusal::BadRing => 8,
+            Refusal::NoFrame => 9,
+            Refusal::ReplyDamaged => 10,
+            Refusal::ReplyStation => 11,
+            Refusal::ReplyFunction => 12,
+            Refusal::ReplyBody => 13,
+        }
+    }
 }

@@ -1,4 +1,3 @@
 pub mod Sizes
-pub mod Refusals
 pub mod Determined
 pub mod Linked

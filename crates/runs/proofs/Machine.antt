@@ -11,6 +11,7 @@ use prog.Wired.{Code, Wired}
 use prog.Linked.{World, Holds, in_world}
 use prog.LinkedThreads.{HasT, tie_t, has-wired_t, tie_t-follows, tie_t-threads}
 use Rattle.words.proofs.Linked as words
+use Rattle.refusals.proofs.Linked as refusals
 use Rattle.check_value.proofs.Linked as check_value
 use Rattle.range.proofs.Linked as range
 use Rattle.one_row.proofs.Linked as one_row
@@ -50,6 +51,7 @@ module _ (more : World) where
   unfoldable pub build : World
   build =
       (codes "words", words.table)
+      ∷ (codes "refusals", refusals.table)
       ∷ (codes "check_value", check_value.table)
       ∷ (codes "range", range.table)
       ∷ (codes "one_row", one_row.table)
@@ -73,6 +75,13 @@ module _ (more : World) where
 
   words_below : words.Below build
   words_below = tt
+
+  refusals_here : Holds build "refusals" refusals.table
+  unfolding build
+  refusals_here = refl
+
+  refusals_below : refusals.Below build
+  refusals_below = tt
 
   check_value_here : Holds build "check_value" check_value.table
   unfolding build
@@ -293,6 +302,7 @@ module _ (more : World) where
       & controller.has_query build controller_here controller_below
       & controller.has_reply build controller_here controller_below
       & meter.has_answer build meter_here meter_below
+      & refusals.has_from build refusals_here refusals_below
       & ring.has_add build ring_here ring_below
       & ring.has_check build ring_here ring_below
       & sheet.has_check build sheet_here sheet_below

@@ -1,5 +1,5 @@
 -- The stores that are left make of the ring what all make of the first one.
-use Rattle.std.proofs.Common.{◌-◌, ◌≡◌, ◌≤◌, map}
+use Rattle.std.proofs.Common.{◌≡◌, map}
 use Rattle.lists.specs.Lists.{up_from}
 use Rattle.bank_rules.specs.Stores.{stored}
 use Rattle.bank_rules.proofs.Stores.{stores_from}
@@ -8,11 +8,5 @@ use Rattle.ring.proofs.record_words.store_record.Given as goal
 
 abbrev pub invariant-loop-k : goal.invariant-loop-k
 invariant-loop-k l =
-    record {
-      within : l.k ≤ l.count;
-      left : stored l.ring (stores_from (record_store l.fn.records l.place l.bytes) l.k l.count)
-          ≡ stored l.fn.ring (map (record_store l.fn.records l.place l.bytes) (up_from 0 l.count));
-    }
-
-abbrev pub decreases-loop-k : goal.decreases-loop-k
-decreases-loop-k l = l.count - l.k
+    stored l.ring (stores_from (record_store l.fn.records l.place l.bytes) l.k l.count)
+    ≡ stored l.fn.ring (map (record_store l.fn.records l.place l.bytes) (up_from 0 l.count))
