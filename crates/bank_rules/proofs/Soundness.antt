@@ -4,7 +4,6 @@ use mathlib.Core.Bool.{true}
 use mathlib.Core.List.{List}
 use Prim.Native.Nat.{ℕ}
 use lib.Dec.{leb}
-use Rattle.std.specs.Prelude.{Ok}
 use Rattle.bank_rules.specs.Stores.{Store, stored}
 use Rattle.bank_rules.specs.Bank.{bank_sound, fresh_stores, post_stores, mark_stores}
 use Rattle.bank_rules.specs.Calls.{Lent, effect_of, fresh_answer, post_answer, mark_answer, fresh_outcome, post_outcome, mark_outcome}

@@ -13,7 +13,7 @@ use Rattle.sheet_rules.specs.declared.Item.{Item}
 use Rattle.sheet_rules.specs.Rows.{version, area_count, item_count, bank_words, functions, clear_address, address_place, rate_place, areas, items}
 use Rattle.sheet_rules.specs.Rules.{sound, header_sound, areas_sound, items_sound, settings_sound, records_sound, item_places, covered_places, places_follow, areas_ascend, lengths_sum}
 use Rattle.lists.specs.Lists.{each, some, up_from, same_places}
-use Rattle.sheet_rules.specs.Lookup.{address_of, lies_in, found_at}
+use Rattle.sheet_rules.specs.Lookup.{address_of, lies_in}
 use Rattle.sheet_rules.specs.declared.Lies.{Lies}
 use Rattle.makers.specs.Maps.{Row, Map, plain, pair, preset, ux, aswe, aswe40, bore50, bore80}
 use Rattle.makers.specs.Sheets.{Run, runs_of, areas_of, items_of, item_words, sheet_of}

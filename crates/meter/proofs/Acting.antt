@@ -10,7 +10,7 @@ use borrow.Author.Rules.{rules}
 use borrow.Author.Tests.{eq-eqb, ne_eqb}
 use denote.Enum.Declared.{tag_of}
 use types.Run.{OneOf, miss}
-use Rattle.std.specs.Prelude.{Result, Ok}
+use Rattle.std.specs.Prelude.{Ok}
 use Rattle.lists.specs.Lists.{up_from}
 use Rattle.range.specs.declared.Side.{Side}
 use Rattle.bank_rules.specs.Stores.{stored}
@@ -28,7 +28,6 @@ use Rattle.meter.specs.Acting.{replied}
 use Rattle.meter_rules.proofs.Outcomes.{quiet, quiet_stores, good_reply_lem, error_reply_lem}
 use Rattle.meter_rules.specs.declared.Answered.{Answered}
 use Rattle.meter_rules.specs.declared.Answered.TheVariants.{Reply, Error, Silence}
-use Rattle.refusals.specs.declared.Refusal.{Refusal}
 
 -- ---- the reply that is laid
 

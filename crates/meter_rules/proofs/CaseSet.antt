@@ -6,7 +6,6 @@ use mathlib.Core.List.{List, [], ◌∷◌, ◌++◌}
 use Prim.Native.Nat.{ℕ}
 use lib.Dec.{eqb}
 use lib.ListN.{length, drop, replicate}
-use Rattle.std.specs.Prelude.{Ok}
 use Rattle.words.specs.Words.{word_at, with_word, bytes_of}
 use Rattle.words.specs.Changes.{Change, at, changed}
 use Rattle.check_value.specs.Check.{value_of}

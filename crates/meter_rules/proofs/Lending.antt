@@ -4,7 +4,7 @@ use mathlib.Core.Bool.{true, false, not}
 use mathlib.Core.List.{List, [], ◌∷◌}
 use Prim.Native.Nat.{ℕ}
 use borrow.Author.Tests.{not-false}
-use Rattle.std.specs.Prelude.{Ok, Err}
+use Rattle.std.specs.Prelude.{Err}
 use Rattle.lists.specs.Cases.{Case, when, first_case, InOrder}
 use Rattle.lists.proofs.Cases.{differ}
 use Rattle.refusals.specs.declared.Refusal.{Refusal}

@@ -9,7 +9,7 @@ use lib.ListN.{length, take, drop}
 use lib.Seq.{take_at}
 use lib.Dec.{eqb}
 use borrow.Author.Tests.{eq-eqb, ne_eqb, eqb-true, eqb-false, not-false}
-use Rattle.std.specs.Prelude.{Result, Ok, Err}
+use Rattle.std.specs.Prelude.{Ok, Err}
 use Rattle.check_value.specs.Frame.{passes}
 use Rattle.frame.specs.Reply.{error_reply, with_check, small_buffer}
 use Rattle.refusals.specs.declared.Refusal.{Refusal}

@@ -7,7 +7,7 @@ use native.Mathlib.Omega.{arith}
 use Rattle.std.specs.Prelude.{Option, None, Some}
 use Rattle.sheet_rules.specs.Rows.{areas}
 use Rattle.sheet_rules.specs.Rules.{sound}
-use Rattle.sheet_rules.specs.Lookup.{lies_in, place_in, found_at}
+use Rattle.sheet_rules.specs.Lookup.{lies_in, place_in}
 use Rattle.sheet_rules.proofs.Sound.{sound_numbers}
 use Rattle.sheet_rules.proofs.Addresses.{lies_below}
 use Rattle.sheet_rules.specs.declared.Lies.{Lies}

@@ -19,7 +19,7 @@ use Rattle.sheet_rules.specs.declared.Purpose.TheVariants.{Write}
 use Rattle.frame.specs.Frame.{reads, clears, writes_one, writes_many, function, start, is_write, count, run}
 use Rattle.meter_rules.specs.Steps.{starts_in_records, asked_start, wrong_read, good_read, function_allowed, fails_check, other_station, wrong_length, wrong_count, wrong_address, wrong_value, bad_write, good_frame, judged_frame}
 use Rattle.sheet_rules.specs.Runs.{all_open}
-use Rattle.meter_rules.specs.Write.{first_place, some_bad, stop_of, place_of_stop, stop_place, stop_side, run_stores, stops_with}
+use Rattle.meter_rules.specs.Write.{first_place, some_bad, stop_of, place_of_stop, stop_place, stop_side, run_stores}
 use Rattle.meter_rules.specs.Reply.{stores_of}
 use Rattle.meter_rules.specs.Answer.{acted_on, answer_outcome}
 use Rattle.meter_rules.proofs.Order.{last_function}

@@ -12,7 +12,7 @@ use Rattle.lists.specs.Lists.{each, up_from}
 use Rattle.lists.proofs.Among.{up_among, each_among}
 use Rattle.sheet_rules.specs.Rows.{areas, clear_address, record_area}
 use Rattle.sheet_rules.specs.Rules.{sound}
-use Rattle.sheet_rules.specs.Lookup.{lies_in, record_number, found_at}
+use Rattle.sheet_rules.specs.Lookup.{lies_in, record_number}
 use Rattle.sheet_rules.proofs.Addresses.{lies_word}
 use Rattle.sheet_rules.specs.declared.Purpose.{Purpose}
 use Rattle.sheet_rules.specs.declared.Purpose.TheVariants.{Read, Write}

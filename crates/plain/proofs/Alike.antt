@@ -7,7 +7,6 @@ use mathlib.Core.List.{List}
 use Prim.Native.Nat.{ℕ, ◌*◌, ◌<◌}
 use native.Mathlib.Omega.{arith}
 use Rattle.sheet_rules.specs.Rules.{sound}
-use Rattle.sheet_rules.specs.Lookup.{found_at}
 use Rattle.bank_rules.specs.Calls.{Lent}
 use Rattle.sheet_rules.proofs.Addresses.{at_access}
 use Rattle.plain.specs.Numbers.{byte, word}

@@ -7,7 +7,7 @@ use native.Mathlib.Omega.{arith}
 use lib.Dec.{eqb}
 use lib.ListN.{length}
 use borrow.Author.Tests.{eqb-true, eqb-false, ne_eqb}
-use Rattle.std.specs.Prelude.{Result, Ok}
+use Rattle.std.specs.Prelude.{Ok}
 use Rattle.words.specs.Words.{word_at}
 use Rattle.lists.specs.Cases.{when, first_case}
 use Rattle.sheet_rules.specs.declared.RecordArea.{RecordArea}
@@ -49,7 +49,6 @@ use Rattle.plain.proofs.Addresses.{address_same, registers_same, address_tells, 
 use Rattle.plain.proofs.Fates.{tested, judged_fate, judged_gets}
 use Rattle.plain.proofs.Words.{words_left}
 use Rattle.plain.proofs.Replies.{closed_by, error_plain, echo_plain, read_word}
-use Rattle.refusals.specs.declared.Refusal.{Refusal}
 
 -- an outcome as the plain numbers have it
 abbrev pub left_of : Outcome → Left

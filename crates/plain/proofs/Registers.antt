@@ -12,7 +12,7 @@ use Rattle.lists.proofs.Among.{Among}
 use Rattle.sheet_rules.specs.declared.Item.{Item}
 use Rattle.sheet_rules.specs.Rows.{items}
 use Rattle.sheet_rules.specs.Rules.{sound}
-use Rattle.sheet_rules.specs.Lookup.{holds, found_at}
+use Rattle.sheet_rules.specs.Lookup.{holds}
 use Rattle.bank_rules.specs.Bank.{value_by}
 use Rattle.bank_rules.specs.Calls.{Lent}
 use Rattle.bank_rules.proofs.Held.{holds_first, holds_second, holder_alone}

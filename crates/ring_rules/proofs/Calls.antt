@@ -7,7 +7,7 @@ use Prim.Native.Nat.{ℕ, ◌+◌, ◌*◌, ◌≤◌}
 use lib.Dec.{eqb}
 use lib.ListN.{length}
 use borrow.Author.Tests.{not-false, eqb-true, eq-eqb}
-use Rattle.std.specs.Prelude.{Ok, Err}
+use Rattle.std.specs.Prelude.{Err}
 use Rattle.lists.specs.Cases.{Case, when, first_case, mapped, conditions, NoneOf, InOrder}
 use Rattle.lists.proofs.Cases.{differ, first_none}
 use Rattle.refusals.specs.declared.Refusal.{Refusal}

@@ -15,7 +15,7 @@ use Rattle.sheet_rules.specs.declared.Area.{Area}
 use Rattle.sheet_rules.specs.declared.RecordArea.{RecordArea}
 use Rattle.sheet_rules.specs.Rows.{areas, has_records, record_row, no_records, record_area, clear_address}
 use Rattle.sheet_rules.specs.Rules.{allowed, bit_of05, record_count_rule, record_words_rule, records_end_rule, records_end, in_records, apart_rule, record_clear_rule, records_sound, sound}
-use Rattle.sheet_rules.specs.Lookup.{lies_in, found_at}
+use Rattle.sheet_rules.specs.Lookup.{lies_in}
 use Rattle.sheet_rules.proofs.Addresses.{lies_found}
 use Rattle.sheet_rules.proofs.Sound.{sound_parts, between_low, between_high}
 use Rattle.sheet_rules.specs.declared.Lies.{Lies}

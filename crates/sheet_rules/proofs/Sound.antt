@@ -8,7 +8,7 @@ use native.Mathlib.Omega.{arith}
 use lib.Dec.{leb}
 use lib.ListN.{length}
 use borrow.Author.Tests.{leb-true, eqb-true, not-false}
-use Rattle.std.specs.Prelude.{Ok, Err}
+use Rattle.std.specs.Prelude.{Err}
 use Rattle.sheet_rules.specs.Rows.{version, areas, items, area_count, item_count, bank_words, functions, sheet_words, record_areas, sheet_end, item_end}
 use Rattle.lists.specs.Lists.{between, each}
 use Rattle.sheet_rules.specs.Rules.{version_rule, area_count_rule, area_offset_rule, item_count_rule, item_offset_rule, bank_words_rule, functions_rule, sheet_words_rule, record_areas_rule, byte_length_rule, kind_rule, bounds_rule, low_high_rule, cover_rule, pair_rule, access_rule, write_only_rule, first_last_rule, areas_ascend, places_follow, lengths_sum_rule, clear_address_rule, header_sound, areas_sound, items_sound, settings_sound, records_sound, sound, sheet_refusals, sheet_answer}

@@ -1,13 +1,10 @@
 -- `meter::answer` meets its contract: the refusals in their order, then what becomes of the judged frame.
 -- Assumes nothing.
 use Rattle.std.proofs.Common.{sym, ap, ◌∙◌, length, lt-ltb, le-ltb}
-use Rattle.std.specs.Prelude.{Result}
-use Rattle.refusals.specs.declared.Refusal.{Refusal}
 use Rattle.bank_rules.specs.Calls.{lent_with}
 use Rattle.frame.specs.Reply.{least_buffer}
 use Rattle.meter_rules.specs.declared.Judged.{Judged}
-use Rattle.meter_rules.specs.declared.Answered.{Answered}
-use Rattle.meter_rules.specs.Answer.{outcome, acted_on}
+use Rattle.meter_rules.specs.Answer.{acted_on}
 use Rattle.meter_rules.proofs.Lending.{lent_passed}
 use Rattle.meter_rules.proofs.Closing.{judged_room}
 use Rattle.meter.proofs.Answering.{answer_refused, answer_small, answer_acted}

@@ -1,8 +1,7 @@
 -- `bank::post_words::store_posted` meets its contract: each word at the place of its address. Assumes nothing.
 use Rattle.std.proofs.Common.{ℕ, ◌*◌, ◌/◌, length, ap, ap₂, ◌∙◌, arith}
 use Rattle.words.specs.Words.{with_word}
-use Rattle.sheet_rules.specs.Rows.{areas}
-use Rattle.sheet_rules.specs.Lookup.{lies_in, place_in}
+use Rattle.sheet_rules.specs.Lookup.{place_in}
 use Rattle.bank_rules.specs.Stores.{stored}
 use Rattle.bank_rules.specs.Bank.{post_store, post_stores}
 use Rattle.bank_rules.proofs.Stores.{stores_start, stores_go_on, stores_end}

@@ -1,7 +1,6 @@
 -- `meter::values::store_run` meets its contract: each store is the next of the run's, and behind the last none is left. Assumes nothing.
-use Rattle.std.proofs.Common.{ℕ, ◌+◌, ◌*◌, ap, ◌∙◌, arith, length, map}
+use Rattle.std.proofs.Common.{ℕ, ◌+◌, ◌*◌, ap, ◌∙◌, arith, map}
 use Rattle.words.specs.Words.{word_at, with_word}
-use Rattle.words.proofs.Stores.{word_length}
 use Rattle.lists.specs.Lists.{up_from}
 use Rattle.bank_rules.specs.Stores.{stored}
 use Rattle.bank_rules.proofs.Stores.{stores_go_on, stores_end}

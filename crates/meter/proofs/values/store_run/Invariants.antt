@@ -1,10 +1,9 @@
 -- `meter::values::store_run` meets its contract. The loop's invariant: the stores that are left make of the bank what all make of the
 -- first one. Assumes nothing.
-use Rattle.std.proofs.Common.{◌≡◌, ◌-◌, ◌≤◌, length, map}
+use Rattle.std.proofs.Common.{◌≡◌, map}
 use Rattle.lists.specs.Lists.{up_from}
 use Rattle.bank_rules.specs.Stores.{stored}
 use Rattle.bank_rules.proofs.Stores.{stores_from}
-use Rattle.frame.specs.Frame.{values_at}
 use Rattle.meter_rules.specs.Write.{run_store}
 use Rattle.meter.proofs.values.store_run.Given as goal
 
