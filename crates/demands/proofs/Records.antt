@@ -5,7 +5,6 @@ use mathlib.Core.List.{List, map}
 use Prim.Native.Nat.{ℕ, zero, suc, ◌+◌, ◌*◌, ◌≤◌, ◌<◌}
 use native.Mathlib.Omega.{arith}
 use lib.ListN.{get_or}
-use Rattle.std.specs.Prelude.{Ok}
 use Rattle.lists.specs.Lists.{up_from}
 use Rattle.words.specs.Words.{word_at}
 use Rattle.refusals.proofs.Numbers.{number_tells}

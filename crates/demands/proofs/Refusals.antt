@@ -15,7 +15,7 @@ use lib.Dec.{eqb}
 use borrow.Author.Tests.{eqb-true}
 use Rattle.std.specs.Prelude.{Ok, Err}
 use Rattle.lists.proofs.Cases.{told_among, differ}
-use Rattle.refusals.specs.Answers.{refusal_number, answer_number, Answer, call_done}
+use Rattle.refusals.specs.Answers.{refusal_number, answer_number, Answer}
 use Rattle.refusals.proofs.Answers.{numbers_in_order}
 use Rattle.sheet_rules.specs.Rules.{broken_sheet, sheet_refusals}
 use Rattle.bank_rules.specs.Stores.{Store, stored}
