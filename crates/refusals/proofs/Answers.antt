@@ -5,7 +5,7 @@ use mathlib.Core.Bool.{Bool, true, false, cond}
 use mathlib.Core.List.{List, [], ◌∷◌, ◌++◌}
 use Prim.Native.Nat.{ℕ}
 use native.Mathlib.Omega.{arith}
-use Rattle.std.specs.Prelude.{Ok, Err}
+use Rattle.std.specs.Prelude.{Err}
 use Rattle.lists.specs.Cases.{Case, first_case, mapped, conditions, NoneOf, InOrder}
 use Rattle.lists.proofs.Cases.{differ, told_in_order}
 use Rattle.refusals.specs.declared.Refusal.{Refusal}
