@@ -5,6 +5,7 @@ ghost use Rattle.std.specs.Prelude.{◌≡◌};
 ghost use Rattle.refusals.specs.Answers.{refusal_number};
 
 // Why a call is refused: rules N2 to N13, in the order of their numbers.
+// No `Debug`: its code calls std's, of which the kit shows none, and the theorem door_machine has the code of each call.
 #[derive(Clone, Copy, PartialEq, Eq)]
 pub enum Refusal {
     BrokenSheet,
