@@ -16,7 +16,10 @@ const HIGHEST_STATION: u32 = 0xF7;
 pub fn in_area(address: u32, area: Area) -> bool
     ensures { result ≡ in_area address area }
 {
-    area.first as u32 <= address && address <= area.last as u32
+    if address < area.first as u32 {
+        return false;
+    }
+    address <= area.last as u32
 }
 
 // How many addresses an area has; none where first is above last.
@@ -33,7 +36,16 @@ pub fn length_of(area: Area) -> u32
 fn known_access(area: Area, version: u16) -> bool
     ensures { result ≡ (access_rule area && write_only_rule version area) }
 {
-    area.access == 1 || area.access == 3 || (area.access == 2 && version == 2)
+    if area.access == 1 {
+        return true;
+    }
+    if area.access == 3 {
+        return true;
+    }
+    if area.access != 2 {
+        return false;
+    }
+    version == 2
 }
 
 // One area behind others, in a sheet of a version: `lowest` is one past the last address so far, `places` the sum of the lengths so far.
@@ -41,64 +53,113 @@ fn known_access(area: Area, version: u16) -> bool
 pub fn area_sound(area: Area, version: u16, lowest: u32, places: u32) -> bool
     ensures { result ≡ (access_rule area && write_only_rule version area && first_last_rule area && leb lowest area.first && eqb area.place places) }
 {
-    known_access(area, version)
-        && area.first <= area.last
-        && lowest <= area.first as u32
-        && area.place as u32 == places
+    if !known_access(area, version) {
+        return false;
+    }
+    if area.last < area.first {
+        return false;
+    }
+    if (area.first as u32) < lowest {
+        return false;
+    }
+    area.place as u32 == places
 }
 
 // Rule S26, for one area.
 pub fn clear_outside(allowed: bool, clear: u16, area: Area) -> bool
     ensures { result ≡ not (allowed && in_area clear area) }
 {
-    !(allowed && in_area(clear as u32, area))
+    if allowed {
+        return !in_area(clear as u32, area);
+    }
+    true
 }
 
 // Rule S42.
 fn bounds_sound(item: Item) -> bool
     ensures { result ≡ bounds_rule item }
 {
-    item.kind == 2 || (item.low < 0x10000 && item.high < 0x10000)
+    if item.kind == 2 {
+        return true;
+    }
+    if item.low >= 0x10000 {
+        return false;
+    }
+    item.high < 0x10000
 }
 
 // The rules of an item by itself: rules S41, S42 and S44.
 pub fn item_sound(item: Item) -> bool
     ensures { result ≡ (kind_rule item && bounds_rule item && low_high_rule item) }
 {
-    item.kind <= 2 && bounds_sound(item) && range::not_above(item.kind, item.low, item.high)
+    if item.kind > 2 {
+        return false;
+    }
+    if !bounds_sound(item) {
+        return false;
+    }
+    range::not_above(item.kind, item.low, item.high)
 }
 
 // How many places an item has: its first place, and the next one for a pair. Rule S45.
 pub fn size_of(item: Item) -> u32
     ensures { result ≡ cond (is_pair item) 2 1 }
 {
-    if item.kind == 2 { 2 } else { 1 }
+    if item.kind == 2 {
+        return 2;
+    }
+    1
 }
 
 // Rules S61 and S62, of an item and a place.
 fn setting_at(item: Item, place: u16) -> bool
     ensures { result ≡ setting_at place item }
 {
-    item.kind == 0 && item.place == place && range::in_range(item.kind, item.low, item.high, 1)
+    if item.kind != 0 {
+        return false;
+    }
+    if item.place != place {
+        return false;
+    }
+    range::in_range(item.kind, item.low, item.high, 1)
 }
 
-// Whether the address's item is found: before, or here. Rule S63. What was found before stays a parameter: `address_found_determined` has it.
-// The place is tested first: it is the one of few items.
+// Whether the address's item is found: before, or here. Rule S63. The place is tested first: it is the one of few items.
 pub fn address_found(before: bool, item: Item, place: u16) -> bool
     ensures { result ≡ (before || address_item place item) }
 {
-    before
-        || (item.place == place
-            && setting_at(item, place)
-            && LOWEST_STATION <= item.low
-            && item.high <= HIGHEST_STATION)
+    if item.place != place {
+        return before;
+    }
+    if !setting_at(item, place) {
+        return before;
+    }
+    if item.low < LOWEST_STATION {
+        return before;
+    }
+    if item.high > HIGHEST_STATION {
+        return before;
+    }
+    true
 }
 
 // Whether the rate's item is found: before, or here. Rule S64.
 pub fn rate_found(before: bool, item: Item, place: u16) -> bool
     ensures { result ≡ (before || rate_item place item) }
 {
-    before || (item.place == place && setting_at(item, place) && item.low == 0 && item.high == 1)
+    if item.place != place {
+        return before;
+    }
+    if !setting_at(item, place) {
+        return before;
+    }
+    if item.low != 0 {
+        return before;
+    }
+    if item.high != 1 {
+        return before;
+    }
+    true
 }
 
 // The most records that a record area has, and the most words of one: rules S81 and S82.
@@ -110,21 +171,37 @@ const MOST_WORDS: u16 = 47;
 pub fn records_sound(records: RecordArea) -> bool
     ensures { result ≡ (record_count_rule records && record_words_rule records && records_end_rule records) }
 {
-    matches!(records.records, 1..=MOST_RECORDS)
-        && matches!(records.words, 1..=MOST_WORDS)
-        && records.first as u32 + records.records as u32 <= 0x10000
+    if records.records < 1 {
+        return false;
+    }
+    if MOST_RECORDS < records.records {
+        return false;
+    }
+    if records.words < 1 {
+        return false;
+    }
+    if MOST_WORDS < records.words {
+        return false;
+    }
+    records.first as u32 + records.records as u32 <= 0x10000
 }
 
 // Whether an address is a record's: rule S86.
 pub fn in_records(address: u32, records: RecordArea) -> bool
     ensures { result ≡ in_records address records }
 {
-    records.first as u32 <= address && address < records.first as u32 + records.records as u32
+    if address < records.first as u32 {
+        return false;
+    }
+    address < records.first as u32 + records.records as u32
 }
 
 // Rule S84, for one area.
 pub fn apart(records: RecordArea, area: Area) -> bool
     ensures { result ≡ apart_rule records area }
 {
-    area.last < records.first || records.first as u32 + records.records as u32 <= area.first as u32
+    if area.last < records.first {
+        return true;
+    }
+    records.first as u32 + records.records as u32 <= area.first as u32
 }
