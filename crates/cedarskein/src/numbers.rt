@@ -55,6 +55,7 @@ pub(crate) fn rate_of(answered: Result<Answered, Refusal>) -> u32
     }
 }
 
+// Of a reason, and below of a side: rules Y0 to Y24 number them for C alone, so they stand here and are no `From` of their crates.
 fn of_reason(reason: Option<Reason>) -> u32
     ensures { result ≡ reason_number reason }
 {

@@ -3,7 +3,7 @@
 #![tactic(auto)]
 
 // What a box asks of a meter, in the numbers that it hands over: rules Q1 and Q2. The values of several writes are lent beside it. An order of no
-// known kind has no frame: rule Q10.
+// known kind has no frame: rule Q10. It is a case and no Option, since `ask` and `order_by` make orders of it.
 #[derive(Clone, Copy)]
 pub enum Order {
     Read { start: u32, count: u32 },

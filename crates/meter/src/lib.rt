@@ -31,7 +31,8 @@ fn check(sheet: &[u8], bank: &[u8], ring: &[u8]) -> Result<(), Refusal>
     Ok(())
 }
 
-// Judges one frame and does nothing: the refusals 2, 3, 4 and 8 in this order, then where the frame stops.
+// Judges one frame and does nothing: the refusals 2, 3, 4 and 8 in this order, then where the frame stops. Four slices and no struct, here and below: C lends
+// them so, and `answer` writes the bank.
 pub fn judge(sheet: &[u8], bank: &[u8], ring: &[u8], frame: &[u8]) -> Result<Judged, Refusal>
     ensures { result ≡ judgement (lent_with sheet.now bank.now ring.now) frame.now }
 {

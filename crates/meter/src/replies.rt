@@ -10,31 +10,22 @@ ghost use Rattle.meter.specs.Acting.{replied};
 use crate::values;
 use meter_rules::{Answered, Judged};
 
-// The error code of a judgement; 0 where it is no error.
+// The error code of a judgement; 0 where it is no error. No Option: `error_code` of the rules is that number.
 fn error_code(judged: Judged) -> u8
     ensures { result ≡ error_code judged }
 {
     match judged {
-        Judged::FailsCheck => 0,
-        Judged::OtherStation => 0,
         Judged::FunctionNotAllowed => 1,
-        Judged::WrongLength => 0,
-        Judged::WrongCount => 3,
         Judged::WrongAddress => 2,
-        Judged::WrongValue => 3,
-        Judged::BadItem {
-            first: _,
-            stop: _,
-            side: _,
-        } => 3,
-        Judged::GoodRead { first: _, many: _ } => 0,
-        Judged::GoodRecord { first: _, many: _ } => 0,
-        Judged::GoodClear => 0,
-        Judged::GoodWrite { first: _, many: _ } => 0,
+        Judged::WrongCount | Judged::WrongValue | Judged::BadItem { .. } => 3,
+        Judged::FailsCheck | Judged::OtherStation | Judged::WrongLength => 0,
+        Judged::GoodRead { .. } | Judged::GoodRecord { .. } => 0,
+        Judged::GoodClear | Judged::GoodWrite { .. } => 0,
     }
 }
 
-// Lays the reply to a judged frame in the buffer, to be sent at a rate: an error by its code, the reply to a good frame, or none.
+// Lays the reply to a judged frame in the buffer, to be sent at a rate: an error by its code, the reply to a good frame, or none. What is lent comes one by
+// one, here and below, and in no struct: the bank is lent to be written, and written between judging and replying.
 fn lay_reply(
     judged: Judged,
     rate: u16,

@@ -105,7 +105,7 @@ impl Write<'_> {
     {
         let areas = rows::area_count(sheet.bytes);
         let end = self.first + self.many;
-        // Not a `for`: a walk by the number of items tests each row once more, which took more bytes and more instructions.
+        // Not a `for`: a walk by the number of items tests each row once more: the three such walks took 300 bytes more, of which the archive had none left.
         let mut k = first_near(sheet, self.first);
         while rows::item_end(areas, k) <= sheet.bytes.len() {
             let item = rows::item_row(sheet.bytes, areas, k);
@@ -125,7 +125,7 @@ impl Write<'_> {
     }
 }
 
-// Stores so many of the words sent, from a first place on.
+// Stores so many of the words sent, from a first place on. Apart from `store_record` of ring, its like: each promise is of its own stores, `run_store` here.
 pub(crate) fn store_run(bank: &mut [u8], frame: &[u8], first: u32, count: u32)
     ensures { bank.new ≡ stored bank.old (map (run_store frame.now first) (up_from 0 count)) }
 {

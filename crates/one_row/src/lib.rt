@@ -124,7 +124,7 @@ fn setting_at(item: Item, place: u16) -> bool
     range::in_range(item.kind, item.low, item.high, 1)
 }
 
-// Whether the address's item is found: before, or here. Rule S63. The place is tested first: it is the one of few items.
+// Whether the address's item is found: before, or here. Rule S63. The flag is handed in and back, as for the rate: `address_found_determined` speaks of it. The place is tested first: it is the one of few items.
 pub fn address_found(before: bool, item: Item, place: u16) -> bool
     ensures { result ≡ (before || address_item place item) }
 {

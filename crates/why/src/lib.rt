@@ -57,18 +57,12 @@ fn reason_by(judged: Judged, sheet: &[u8], frame: &[u8]) -> Option<Reason>
         Judged::WrongCount => Some(Reason::Count),
         Judged::WrongAddress => Some(wrongly_addressed(sheet, frame)),
         Judged::WrongValue => Some(Reason::ClearValue),
-        Judged::BadItem {
-            first: _,
-            stop,
-            side,
-        } => Some(Reason::Item {
+        Judged::BadItem { stop, side, .. } => Some(Reason::Item {
             address: lookup::address_of(sheet, (stop % 0x10000) as u16),
             side,
         }),
-        Judged::GoodRead { first: _, many: _ } => None,
-        Judged::GoodRecord { first: _, many: _ } => None,
-        Judged::GoodClear => None,
-        Judged::GoodWrite { first: _, many: _ } => None,
+        Judged::GoodRead { .. } | Judged::GoodRecord { .. } => None,
+        Judged::GoodClear | Judged::GoodWrite { .. } => None,
     }
 }
 
