@@ -5,4 +5,3 @@ use Rattle.sheet.proofs.check.Reads as check_reads
 
 pub check_determined : Determined 1 check.ps check.r check_reads.Post
 check_determined κs a x y = read_off (λ r. (r, x.1))
-

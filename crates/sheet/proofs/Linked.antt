@@ -15,4 +15,3 @@ Below = own.Below
 module _ (build : World) (here : Holds build "sheet" table) (below : Below build) where
   pub has_check : HasT (in_world build) true check.code
   has_check = own.linked-sheet::check build here below
-

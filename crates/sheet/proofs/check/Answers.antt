@@ -16,17 +16,17 @@ returns-else-areas_sound c =
     let s = c.args.sheet.now in
     let header = (sound_told s c.check.ensures c.in-Some.is).0 in
     sheet_answered s {right = false} (
-      elim c.else-areas_sound.branch [
-        | else-areas_sound-via-then-areas_sound+then-items_and_settings_sound+else-records_sound w ↦
-            rest_of s header (sym c.areas_sound.ensures ∙ w.if-areas_sound.true) ∙ simp (
-              sym w.items_and_settings_sound.ensures ∙ w.if-items_and_settings_sound.true,
-              sym w.records_sound.ensures ∙ w.if-records_sound.false,
-            )
-        | else-areas_sound-via-then-areas_sound+else-items_and_settings_sound w ↦
-            rest_of s header (sym c.areas_sound.ensures ∙ w.if-areas_sound.true)
-            ∙ simp (sym w.items_and_settings_sound.ensures ∙ w.if-items_and_settings_sound.false)
-        | else-areas_sound-via-else-areas_sound w ↦ simp (header, sym c.areas_sound.ensures ∙ w.if-areas_sound.false)
-      ]
+    elim c.else-areas_sound.branch [
+      | else-areas_sound-via-then-areas_sound+then-items_and_settings_sound+else-records_sound w ↦
+          rest_of s header (sym c.areas_sound.ensures ∙ w.if-areas_sound.true) ∙ simp (
+            sym w.items_and_settings_sound.ensures ∙ w.if-items_and_settings_sound.true,
+            sym w.records_sound.ensures ∙ w.if-records_sound.false,
+          )
+      | else-areas_sound-via-then-areas_sound+else-items_and_settings_sound w ↦
+          rest_of s header (sym c.areas_sound.ensures ∙ w.if-areas_sound.true)
+          ∙ simp (sym w.items_and_settings_sound.ensures ∙ w.if-items_and_settings_sound.false)
+      | else-areas_sound-via-else-areas_sound w ↦ simp (header, sym c.areas_sound.ensures ∙ w.if-areas_sound.false)
+    ]
     )
 
 pub returns-then-records_sound : goal.returns-then-records_sound
