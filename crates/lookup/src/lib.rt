@@ -59,7 +59,7 @@ fn has_place(area: Area, place: u16) -> bool
     area.place <= place && area.first as u32 + (place - area.place) as u32 <= area.last as u32
 }
 
-// The address of a place; 0x10000, which is no address, where no area has the place. No Option: `address_of` of the rules is that number. It is no Option: the rules' definition `address_of` says so.
+// The address of a place; 0x10000, which is no address, where no area has the place. It is no Option: the rules' definition `address_of` says so.
 pub fn address_of(sheet: &[u8], place: u16) -> u32
     ensures { result ≡ address_of (areas sheet.now) place }
 {
