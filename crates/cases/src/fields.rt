@@ -1,8 +1,6 @@
 // The text of the cases: in a line fields of upper-case hexadecimal digits, two for a byte, each field ended by a space.
 ghost use Rattle.std.specs.Prelude.{◌<◌, IfSome};
 
-use std::alloc::{AllocError, Global};
-
 // The value of an upper-case hexadecimal digit.
 fn value_of(digit: u8) -> Option<u8>
     ensures { IfSome result (λ value. value < 16) }
@@ -27,22 +25,19 @@ pub(crate) fn behind(line: &[u8], at: usize) -> &[u8] {
     line.get(at..).unwrap_or(&[])
 }
 
-// The bytes of the field at the front of a line, as far as there is room, and the line behind it.
-pub(crate) fn bytes(
-    alloc: Global,
-    line: &[u8],
-    room: usize,
-) -> Result<(Vec<u8>, &[u8]), AllocError> {
-    let mut taken = Vec::new(alloc);
+// The bytes of the field at the front of a line, laid into a room as far as they fit, and the line behind it.
+pub(crate) fn bytes<'a, 'b>(line: &'a [u8], room: &'b mut [u8]) -> (&'b [u8], &'a [u8]) {
     let mut rest = line;
-    for _ in 0..room {
+    let mut taken = 0;
+    for (at, slot) in room.iter_mut().enumerate() {
         let Some((byte, after)) = first_byte(rest) else {
             break;
         };
-        taken.push(byte)?;
+        *slot = byte;
+        taken = at + 1;
         rest = after;
     }
-    Ok((taken, behind(rest, 1)))
+    (room.get(..taken).unwrap_or(&[]), behind(rest, 1))
 }
 
 // The word of the field at a place; a byte that is missing counts as 0.

@@ -19,15 +19,29 @@ mod results;
 
 use meters::AtHand;
 use std::io;
-use std::io::Read;
+use std::io::{Read, Stdin};
 
 // The bytes of the longest text of cases.
-const ROOM: u64 = 65536;
+const ROOM: usize = 65536;
+
+// Reads until a room is full or the input ends, and hands out what was read. By hand, and not by `read_to_end`: the programs have no heap, as nothing here. The program `list` has the
+// same, which is too little for a crate of its own.
+fn read_front(mut input: Stdin, room: &mut [u8]) -> io::Result<&[u8]> {
+    let mut done = 0;
+    while done < room.len() {
+        let n = input.read(&mut room[done..])?;
+        if n == 0 {
+            break;
+        }
+        done += n;
+    }
+    Ok(room.get(..done).unwrap_or(&[]))
+}
 
 fn main(rt: HostRuntime) -> io::Result<()> {
-    let mut text = Vec::new(rt.alloc());
-    rt.stdin().take(ROOM).read_to_end(&mut text)?;
-    let mut at_hand = AtHand::new(rt.stdout(), rt.alloc());
+    let mut room = [0; ROOM];
+    let text = read_front(rt.stdin(), &mut room)?;
+    let mut at_hand = AtHand::new(rt.stdout());
     for line in text.split_inclusive(|byte| *byte == b'\n') {
         // what is not ended by a line feed is not run
         if let Some(line) = line.strip_suffix(b"\n") {

@@ -1,7 +1,6 @@
 // The meter at hand, and what a line does with it.
 use crate::results::{FILL, Got};
 use crate::{fields, results};
-use std::alloc::Global;
 use std::io;
 use std::io::Stdout;
 
@@ -17,53 +16,54 @@ const FRAME_ROOM: usize = 128;
 // The bytes of the longest text of words to post.
 const POST_ROOM: usize = 64;
 
-// The sheet at hand, and the bank, which is the front of a room.
-// A length beside the room: what is behind the bank stays, since a line B may take it back.
+// The sheet at hand, and the bank, each the front of a room: a length beside each, since nothing here has a heap, and what is behind the bank stays, as a
+// line B may take it back.
 #[derive(Drop)]
 pub(crate) struct AtHand {
     out: Stdout,
-    alloc: Global,
-    sheet: Vec<u8>,
-    room: [u8; BANK_ROOM],
+    sheet_room: [u8; SHEET_ROOM],
+    sheet_size: usize,
+    bank_room: [u8; BANK_ROOM],
     bank_size: usize,
 }
 
 impl AtHand {
-    pub(crate) fn new(out: Stdout, alloc: Global) -> AtHand {
+    pub(crate) fn new(out: Stdout) -> AtHand {
         AtHand {
             out,
-            alloc,
-            sheet: Vec::new(alloc),
-            room: [0; BANK_ROOM],
+            sheet_room: [0; SHEET_ROOM],
+            sheet_size: 0,
+            bank_room: [0; BANK_ROOM],
             bank_size: 0,
         }
     }
 
     // Takes a sheet, and makes a bank of its size fresh.
-    fn start(&mut self, sheet: &[u8]) -> io::Result<()> {
-        self.sheet.clear();
-        self.sheet.extend_from_slice(sheet)?;
+    fn start(&mut self, sheet: &[u8]) {
+        if let Some(front) = self.sheet_room.get_mut(..sheet.len()) {
+            front.copy_from_slice(sheet);
+        }
+        self.sheet_size = sheet.len();
         self.bank_size = 2 * usize::from(rows::bank_words(sheet)) + 2;
-        if let Some(bank) = self.room.get_mut(..self.bank_size) {
+        if let Some(bank) = self.bank_room.get_mut(..self.bank_size) {
             let _ = bank::fresh(sheet, bank);
         }
-        Ok(())
     }
 
-    fn start_made_up(&mut self, line: &[u8]) -> io::Result<()> {
-        let (sheet, _) = fields::bytes(self.alloc, fields::behind(line, 2), SHEET_ROOM)?;
-        self.start(&sheet)
+    fn start_made_up(&mut self, line: &[u8]) {
+        let mut room = [0; SHEET_ROOM];
+        let (sheet, _) = fields::bytes(fields::behind(line, 2), &mut room);
+        self.start(sheet)
     }
 
     // Something done with the meter at hand; nothing, where its bank is longer than the room.
     fn act(&mut self, line: &[u8]) -> io::Result<()> {
-        let Some(bank) = self.room.get_mut(..self.bank_size) else {
+        let Some(bank) = self.bank_room.get_mut(..self.bank_size) else {
             return Ok(());
         };
         let mut meter = Meter {
             out: self.out,
-            alloc: self.alloc,
-            sheet: &self.sheet,
+            sheet: self.sheet_room.get(..self.sheet_size).unwrap_or(&[]),
             bank,
         };
         meter.act(line)
@@ -75,31 +75,34 @@ impl AtHand {
             Some(b'U') => self.start(&makers::ux()),
             Some(b'A') => self.start(&makers::aswe_40()),
             Some(b'S') => self.start_made_up(line),
-            Some(b'B') => {
-                self.bank_size = usize::from(fields::word_at(line, 2));
-                Ok(())
-            }
-            _ => self.act(line),
+            Some(b'B') => self.bank_size = usize::from(fields::word_at(line, 2)),
+            _ => return self.act(line),
         }
+        Ok(())
     }
 }
 
-// A frame with its check behind it; none for a frame that is too long.
-fn sealed(mut frame: Vec<u8>) -> io::Result<Option<Vec<u8>>> {
-    let n = frame.len();
+// The frame in the front of a room with its check behind it; none for a frame that is too long.
+fn sealed(room: &mut [u8; FRAME_ROOM], n: usize) -> Option<&[u8]> {
     if FRAME_ROOM - 2 < n {
-        return Ok(None);
+        return None;
     }
-    frame.extend_from_slice(&[0, 0])?;
-    check_value::seal(&mut frame, n);
-    Ok(Some(frame))
+    check_value::seal(room, n);
+    room.get(..n + 2)
+}
+
+// The frame in the front of a room as it is sent: as it is where it is whole, else with its check.
+fn sent(room: &mut [u8; FRAME_ROOM], n: usize, whole: bool) -> Option<&[u8]> {
+    if whole {
+        return room.get(..n);
+    }
+    sealed(room, n)
 }
 
 // A sheet and its bank.
 #[derive(Drop)]
 struct Meter<'a, 'b> {
     out: Stdout,
-    alloc: Global,
     sheet: &'a [u8],
     bank: &'b mut [u8],
 }
@@ -115,7 +118,10 @@ impl Meter<'_, '_> {
                 self.put(fields::word_at(line, 2), fields::word_at(line, 7));
                 Ok(())
             }
-            Some(b'T') => self.post(line),
+            Some(b'T') => {
+                self.post(line);
+                Ok(())
+            }
             Some(b'Q') => self.ask(line, false),
             Some(b'W') => self.ask(line, true),
             Some(b'H') => self.held(line),
@@ -142,11 +148,11 @@ impl Meter<'_, '_> {
     }
 
     // Posts words from an address upward.
-    fn post(&mut self, line: &[u8]) -> io::Result<()> {
+    fn post(&mut self, line: &[u8]) {
         let address = u32::from(fields::word_at(line, 2));
-        let (words, _) = fields::bytes(self.alloc, fields::behind(line, 7), POST_ROOM)?;
-        let _ = bank::post(self.sheet, self.bank, address, &words);
-        Ok(())
+        let mut room = [0; POST_ROOM];
+        let (words, _) = fields::bytes(fields::behind(line, 7), &mut room);
+        let _ = bank::post(self.sheet, self.bank, address, words);
     }
 
     // None of the sheets here has a record area: the ring has no byte.
@@ -156,11 +162,13 @@ impl Meter<'_, '_> {
 
     // A frame and its reply, where none stands for silence: without their checks where `whole` is false.
     fn ask(&mut self, line: &[u8], whole: bool) -> io::Result<()> {
-        let (frame, behind) = fields::bytes(self.alloc, fields::behind(line, 2), FRAME_ROOM)?;
-        let (reply, name) = fields::bytes(self.alloc, behind, FRAME_ROOM)?;
-        let frame = if whole { Some(frame) } else { sealed(frame)? };
-        match frame {
-            Some(frame) => self.ask_whole(name, &frame, &reply),
+        let mut frame_room = [0; FRAME_ROOM];
+        let (frame, behind) = fields::bytes(fields::behind(line, 2), &mut frame_room);
+        let n = frame.len();
+        let mut reply_room = [0; FRAME_ROOM];
+        let (reply, name) = fields::bytes(behind, &mut reply_room);
+        match sent(&mut frame_room, n, whole) {
+            Some(frame) => self.ask_whole(name, frame, reply),
             None => println!(self.out; "a frame that is too long, WRONG"),
         }
     }
@@ -184,15 +192,17 @@ impl Meter<'_, '_> {
     fn number(&mut self, line: &[u8]) -> io::Result<()> {
         let expected = fields::word_at(line, 2);
         let size = usize::from(fields::word_at(line, 7));
-        let (frame, name) = fields::bytes(self.alloc, fields::behind(line, 12), FRAME_ROOM)?;
-        let Some(frame) = sealed(frame)? else {
+        let mut room = [0; FRAME_ROOM];
+        let (frame, name) = fields::bytes(fields::behind(line, 12), &mut room);
+        let n = frame.len();
+        let Some(frame) = sealed(&mut room, n) else {
             return println!(self.out; "a frame that is too long, WRONG");
         };
-        if FRAME_ROOM < size {
+        let mut buffer = [FILL; FRAME_ROOM];
+        let Some(buffer) = buffer.get_mut(..size) else {
             return println!(self.out; "a buffer that is too long, WRONG");
-        }
-        let mut buffer = vec![in self.alloc; FILL; size]?;
-        self.number_within(name, expected, &frame, &mut buffer)
+        };
+        self.number_within(name, expected, frame, buffer)
     }
 
     // A number that a frame gets; where it is not 0, the bank and the buffer stay as they were. Their check values tell it, with no copy.
