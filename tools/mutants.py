@@ -46,7 +46,7 @@ LINE_FEED = "↵"
 LONGEST_CHECK = 600
 
 # the crates that hold definitions, without their functions, in an order in which they can be checked; the quick tables first
-BARE = "lists refusals words check_value range sheet_rules makers listing bank_rules ring_rules frame controller_rules meter_rules why_rules plain".split()
+BARE = "lists words refusals check_value range sheet_rules makers listing bank_rules ring_rules frame controller_rules meter_rules why_rules plain".split()
 # the statements that are typed in specs/
 STATED = ["plain"]
 # and those of a crate whose theorems are over contracts: its slips are tried in the whole copy
@@ -284,7 +284,7 @@ def bare_proofs(crate, tables_alone):
     texts.pop("Lib", None)
     if tables_alone:
         return {name: texts[name] for name in TABLES.get(crate, []) if name in texts}
-    gone = {name for name in os.listdir(folder) if os.path.isdir(os.path.join(folder, name))}
+    gone = {name for name in os.listdir(folder) if os.path.isdir(os.path.join(folder, name))} | {"Determined", "Linked"}
     while True:
         citing = re.compile(r"Rattle\.%s\.proofs\.(?:%s)\b" % (crate, "|".join(sorted(gone)) or "-"))
         more = {name for name, text in texts.items() if name not in gone and citing.search(text)}
