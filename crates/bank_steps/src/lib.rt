@@ -26,7 +26,8 @@ pub fn check_size(sheet: &[u8], bank: &[u8]) -> Result<(), Refusal>
     Ok(())
 }
 
-// The value of an item: its word, or for a pair both, upper word first.
+// The value of an item: its word, or for a pair both, upper word first. Words are joined and taken apart by hand, here and below, as in `words`. Apart from
+// `value_would_be` of meter, whose words are not all the bank's.
 pub fn value_in(bank: &[u8], item: Item) -> u32
     ensures { result ≡ value_by (word_of bank.now) item }
 {
@@ -60,7 +61,7 @@ pub fn zero_words(bank: &mut [u8], count: u32)
     }
 }
 
-// Rule N7, of posted bytes: there are none, or half a word is left over.
+// Rule N7, of posted bytes: there are none, or half a word is left over. Not `is_empty`: the theorem door_machine has the code of each call, and the kit shows none of std's `is_empty`.
 pub fn empty_or_odd(bytes: &[u8]) -> bool
     ensures { result ≡ empty_or_odd bytes.now }
 {
@@ -77,7 +78,7 @@ fn is_read_only(lies: Option<Lies>) -> bool
     }
 }
 
-// Whether each of so many addresses from a first one on lies in an access 1 area.
+// Whether each of so many addresses from a first one on lies in an access 1 area. Not `all`: the theorem door_machine has the code of each call, and the kit shows none of std's `all`.
 pub fn all_read_only(sheet: &[u8], address: u32, count: usize) -> bool
     ensures { result ≡ all_read_only sheet.now (up_from address count) }
 {

@@ -34,7 +34,7 @@ pub(crate) fn of_answered(answered: Result<Answered, Refusal>) -> u32
     }
 }
 
-// The length of a reply; 0 where there is none.
+// The length of a reply; 0 where there is none, here and below: C gets numbers.
 pub(crate) fn length_of(answered: Result<Answered, Refusal>) -> u32
     ensures { result ≡ length_in answered }
 {

@@ -1,4 +1,4 @@
-// The door as C calls it: each function of `cedarskein` under its own name, with its promises said again. The archive is made of this crate.
+// The door as C calls it: each function of `cedarskein` under its own name, with its promises said again. Twice, since no crate may stand on a static library. The archive is made of this crate.
 #![tactic(auto)]
 
 ghost use Rattle.std.specs.Prelude.{◌≡◌};

@@ -8,7 +8,7 @@ ghost use Rattle.frame.specs.Frame.{passed_frame};
 ghost use Rattle.frame.specs.Reply.{top_bit_set, words_from, read_reply, echo, error_reply, with_check, laid, fill, lay_reply};
 
 // The functions: 03 reads, 05 clears the mark, 06 writes one register, 10 writes several. They stay numbers: `passed_frame` and `top_bit_set` speak of any
-// byte that a frame may have there.
+// byte that a frame may have there; behind step 3 an enum would stand beside that byte and say it twice.
 pub const READS: u8 = 0x03;
 
 pub const CLEARS: u8 = 0x05;

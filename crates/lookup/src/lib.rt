@@ -42,7 +42,7 @@ pub fn lies_at(sheet: &[u8], address: u32) -> Option<Lies>
     None
 }
 
-// The place of what lies somewhere; 0 where nothing lies there.
+// The place of what lies somewhere; 0 where nothing lies there, and no Option: the definition `place_in` is that number. So it is in a `Run`.
 pub fn place_in(lies: Option<Lies>) -> u32
     ensures { result ≡ place_in lies }
 {

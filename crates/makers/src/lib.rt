@@ -10,7 +10,7 @@ mod tables;
 // Where the bound that goes by the bore stands in the AS-WE sheet of bores 50 and 80: the lower byte of the high bound of 0109.
 const BORE: usize = 195;
 
-// The sheet of UX15/25.
+// The sheet of UX15/25. Arrays, here and below: `sheet_of` and the C header have their sizes.
 pub fn ux() -> [u8; 256]
     ensures { result ≡ sheet_of ux }
 {

@@ -125,7 +125,8 @@ impl Write<'_> {
     }
 }
 
-// Stores so many of the words sent, from a first place on. Apart from `store_record` of ring, its like: each promise is of its own stores, `run_store` here.
+// Stores so many of the words sent, from a first place on. Apart from `store_record` of ring, its like: the one body is
+// three lines, and each of the two promises would still need its own proof by its own stores.
 pub(crate) fn store_run(bank: &mut [u8], frame: &[u8], first: u32, count: u32)
     ensures { bank.new ≡ stored bank.old (map (run_store frame.now first) (up_from 0 count)) }
 {

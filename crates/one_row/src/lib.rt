@@ -1,5 +1,6 @@
 // One row by itself, of an area, an item or the record area, wherever it was read: the rules that need no other row, and whether an address
 // lies in an area or is a record's.
+// Tests are one to an `if`: as conditions with `&&` they made the check of a sheet take 13 to 16 in 100 more instructions.
 #![tactic(auto)]
 
 ghost use Rattle.std.specs.Prelude.{◌≡◌, not, cond, ◌&&◌, ◌||◌, leb, eqb};
@@ -124,7 +125,7 @@ fn setting_at(item: Item, place: u16) -> bool
     range::in_range(item.kind, item.low, item.high, 1)
 }
 
-// Whether the address's item is found: before, or here. Rule S63. The flag is handed in and back, as for the rate: `address_found_determined` speaks of it. The place is tested first: it is the one of few items.
+// Whether the address's item is found: before, or here. Rule S63. The flag is handed in and back, as for the rate: the promise is of `before || address_item place item`. The place is tested first: it is the one of few items.
 pub fn address_found(before: bool, item: Item, place: u16) -> bool
     ensures { result ≡ (before || address_item place item) }
 {

@@ -47,7 +47,8 @@ pub enum Side {
     TooHigh,
 }
 
-// The judgement of a value of a kind by its bounds. The low bound is looked at first.
+// The judgement of a value of a kind by its bounds. The low bound is looked at first. Kind and bounds by themselves: `range` lies below the crate that has items,
+// and a struct here would be taken out of an item at each caller.
 #[tactic(auto, unfolding(crate::specs::Range::side_of, crate::specs::Range::below))]
 pub fn side_of(kind: u16, low: u32, high: u32, value: u32) -> Side
     ensures { result ≡ side_of kind low high value }

@@ -64,7 +64,7 @@ impl Ring<'_> {
         if next < self.records.records { next } else { 0 }
     }
 
-    // How many records are stored with the next one: rule T31.
+    // How many records are stored with the next one: rule T31. Not `min`: the theorem door_machine has the code of each call, and the kit shows none of std's `min`.
     fn next_count(self) -> u16
         ensures { result ≡ next_count self.entry.records self.entry.bytes.now }
     {

@@ -6,7 +6,8 @@ ghost use Rattle.ring_rules.specs.Ring.{record_store};
 
 use sheet_rules::RecordArea;
 
-// Stores the words of a record's bytes as the record at a place. Apart from `store_run` of meter, its like: each promise is of its own stores.
+// Stores the words of a record's bytes as the record at a place. Apart from `store_run` of meter, its like: the
+// one body is three lines, and each of the two promises would still need its own proof by its own stores.
 #[tactic(auto, using(lists::proofs::Walks::up_on, lists::proofs::Walks::up_end), unfolding(bank_rules::specs::Stores::stored))]
 pub(crate) fn store_record(records: RecordArea, place: u16, ring: &mut [u8], bytes: &[u8])
     ensures { ring.new ≡ stored ring.old (map (record_store records place bytes.now) (up_from 0 records.words)) }

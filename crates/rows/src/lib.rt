@@ -67,7 +67,7 @@ pub fn clear_address(sheet: &[u8]) -> u16
     word(sheet, 10)
 }
 
-// Header word 11: rule S11.
+// Header word 11: rule S11. A flag beside `record_area`, and no Option of it: the definitions are two, `has_records` and `record_area`.
 pub fn has_records(sheet: &[u8]) -> bool
     ensures { result ≡ has_records sheet.now }
 {
@@ -150,7 +150,8 @@ pub fn area_row(sheet: &[u8], k: u16) -> Area
     }
 }
 
-// The word at which the item row at an index begins, behind so many area rows.
+// The word at which the item row at an index begins, behind so many area rows. Their number is handed in, here and below, and not read of the sheet: a walk reads
+// it once.
 fn item_start(areas: u16, k: u16) -> usize
     ensures { result ≡ item_start areas k }
 {

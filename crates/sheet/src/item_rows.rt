@@ -15,7 +15,8 @@ struct Cover {
     area: u16,
 }
 
-// How many of an area's places are covered by items: all of an access 2 or access 3 area's, and none of another's. Its access is one
+// How many of an area's places are covered by items: all of an access 2 or access 3 area's, and none of another's. Apart from `length_of` of one_row, which
+// tests what is known here. Its access is one
 // of the three, and its first address not above its last.
 fn covered_length(area: Area) -> u32
     requires area_value { access_rule area ≡ true }

@@ -27,7 +27,7 @@ pub struct Area {
     pub access: u16,
 }
 
-// An item row: rule S40.
+// An item row: rule S40. Its kind and an area's access stay numbers: a row may hold any word there, and the rules speak of each.
 #[derive(Clone, Copy)]
 pub struct Item {
     pub kind: u16,

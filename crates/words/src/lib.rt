@@ -10,7 +10,7 @@ ghost use Rattle.words.specs.Words.{byte_at, word_at, with_byte, with_word};
 // From here on the place behind a word wraps. A caller's place is mostly known to be small, and then no test against this is left.
 const TOO_FAR: usize = usize::MAX - 1;
 
-// The byte at a place, or 0 past the end.
+// The byte at a place, or 0 past the end. Not `get`, nor `get_mut` below: the theorem door_machine has the code of each call, and the kit shows none of std's either.
 pub fn byte_at(bytes: &[u8], at: usize) -> u8
     ensures { result ≡ byte_at bytes.now at }
 {
