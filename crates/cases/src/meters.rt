@@ -1,6 +1,8 @@
 // The meter at hand, and what a line does with it.
-use crate::results::{FILL, Got};
+use crate::results::FILL;
 use crate::{fields, results};
+use meter_rules::Answered;
+use refusals::Refusal;
 use std::io;
 use std::io::Stdout;
 
@@ -156,8 +158,8 @@ impl Meter<'_, '_> {
     }
 
     // None of the sheets here has a record area: the ring has no byte.
-    fn answer(&mut self, frame: &[u8], buffer: &mut [u8]) -> Got {
-        results::numbers_of(meter::answer(self.sheet, self.bank, &[], frame, buffer))
+    fn answer(&mut self, frame: &[u8], buffer: &mut [u8]) -> Result<Answered, Refusal> {
+        meter::answer(self.sheet, self.bank, &[], frame, buffer)
     }
 
     // A frame and its reply, where none stands for silence: without their checks where `whole` is false.
@@ -177,15 +179,16 @@ impl Meter<'_, '_> {
     fn ask_whole(&mut self, name: &[u8], frame: &[u8], reply: &[u8]) -> io::Result<()> {
         let rate = self.word_at(rows::rate_place(self.sheet));
         let bank_before = check_value::value_of(self.bank);
-        let mut buffer = [FILL; 100];
-        let got = self.answer(frame, &mut buffer);
+        let mut buffer = [FILL; frame::LEAST_BUFFER];
+        let answered = self.answer(frame, &mut buffer);
         let good = if reply.is_empty() {
             let bank_kept = check_value::value_of(self.bank) == bank_before;
-            got.is_silence(&buffer, bank_kept)
+            results::is_silence(answered, &buffer, bank_kept)
         } else {
-            got.is_reply(&buffer, reply, rate)
+            results::is_reply(answered, &buffer, reply, rate)
         };
-        results::compare_replies(self.out, name, reply, got.reply(&buffer), good)
+        let got = results::reply(answered, &buffer);
+        results::compare_replies(self.out, name, reply, got, good)
     }
 
     // The number that a frame gets, with an answer buffer of a given size.
@@ -215,8 +218,8 @@ impl Meter<'_, '_> {
     ) -> io::Result<()> {
         let bank_before = check_value::value_of(self.bank);
         let buffer_before = check_value::value_of(buffer);
-        let got = self.answer(frame, buffer);
-        results::compare(self.out, name, expected, got.number)?;
+        let got = results::number(self.answer(frame, buffer));
+        results::compare(self.out, name, expected, got)?;
         if expected != 0 && check_value::value_of(self.bank) != bank_before {
             println!(self.out; "  the bank changed, WRONG")?;
         }

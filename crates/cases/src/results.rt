@@ -7,37 +7,21 @@ use std::io::Stdout;
 // What every byte of an answer buffer holds before the call.
 pub(crate) const FILL: u8 = 0xAA;
 
-// What a call handed back: 01's number, and the length and the rate of a reply.
-#[derive(Clone, Copy)]
-pub(crate) struct Got {
-    pub number: u16,
-    pub length: usize,
-    pub rate: u16,
+// 01's number for what a call handed back.
+pub(crate) fn number(answered: Result<Answered, Refusal>) -> u16 {
+    match answered {
+        Ok(Answered::Silence) => 1,
+        Ok(_) => 0,
+        Err(refusal) => u32::from(refusal) as u16,
+    }
 }
 
-// What a call handed back, in numbers.
-pub(crate) fn numbers_of(answered: Result<Answered, Refusal>) -> Got {
+// The length and the rate of a reply, which an error is too; none of a silence or a refusal.
+fn length_and_rate(answered: Result<Answered, Refusal>) -> Option<(usize, u16)> {
     match answered {
-        Ok(Answered::Reply { length, rate }) => Got {
-            number: 0,
-            length: length as usize,
-            rate: rate,
-        },
-        Ok(Answered::Error { code: _, rate }) => Got {
-            number: 0,
-            length: frame::ERROR_LENGTH as usize,
-            rate: rate,
-        },
-        Ok(Answered::Silence) => Got {
-            number: 1,
-            length: 0,
-            rate: 0,
-        },
-        Err(refusal) => Got {
-            number: u32::from(refusal) as u16,
-            length: 0,
-            rate: 0,
-        },
+        Ok(Answered::Reply { length, rate }) => Some((length as usize, rate)),
+        Ok(Answered::Error { code: _, rate }) => Some((frame::ERROR_LENGTH as usize, rate)),
+        Ok(Answered::Silence) | Err(_) => None,
     }
 }
 
@@ -53,28 +37,40 @@ fn untouched(part: &[u8]) -> bool {
     part.iter().all(|byte| *byte == FILL)
 }
 
-impl Got {
-    // The reply in the front of a buffer, without its check.
-    pub(crate) fn reply(self, buffer: &[u8]) -> &[u8] {
-        without_check(buffer.get(..self.length).unwrap_or(&[]))
-    }
+// The reply in the front of a buffer, without its check; empty where there is none.
+pub(crate) fn reply(answered: Result<Answered, Refusal>, buffer: &[u8]) -> &[u8] {
+    let Some((length, _)) = length_and_rate(answered) else {
+        return &[];
+    };
+    without_check(buffer.get(..length).unwrap_or(&[]))
+}
 
-    // Whether a reply is the expected one: its number, its rate, its bytes, its check, and the buffer behind it.
-    pub(crate) fn is_reply(self, buffer: &[u8], expected: &[u8], rate: u16) -> bool {
-        let Some((reply, behind)) = buffer.split_at_checked(self.length) else {
-            return false;
-        };
-        self.number == 0
-            && self.rate == rate
-            && without_check(reply) == expected
-            && check_value::passes(reply)
-            && untouched(behind)
-    }
+// Whether a reply is the expected one: its rate, its bytes, its check, and the buffer behind it.
+pub(crate) fn is_reply(
+    answered: Result<Answered, Refusal>,
+    buffer: &[u8],
+    expected: &[u8],
+    expected_rate: u16,
+) -> bool {
+    let Some((length, rate)) = length_and_rate(answered) else {
+        return false;
+    };
+    let Some((reply, behind)) = buffer.split_at_checked(length) else {
+        return false;
+    };
+    rate == expected_rate
+        && without_check(reply) == expected
+        && check_value::passes(reply)
+        && untouched(behind)
+}
 
-    // Whether a silence is one: its number, and a buffer and a bank as before.
-    pub(crate) fn is_silence(self, buffer: &[u8], bank_kept: bool) -> bool {
-        self.number == 1 && bank_kept && untouched(buffer)
-    }
+// Whether a silence is one: its answer, and a buffer and a bank as before.
+pub(crate) fn is_silence(
+    answered: Result<Answered, Refusal>,
+    buffer: &[u8],
+    bank_kept: bool,
+) -> bool {
+    matches!(answered, Ok(Answered::Silence)) && bank_kept && untouched(buffer)
 }
 
 // The bytes of a reply without its check, or that there is none.
@@ -92,7 +88,7 @@ fn verdict(good: bool) -> &'static str {
     if good { "ok" } else { "WRONG" }
 }
 
-// Two words, compared.
+// Two words, compared. The program vectors has its like: two programs, and too little for a crate of its own.
 pub(crate) fn compare(out: Stdout, name: &[u8], expected: u16, got: u16) -> io::Result<()> {
     let verdict = verdict(expected == got);
     out.write_all(name)?;

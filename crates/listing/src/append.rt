@@ -12,9 +12,9 @@ fn digit(n: u32) -> u8
 {
     let low = (n % 16) as u8;
     if low < 10 {
-        return 0x30 + low;
+        return b'0' + low;
     }
-    0x41 + low - 10
+    b'A' + (low - 10)
 }
 
 impl Line {

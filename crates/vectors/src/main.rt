@@ -23,6 +23,7 @@ const FRAMES: [(&str, &[u8]); 7] = [
     ("002, 6.4 reply", b"\x01\x10\x00\x04\x00\x06\x01\xCA"),
 ];
 
+// Two words, compared. The program cases has its like: two programs, and too little for a crate of its own.
 fn compare(out: Stdout, what: &str, expected: u16, got: u16) -> io::Result<()> {
     let verdict = if expected == got { "ok" } else { "WRONG" };
     println!(out; "{what}: expected {expected:04X}, got {got:04X}, {verdict}")
