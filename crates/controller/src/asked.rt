@@ -66,6 +66,7 @@ fn wants(function: u8, address: u32, second: usize, addresses: usize, words: usi
 pub(crate) fn outside(n: usize, most: usize) -> bool
     ensures { result ≡ not (between 1 most n) }
 {
+    // Not `contains`: the theorem door_machine has the code of each call, and the kit shows none of std's `contains`.
     n < 1 || most < n
 }
 

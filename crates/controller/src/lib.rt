@@ -25,6 +25,7 @@ fn copy(from: &[u8], first: usize, to: &mut [u8], at: usize, many: usize)
     requires many_in_bounds_2 { at + many ≤ length to.old }
     ensures { to.new ≡ laid (take at to.old ++ take many (drop first from.now)) to.old }
 {
+    // Not `copy_from_slice`: the theorem door_machine has the code of each call, and the kit shows none of std's `copy_from_slice`.
     for k in 0..many {
         to[at + k] = from[first + k];
     }

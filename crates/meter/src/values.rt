@@ -49,6 +49,7 @@ impl Write<'_> {
     fn in_run(self, place: u32) -> bool
         ensures { result ≡ in_run self.entry.first self.entry.many place }
     {
+        // Not `contains`: the theorem door_machine has the code of each call, and the kit shows none of std's `contains`.
         self.first <= place && place - self.first < self.many
     }
 

@@ -36,6 +36,7 @@ pub fn length_of(area: Area) -> u32
 fn known_access(area: Area, version: u16) -> bool
     ensures { result ≡ (access_rule area && write_only_rule version area) }
 {
+    // Not a `match`: with it, the check of a sheet took 13 more instructions.
     if area.access == 1 {
         return true;
     }
