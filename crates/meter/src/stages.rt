@@ -40,19 +40,13 @@ fn function_allowed(sheet: &[u8], function: u8) -> bool
     ensures { result ≡ code_allowed sheet.now function }
 {
     let sum = rows::functions(sheet);
-    if function == frame::READS {
-        return sum / BIT_OF_03 % 2 == 1;
+    match function {
+        frame::READS => sum / BIT_OF_03 % 2 == 1,
+        frame::CLEARS => sum / BIT_OF_05 % 2 == 1,
+        frame::WRITES_ONE => sum / BIT_OF_06 % 2 == 1,
+        frame::WRITES_MANY => sum / BIT_OF_10 % 2 == 1,
+        _ => false,
     }
-    if function == frame::CLEARS {
-        return sum / BIT_OF_05 % 2 == 1;
-    }
-    if function == frame::WRITES_ONE {
-        return sum / BIT_OF_06 % 2 == 1;
-    }
-    if function == frame::WRITES_MANY {
-        return sum / BIT_OF_10 % 2 == 1;
-    }
-    false
 }
 
 // Steps 1 to 3: a frame that does not pass, or is for another station, gets silence; a function that is not allowed, error 01.
@@ -106,25 +100,25 @@ impl Asked<'_> {
     fn judged_count(&self) -> Judged
         ensures { result ≡ judged_from 4 (given_to self.now) self.now.frame.now }
     {
-        if self.parts.function == frame::READS {
-            if self.parts.second == 0 {
-                return Judged::WrongCount;
+        match self.parts.function {
+            frame::READS => {
+                if self.parts.second == 0 {
+                    return Judged::WrongCount;
+                }
+                self.judged_read()
             }
-            return self.judged_read();
+            frame::CLEARS => self.judged_clear(),
+            frame::WRITES_ONE => self.judged_write(),
+            _ => {
+                if self.parts.second == 0 {
+                    return Judged::WrongCount;
+                }
+                if self.parts.bytes as u32 != 2 * (self.parts.second as u32) {
+                    return Judged::WrongCount;
+                }
+                self.judged_write()
+            }
         }
-        if self.parts.function == frame::CLEARS {
-            return self.judged_clear();
-        }
-        if self.parts.function == frame::WRITES_ONE {
-            return self.judged_write();
-        }
-        if self.parts.second == 0 {
-            return Judged::WrongCount;
-        }
-        if self.parts.bytes as u32 != 2 * (self.parts.second as u32) {
-            return Judged::WrongCount;
-        }
-        self.judged_write()
     }
 
     // Steps 5 and 6 for a read of registers: at most 47, and every address in an area. A record lies in no area: so whether it is one of records is
@@ -133,27 +127,21 @@ impl Asked<'_> {
         requires { AsksRead self.now.parts }
         ensures { result ≡ judged_from 4 (given_to self.now) self.now.frame.now }
     {
-        if frame::MOST_READ < self.parts.second {
-            return judged_shut(
-                self.sheet.bytes,
-                self.ring,
-                self.parts.start,
-                self.parts.second,
-            );
+        if self.parts.second <= frame::MOST_READ {
+            let run = lookup::reached(self.sheet.bytes, Purpose::Read, self.parts.start as u32);
+            if self.parts.start as u32 + self.parts.second as u32 <= run.end {
+                return Judged::GoodRead {
+                    first: run.place,
+                    many: self.parts.second as u32,
+                };
+            }
         }
-        let run = lookup::reached(self.sheet.bytes, Purpose::Read, self.parts.start as u32);
-        if run.end < self.parts.start as u32 + self.parts.second as u32 {
-            return judged_shut(
-                self.sheet.bytes,
-                self.ring,
-                self.parts.start,
-                self.parts.second,
-            );
-        }
-        Judged::GoodRead {
-            first: run.place,
-            many: self.parts.second as u32,
-        }
+        judged_shut(
+            self.sheet.bytes,
+            self.ring,
+            self.parts.start,
+            self.parts.second,
+        )
     }
 
     // Steps 6 and 7 for a clear: at the clear address, with the value 0.

@@ -29,20 +29,21 @@ fn unpassed(frame: &[u8]) -> Reason
 fn wrongly_addressed(sheet: &[u8], frame: &[u8]) -> Reason
     ensures { result ≡ wrongly_addressed sheet.now frame.now }
 {
-    let function = words::byte_at(frame, 1);
     let start = words::word_at(frame, 2) as u32;
-    if function == frame::CLEARS {
-        return Reason::Address { address: start };
+    match words::byte_at(frame, 1) {
+        frame::CLEARS => Reason::Address { address: start },
+        frame::READS => {
+            if frame::MOST_READ < words::word_at(frame, 4) {
+                return Reason::Count;
+            }
+            let run = lookup::reached(sheet, Purpose::Read, start);
+            Reason::Address { address: run.end }
+        }
+        _ => {
+            let run = lookup::reached(sheet, Purpose::Write, start);
+            Reason::Address { address: run.end }
+        }
     }
-    if function != frame::READS {
-        let run = lookup::reached(sheet, Purpose::Write, start);
-        return Reason::Address { address: run.end };
-    }
-    if frame::MOST_READ < words::word_at(frame, 4) {
-        return Reason::Count;
-    }
-    let run = lookup::reached(sheet, Purpose::Read, start);
-    Reason::Address { address: run.end }
 }
 
 // The reason by where a frame stops. The place of an item is a word of the sheet, so nothing is lost of it.
@@ -67,6 +68,7 @@ fn reason_by(judged: Judged, sheet: &[u8], frame: &[u8]) -> Option<Reason>
 }
 
 // Why a frame gets silence or an error, with nothing done: the refusals 2, 3, 4 and 8 in this order, then the reason.
+// Four slices and no struct: C lends them so.
 pub fn why(sheet: &[u8], bank: &[u8], ring: &[u8], frame: &[u8]) -> Result<Option<Reason>, Refusal>
     ensures { result ≡ explanation (lent_with sheet.now bank.now ring.now) frame.now }
 {

@@ -11,27 +11,22 @@ use Rattle.frame.specs.Frame.{most_read}
 use Rattle.meter_rules.proofs.Records.{open_outside}
 use Rattle.meter.proofs.Staging.{read_of_parts, good_read_of_parts, read_counted, shut_of_parts}
 use Rattle.meter.proofs.asked.Asked.judged_read.Goals as goal
+use Rattle.meter.proofs.asked.Asked.judged_read.Goals.{then-self-le-MOST_READ+else-self-run, else-self-le-MOST_READ}
 
-pub returns-then-self-gt-MOST_READ : goal.returns-then-self-gt-MOST_READ
-returns-then-self-gt-MOST_READ c =
-    let a = c.args.self.now in
-    let given = given_to a in
-    let asked = c.requires in
-    c.judged_shut.ensures
-    ∙ shut_of_parts a.frame.now a.known.apart asked.asks given asked.some (simp (lt-ltb most_read a.parts.second c.if-self-gt-MOST_READ.true))
-
-pub returns-then-run-self : goal.returns-then-run-self
-returns-then-run-self c =
+pub returns-then-self-run : goal.returns-then-self-run
+returns-then-self-run c =
     let a = c.args.self.now in
     let given = given_to a in
     let known = a.known in
     let asked = c.requires in
-    c.judged_shut-then-run-self.ensures
-    ∙ shut_of_parts a.frame.now known.apart asked.asks given asked.some
-    (simp (
-      le-ltb most_read a.parts.second c.if-self-gt-MOST_READ.false,
-      run_shut a.sheet.bytes.now known.sheet_sound Read a.parts.start c.reached-run.ensures a.parts.second c.if-run-self.true,
-    ))
+    let all = run_open a.sheet.bytes.now known.sheet_sound Read a.parts.start c.reached-run.ensures a.parts.second c.if-self-run.true in
+    let outside =
+    ap (λ (p : Parts). in_records p.start (record_area a.sheet.bytes.now)) (sym known.apart)
+    ∙ open_outside a.sheet.bytes.now a.parts.start a.parts.second known.sheet_sound (omega (arith, asked.some)) all in
+    good_read_of_parts a.frame.now known.apart asked.asks given outside (ap (λ (r : Run). r.place) c.reached-run.ensures)
+    (read_of_parts a.frame.now known.apart asked.asks given outside
+    ∙ simp (le-ltb most_read a.parts.second c.if-self-le-MOST_READ.true, all))
+    ∙ read_counted given a.frame.now known.apart asked.asks asked.some outside
 
 pub returns : goal.returns
 returns c =
@@ -39,11 +34,12 @@ returns c =
     let given = given_to a in
     let known = a.known in
     let asked = c.requires in
-    let all = run_open a.sheet.bytes.now known.sheet_sound Read a.parts.start c.reached-run.ensures a.parts.second c.if-run-self.false in
-    let outside =
-    ap (λ (p : Parts). in_records p.start (record_area a.sheet.bytes.now)) (sym known.apart)
-    ∙ open_outside a.sheet.bytes.now a.parts.start a.parts.second known.sheet_sound (omega (arith, asked.some)) all in
-    good_read_of_parts a.frame.now known.apart asked.asks given outside (ap (λ (r : Run). r.place) c.reached-run.ensures)
-    (read_of_parts a.frame.now known.apart asked.asks given outside
-    ∙ simp (le-ltb most_read a.parts.second c.if-self-gt-MOST_READ.false, all))
-    ∙ read_counted given a.frame.now known.apart asked.asks asked.some outside
+    c.judged_shut.ensures
+    ∙ shut_of_parts a.frame.now known.apart asked.asks given asked.some
+    (elim c.if-self-le-MOST_READ.branch [
+      | then-self-le-MOST_READ+else-self-run w ↦ simp (
+        le-ltb most_read a.parts.second w.if-self-le-MOST_READ.true,
+        run_shut a.sheet.bytes.now known.sheet_sound Read a.parts.start w.reached-run.ensures a.parts.second w.if-self-run.false,
+      )
+      | else-self-le-MOST_READ w ↦ simp (lt-ltb most_read a.parts.second w.if-self-le-MOST_READ.false)
+    ])
