@@ -1,14 +1,18 @@
 // The listing program: a sheet on standard input, its listing on standard output.
 #![tactic(auto)]
 
+ghost use Rattle.std.specs.Prelude.{◌≤◌, length, IfOk};
+
 use std::io;
 use std::io::{Read, Stdin};
 
 // One byte more than the longest sheet, so that a sheet with a byte too many is seen.
 const ROOM: usize = 863;
 
-// Reads until a room is full or the input ends, and hands out what was read. By hand, and not by `read_to_end`: the programs have no heap, as nothing here.
-fn read_front(mut input: Stdin, room: &mut [u8]) -> io::Result<&[u8]> {
+// Reads until a room is full or the input ends, and hands out what was read, no more than there is room for. By hand, and not by `read_to_end`: the programs have no heap, as nothing here.
+fn read_front(mut input: Stdin, room: &mut [u8]) -> io::Result<&[u8]>
+    ensures { IfOk result (λ front. length front.now ≤ length room.old) }
+{
     let mut done = 0;
     while done < room.len() {
         let n = input.read(&mut room[done..])?;
@@ -17,7 +21,7 @@ fn read_front(mut input: Stdin, room: &mut [u8]) -> io::Result<&[u8]> {
         }
         done += n;
     }
-    Ok(room.get(..done).unwrap_or(&[]))
+    Ok(&room[..done])
 }
 
 fn main(rt: HostRuntime) -> io::Result<()> {
