@@ -106,7 +106,9 @@ impl Write<'_> {
     {
         let areas = rows::area_count(sheet.bytes);
         let end = self.first + self.many;
-        for k in first_near(sheet, self.first)..rows::item_count(sheet.bytes) {
+        // Not a `for`: by the number of items the reader's test would come on top of the walk's (docs/DECISIONS.md, "Readers of rows stand once"); the three such walks took 283 bytes more.
+        let mut k = first_near(sheet, self.first);
+        while rows::item_end(areas, k) <= sheet.bytes.len() {
             let item = rows::item_row(sheet.bytes, areas, k);
             if end <= item.place as u32 {
                 return None;
@@ -118,6 +120,7 @@ impl Write<'_> {
                     side,
                 });
             }
+            k += 1;
         }
         None
     }

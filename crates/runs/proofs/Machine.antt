@@ -192,7 +192,7 @@ module _ (more : World) where
       & rows.has_address_place build rows_here rows_below
       & rows.has_area_count build rows_here rows_below
       & rows.has_bank_words build rows_here rows_below
-      & rows.has_item_count build rows_here rows_below
+      & rows.has_item_end build rows_here rows_below
       & rows.has_item_row build rows_here rows_below
       & rows.has_rate_place build rows_here rows_below
       & words.has_store_word build words_here words_below
@@ -262,6 +262,7 @@ module _ (more : World) where
       & rows.has_functions build rows_here rows_below
       & rows.has_has_records build rows_here rows_below
       & rows.has_item_count build rows_here rows_below
+      & rows.has_item_end build rows_here rows_below
       & rows.has_item_place build rows_here rows_below
       & rows.has_item_row build rows_here rows_below
       & rows.has_rate_place build rows_here rows_below
