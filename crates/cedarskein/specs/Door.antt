@@ -1,7 +1,7 @@
 -- What the firmware is handed: the numbers of sections N, Y and Q of the rules, and the lent buffers as they are afterwards. Assumes nothing.
 use Rattle.std.specs.Prelude.{ℕ, List, Result, Ok, Err}
 use Rattle.refusals.specs.declared.Refusal.{Refusal}
-use Rattle.refusals.specs.Answers.{refusal_number, answer_number}
+use Rattle.refusals.specs.Answers.{refusal_number, answer_number, call_done}
 use Rattle.bank_rules.specs.Calls.{BankOutcome}
 use Rattle.ring_rules.specs.Calls.{RingOutcome}
 use Rattle.meter_rules.specs.Answer.{Outcome, answered_number, length_in, rate_in}
@@ -11,7 +11,7 @@ use Rattle.why_rules.specs.Reasons.{explained_number, reason_in, address_in, sid
 
 -- rule N0: the number of an answer of which nothing but the refusal has a number
 abbrev pub number_in : {T : Type 0} → Result T Refusal → ℕ
-number_in (Ok value) = 0
+number_in (Ok value) = answer_number call_done
 number_in (Err refusal) = refusal_number refusal
 
 -- rule N53: the number of a call on a bank, and the bank afterwards
