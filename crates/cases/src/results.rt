@@ -1,8 +1,8 @@
 // What is expected of a case, what was got, and whether they agree.
 use meter_rules::Answered;
 use refusals::Refusal;
-use std::io;
 use std::io::Stdout;
+use std::{fmt, io};
 
 // What every byte of an answer buffer holds before the call.
 pub(crate) const FILL: u8 = 0xAA;
@@ -73,15 +73,22 @@ pub(crate) fn is_silence(
     matches!(answered, Ok(Answered::Silence)) && bank_kept && untouched(buffer)
 }
 
-// The bytes of a reply without its check, or that there is none.
-fn say_reply(out: Stdout, bytes: &[u8]) -> io::Result<()> {
-    if bytes.is_empty() {
-        return print!(out; " silence");
+// A reply without its check as it is printed: its bytes, or that there is none. It is printed at once: a print for each byte costs more than the byte.
+#[derive(Clone, Copy)]
+struct Shown<'a> {
+    bytes: &'a [u8],
+}
+
+impl fmt::Display for Shown<'_> {
+    fn fmt<W: fmt::Write>(&self, f: &mut fmt::Formatter<W>) -> fmt::Result {
+        if self.bytes.is_empty() {
+            return write!(f, " silence");
+        }
+        for byte in self.bytes {
+            write!(f, " {byte:02X}")?;
+        }
+        Ok(())
     }
-    for byte in bytes {
-        print!(out; " {byte:02X}")?;
-    }
-    Ok(())
 }
 
 fn verdict(good: bool) -> &'static str {
@@ -104,10 +111,8 @@ pub(crate) fn compare_replies(
     good: bool,
 ) -> io::Result<()> {
     let verdict = verdict(good);
+    let expected = Shown { bytes: expected };
+    let got = Shown { bytes: got };
     out.write_all(name)?;
-    print!(out; ": expected")?;
-    say_reply(out, expected)?;
-    print!(out; ", got")?;
-    say_reply(out, got)?;
-    println!(out; ", {verdict}")
+    println!(out; ": expected{expected}, got{got}, {verdict}")
 }

@@ -7,8 +7,8 @@
 
 ghost use Rattle.std.specs.Prelude.{◌<◌};
 
-use std::io;
 use std::io::{Read, Stdout};
+use std::{fmt, io};
 
 // The bytes of a sheet's header, of an area row and of an item row.
 const HEADER: usize = 24;
@@ -17,13 +17,19 @@ const AREA_ROW: usize = 8;
 
 const ITEM_ROW: usize = 12;
 
-// A row as C has it: each byte behind a space, and a comma behind it.
-fn say_row(out: Stdout, row: &[u8]) -> io::Result<()> {
-    print!(out; "   ")?;
-    for byte in row {
-        print!(out; " 0x{byte:02X},")?;
+// A row as C has it: each byte behind a space, and a comma behind it. It is printed at once: a print for each byte costs more than the byte.
+#[derive(Clone, Copy)]
+struct Row<'a> {
+    bytes: &'a [u8],
+}
+
+impl fmt::Display for Row<'_> {
+    fn fmt<W: fmt::Write>(&self, f: &mut fmt::Formatter<W>) -> fmt::Result {
+        for byte in self.bytes {
+            write!(f, " 0x{byte:02X},")?;
+        }
+        Ok(())
     }
-    println!(out;)
 }
 
 // A line for each row of so many bytes.
@@ -31,7 +37,8 @@ fn say_rows(out: Stdout, rows: &[u8], width: usize) -> io::Result<()>
     requires { 0 < width }
 {
     for row in rows.chunks(width) {
-        say_row(out, row)?;
+        let row = Row { bytes: row };
+        println!(out; "   {row}")?;
     }
     Ok(())
 }
