@@ -1,4 +1,4 @@
--- The text of a number by its sign and its size. Assumes nothing.
+-- The text of a number by its sign and its size, and a number of 64 bits as the machine has it. Assumes nothing.
 use Prim.Native.Char.{code}
 use Prim.Native.Nat.{ℕ, zero, suc, ◌-◌, ◌^◌, ◌<◌}
 use mathlib.Core.Path.{◌≡◌, refl}
@@ -8,9 +8,27 @@ use native.Mathlib.Omega.{arith}
 use lib.Dec.{ltb}
 use lib.IntN.{ℤ, pos, negsuc, nat_abs}
 use lib.Signed.{lt_z}
+use mir.Syntax.{w64}
+use mir.Val.{SFits, of_z, to_z}
+use mir.ValLaws.{to_z-of_z}
 use borrow.Author.Tests.{ltb-true}
 use Rattle.range.specs.Range.{number_of}
 use Rattle.listing.specs.Text.{decimal, signed_decimal}
+
+-- a number, written to its bits and read back
+abbrev pub read_back : ℤ → ℤ
+read_back z = to_z w64 (of_z w64 z)
+
+small_fits : (z : ℤ) → nat_abs z < 2 ^ 32 → SFits w64 z
+small_fits (pos n) small = record { sfits = omega arith }
+small_fits (negsuc n) small = record { sfits = omega arith }
+
+pub read_back_lem : (z : ℤ) → nat_abs z < 2 ^ 32 → read_back z ≡ z
+read_back_lem z small = to_z-of_z w64 z (small_fits z small)
+
+pub from_zero_lem : (z : ℤ) → lt_z z (pos 0) ≡ false → z ≡ pos (nat_abs z)
+from_zero_lem (pos n) e = refl
+from_zero_lem (negsuc n) e = cc
 
 pub text_below_zero : (z : ℤ) → lt_z z (pos 0) ≡ true → signed_decimal z ≡ code "-" ∷ decimal (nat_abs z)
 unfolding signed_decimal
