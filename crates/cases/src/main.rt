@@ -24,8 +24,8 @@ use std::io::{Read, Stdin};
 // The bytes of the longest text of cases.
 const ROOM: usize = 65536;
 
-// Reads until a room is full or the input ends, and hands out what was read. By hand, and not by `read_to_end`: the programs have no heap, as nothing here. The program `list` has the
-// same, which is too little for a crate of its own.
+// Reads until a room is full or the input ends, and hands out what was read. By hand, and not by `read_to_end`: the programs have no heap, as nothing here. The program `list` has its
+// like, with a promise; it is too little for a crate of its own.
 fn read_front(mut input: Stdin, room: &mut [u8]) -> io::Result<&[u8]> {
     let mut done = 0;
     while done < room.len() {
